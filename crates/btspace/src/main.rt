@@ -4,8 +4,8 @@
 //!
 //! `local` and `show` are those of `one_space`. What `run` writes is a result line for each operation, in their order:
 //! that of the answer which the operation's client accepted to this call of its, in a trace of the cluster that is
-//! linearizable unless two texts have one digest. At a fault it writes nothing, unless the writer failed. The status of
-//! words that are no request follows from why they are none.
+//! linearizable unless two different texts of it have one digest. At a fault it writes nothing, unless the writer failed.
+//! The status of words that are no request follows from why they are none.
 //!
 //! That a faulty party is refused before the script is read, and what is shown while it runs, is tested.
 #![tactic(auto)]

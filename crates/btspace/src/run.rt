@@ -67,7 +67,9 @@ impl From<ClusterFault> for RunFault {
             | ClusterFault::NoRoom
             | ClusterFault::Call(_)
             | ClusterFault::TooManyStopped
-            | ClusterFault::NotInJournal => RunFault::Stopped(fault),
+            | ClusterFault::NotInJournal
+            | ClusterFault::NoThread
+            | ClusterFault::NoAnswer => RunFault::Stopped(fault),
         }
     }
 }

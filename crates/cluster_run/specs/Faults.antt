@@ -1,6 +1,6 @@
 -- Faults of a run that began, for which what it was given is no reason.
 use Rattle.cluster_run.specs.declared.fault.RunFault.{RunFault}
-use Rattle.cluster_run.specs.declared.fault.RunFault.TheVariants.{BadConfig, NoClient, NoRoom, Call, TooManyStopped, NotInJournal, NoMemory}
+use Rattle.cluster_run.specs.declared.fault.RunFault.TheVariants.{BadConfig, NoClient, NoRoom, Call, TooManyStopped, NotInJournal, NoThread, NoAnswer, NoMemory}
 
 abbrev pub IsLate : RunFault → Type 0
 IsLate BadConfig = ⊥
@@ -9,4 +9,6 @@ IsLate NoRoom = ⊥
 IsLate (Call fault) = Unit {0}
 IsLate TooManyStopped = Unit {0}
 IsLate NotInJournal = Unit {0}
+IsLate NoThread = Unit {0}
+IsLate NoAnswer = Unit {0}
 IsLate NoMemory = Unit {0}

@@ -10,7 +10,7 @@ use Rattle.tuple_codec.specs.declared.operations.Op.{Op}
 use Rattle.protocol.specs.System.Configuration.{Configuration}
 use Rattle.protocol.specs.System.Trace.{Entry}
 use Rattle.protocol.specs.Client.RightClient.{last_call}
-use Rattle.space_node.specs.Runs.{HasClients}
+use Rattle.space_node.specs.Runs.{HasHistories}
 use Rattle.space_node.specs.Seats.{Seated, new_seat}
 use Rattle.cluster_run.specs.Answers.{IsAnswered, IsProper}
 
@@ -72,4 +72,4 @@ HandsAreCalled hands clients answers =
 pub record HasTrace (c : Configuration) (clients : List Seated) : Type 0 where
   pub trace : List Entry
   pub proper : IsProper c trace
-  pub clients_are : HasClients trace clients
+  pub clients_are : HasHistories trace clients

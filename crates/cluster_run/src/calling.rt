@@ -122,7 +122,7 @@ fn start_client<N: Naming + Send + Sync + 'static, R: Threads + Wait + Copy + Se
             callers.threads.push_reserved(thread);
             Ok(())
         }
-        Err(_refused) => Err(LateFault::NoMemory),
+        Err(_refused) => Err(LateFault::NoThread),
     }
 }
 

@@ -39,7 +39,7 @@ fn empty_hands(alloc: Global, count: usize) -> Result<Vec<Vec<Op<Global>>>, NoMe
 ///
 /// # Errors
 ///
-/// NoMemory, also where a client has fewer answers than operations.
+/// NoAnswer where a client has fewer answers than operations, and NoMemory.
 pub(crate) fn gather(
     alloc: Global,
     clients: usize,
@@ -51,7 +51,9 @@ pub(crate) fn gather(
 {
     let mut answers = Vec::with_capacity(alloc, count)?;
     for i in 0..count {
-        answers.push(take_answer(&mut hands, i % clients, i / clients).ok_or(NoMemory)?)?;
+        answers.push(take_answer(&mut hands, i % clients, i / clients).ok_or(
+            LateFault::NoAnswer,
+        )?)?;
     }
     Ok(answers)
 }

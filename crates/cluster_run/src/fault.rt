@@ -26,6 +26,12 @@ pub enum RunFault {
     /// The journal has another history of a party than the party itself.
     #[error("the journal differs from the history of a party")]
     NotInJournal,
+    /// No thread could be started.
+    #[error("no thread could be started")]
+    NoThread,
+    /// A client gave back fewer answers than it had operations. No contract excludes it.
+    #[error("an operation has no answer")]
+    NoAnswer,
     #[error("out of memory")]
     NoMemory,
 }
@@ -37,6 +43,8 @@ pub(crate) enum LateFault {
     Call(CallFault),
     TooManyStopped,
     NotInJournal,
+    NoThread,
+    NoAnswer,
     NoMemory,
 }
 
@@ -51,6 +59,8 @@ impl From<LateFault> for RunFault {
             LateFault::Call(fault) => RunFault::Call(fault),
             LateFault::TooManyStopped => RunFault::TooManyStopped,
             LateFault::NotInJournal => RunFault::NotInJournal,
+            LateFault::NoThread => RunFault::NoThread,
+            LateFault::NoAnswer => RunFault::NoAnswer,
             LateFault::NoMemory => RunFault::NoMemory,
         }
     }

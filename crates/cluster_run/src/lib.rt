@@ -5,8 +5,9 @@
 //!
 //! At Ok `run` gives an answer for each operation, in their order. There is one trace of the cluster in which operation
 //! `i`, counted from 0, is call `i / clients` of client `i % clients`, and this client accepted this answer to it. The
-//! trace is a run's in which nothing is forged, and linearizable unless two texts have one digest. A configuration with a
-//! faulty party is refused, and else a journal with fewer than two entries an operation, each exactly there.
+//! trace is a run's in which nothing is forged, and linearizable unless two different texts of it have one digest
+//! (`NoCollision`). A configuration with a faulty party is refused, and else a journal with fewer than two entries an
+//! operation, each exactly there.
 //!
 //! # What is not
 //!

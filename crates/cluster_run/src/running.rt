@@ -31,8 +31,9 @@ use tuple_codec::{Answer, Op};
 ///
 /// BadConfig exactly where the configuration names a faulty party, and else NoRoom exactly where the limit is below two
 /// entries an operation; nothing has started then. Call where a call was not answered, TooManyStopped where more replicas
-/// have stopped than may fail, NotInJournal where the journal doesn't have what the parties kept, and NoMemory. The run
-/// ends at the first of them, and all threads have ended then.
+/// have stopped than may fail, NotInJournal where the journal doesn't have what the parties kept, NoThread where no thread
+/// could be started, NoAnswer where a client gave back too few answers, and NoMemory. The run ends at the first of them,
+/// and all threads have ended then.
 pub fn run<
     N: Naming + Send + Sync + 'static,
     R: Threads + Wait + Clock + Copy + Send + 'static,
@@ -104,6 +105,7 @@ fn run_faultless<
     let mut cluster = match Cluster::<N>::start(rt, alloc, opened, config, limit, gate) {
         Ok(cluster) => cluster,
         Err(StartFault::BadConfig) => unreachable!(),
+        Err(StartFault::NoThread) => return Err(LateFault::NoThread),
         Err(StartFault::NoMemory) => return Err(LateFault::NoMemory),
     };
     let called = call_all(

@@ -26,6 +26,8 @@ pub enum Fault {
     /// The journal has not what the parties kept.
     #[error("the cluster did not finish")]
     NotFinished,
+    #[error("no thread could be started")]
+    NoThread,
     #[error("out of memory")]
     NoMemory,
     #[error("not written: {0}")]
@@ -42,6 +44,7 @@ impl From<StartFault> for Fault {
     fn from(fault: StartFault) -> Fault {
         match fault {
             StartFault::BadConfig => Fault::Configuration,
+            StartFault::NoThread => Fault::NoThread,
             StartFault::NoMemory => Fault::NoMemory,
         }
     }

@@ -52,7 +52,7 @@ fn start_and_finish<N: Naming + Send + Sync + 'static, R: Threads + Wait + Copy 
 {
     match Cluster::<N>::start(rt, alloc, opened, config, LIMIT, Open) {
         Ok(cluster) => outcome_of(cluster.finish(rt, alloc, Vec::new(alloc))),
-        Err(StartFault::NoMemory) => Outcome::Refused,
+        Err(StartFault::NoMemory | StartFault::NoThread) => Outcome::Refused,
         Err(StartFault::BadConfig) => Outcome::Wrong,
     }
 }

@@ -6,6 +6,7 @@ pub mod Refusing
 pub mod RefusingFetches
 pub mod RefusingOwed
 pub mod RefusingAgain
+pub mod RefusingResending
 pub mod RefusingReasons
 pub mod RefusingReplies
 pub mod RefusingNumbers
@@ -63,4 +64,8 @@ pub mod JoiningChanges
 pub mod TakingViews
 pub mod Presuming
 pub mod Listing
+pub mod Fetching
+pub mod FetchingTexts
+pub mod FetchingFrames
+pub mod FetchingInstalls
 pub mod Taken

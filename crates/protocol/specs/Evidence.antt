@@ -12,6 +12,7 @@ pub mod RefusedKept
 pub mod RefusedItems
 pub mod FirstReads
 pub mod RefusedSteps
+pub mod RefusedResending
 pub mod Clients
 pub mod Stopping
 pub mod ExamplesOfClients
@@ -23,4 +24,5 @@ pub mod ExamplesOfKept
 pub mod ExamplesOfChanges
 pub mod Premises
 pub mod Listed
+pub mod Fetched
 pub mod Taken

@@ -18,8 +18,7 @@
 //! selected exactly where it meets the rules ([`selected`]); and further laws say what certificates, schedules and the
 //! premises themselves hold ([`certified`], [`fed`], [`premises`]).
 //!
-//! They are laws over runs: that replicas and clients make runs is promised by the crates that make them, once they
-//! stand.
+//! They are laws over runs: that replicas and clients make runs is promised by the crates that make them.
 #![tactic(auto)]
 
 pub mod accepted;

@@ -1,7 +1,8 @@
 //! Laws that show what the premises of the laws leave open.
 
 ghost use Rattle.protocol.specs.Evidence.Premises.{WidestIsValid, NarrowestIsValid, ReplicasAreCorrect, ClientsAreCorrect, CorrectAreBoth, EachIsPrimary, PrimariesReturn, RunsHaveReplicas, RunsHaveClients, RunsGoOn, ReplicasGoOn, RunsTakeCalls, OthersAreUnforged, FramesMayBeGot, FaultyHearAnything, TextsAreFew};
-ghost use Rattle.protocol.specs.Evidence.Listed.{TextsAreListed, ListsAreShort, PagesAddThemselves, PagesAreRun};
+ghost use Rattle.protocol.specs.Evidence.Listed.{TextsAreListed, ListsAreShort};
+ghost use Rattle.protocol.specs.Evidence.Fetched.{FetchFramesExist, FetchingIsRun, FetchedAreTaken, FetchedAddThemselves, FetchedAreInstalled, PagesAddThemselves};
 
 /// Ten replicas of which any three are faulty, with 256 clients of which any are faulty, the longest period and any
 /// seed of 32 bytes are a valid configuration; so are four replicas and one client, none of them faulty, with the
@@ -55,11 +56,21 @@ pub fn texts_are_few()
 {}
 
 /// In any trace at all, whatever is executed, installed and got, the texts whose digests must differ stand in a list of
-/// at most 1,057 for each entry and 1,058 more. Of pages that are got each adds itself alone: 257 of them are a run with
-/// at most 1,315 texts.
+/// at most 1,057 for each entry and 1,058 more.
 pub fn texts_are_listed()
     ensures listed { TextsAreListed }
     ensures short { ListsAreShort }
+{}
+
+/// A replica that is behind fetches any number of pages below 1,024, each other than its own, and takes each of them.
+/// If they are the 513 pages of a state, it installs that state. It does all that it owes, and such frames exist. Each
+/// page adds its own text alone to those whose digests must differ: a run in which it takes 257 of them has at most
+/// 1,348 texts, and one in which it installs 513 has at most 1,622. So does a page that is got behind any other trace.
+pub fn fetched_pages_add_themselves()
+    ensures frames { FetchFramesExist }
+    ensures run { FetchingIsRun }
+    ensures taken { FetchedAreTaken }
+    ensures fetched { FetchedAddThemselves }
+    ensures installed { FetchedAreInstalled }
     ensures pages { PagesAddThemselves }
-    ensures run { PagesAreRun }
 {}

@@ -1,6 +1,7 @@
 //! Laws that show what the definitions refuse: each is a small history, or a part of one, that a wrong body would make.
 
 ghost use Rattle.protocol.specs.Evidence.Refused.{SealsWell, SignsWell, PrePreparesAsPrimary, PrePreparesInMarks, NoPrePrepareAfterChange, CheckpointsMultiples, BeginsAsPrimary, ReadsWhatWasAsked, DigestsToWhoAsked, PagesToWhoAsked, NumbersNoneTwice, NumbersNoneTogether, RepliesOfExecuted, ExecutesWhatIsCommitted, GivesKeptDigests, GivesKeptPages, GivesAskedDigests, GivesAskedPages, RepliesWhatRan, RepliesToWhoAsked, AnswersDigestFetches, AnswersPageFetches, AnswersAgain, AnswersRan, PreparesLogged, CommitsPrepared, ExecutesCommitted, NumbersWaiting, SendsCheckpoints, FetchesAhead, ProposesAuthentic, ReadsNewest, NoChangeWhileActive, AnswersReads, DropsReplies, DropsOwnFrames, FetchesWhatIsWanted, FetchesAbove, FetchesNewest, FetchesOnce, FetchesWhatIsTold, FetchesWhatDiffers, DropsUnaskedDigests, DropsUnaskedPages, RepliesAfterExecution, NoCommitAfterChange, NoPrepareAfterChange, NoEarlyCheckpoint, OnePrePrepare, SkipsNoNumber, GoesBackToNoNumber, PrePreparesNearby, NoPrepareByPrimary, ExecutesNext, KeepsPrepared, InstallsWhatItHas, InstallsWithHeader, RepliesToItsClient, CommitsToAll, TakesWellSelected, TakesNoLower, RunsOnce, AcceptsAtQuorum, SignsOnceByLeaf, SendsNoFrameTwice, AsksOn, InstallsFetched, MovesForReasons};
+ghost use Rattle.protocol.specs.Evidence.RefusedResending.{SendsPreparesAgain, SendsCommitsAgain, SendsBatchesAgain, SendsNewViewsAgain, SendsCheckpointsAgain, SendsChangesAgain};
 
 /// A right replica sends no ordered reply before anything is executed, no commit or prepare of a view after a view
 /// change above it, no checkpoint of a number that it never executed or that is no multiple of the period, and no
@@ -97,6 +98,19 @@ pub fn correct_replicas_go_on()
     ensures asks { AsksOn }
     ensures installs { InstallsFetched }
     ensures moves { MovesForReasons }
+{}
+
+/// A correct replica that goes on has sent again, when a waiting request came again, what it sent for numbers in the
+/// marks that aren't executed: its prepares, its commits, and as the primary the batches that no new view has. With
+/// them go the new view by which it began its view, and its latest checkpoint. An inactive one has sent its view
+/// change.
+pub fn correct_replicas_send_again()
+    ensures prepares { SendsPreparesAgain }
+    ensures commits { SendsCommitsAgain }
+    ensures batches { SendsBatchesAgain }
+    ensures new_views { SendsNewViewsAgain }
+    ensures checkpoints { SendsCheckpointsAgain }
+    ensures changes { SendsChangesAgain }
 {}
 
 /// A right replica seals a reply for its client alone, a part of a state for one replica that asked for it, and a

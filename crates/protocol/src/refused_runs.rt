@@ -1,6 +1,6 @@
 //! Laws that show what the definitions of clients, runs, schedules and certificates refuse.
 
-ghost use Rattle.protocol.specs.Evidence.RefusedRuns.{AcceptsAlike, FallsBack, AsksAtTicks, AsksAll, OutputsFollow, FeedsEachStep, FeedsEachCall, FeedsEachTick, StopsInRuns, StopsAtNoSent, FlushDeliversAll, FlushDeliversSent, LogsNumbers, NoBeginWhileInactive, KeepsProposed, NoRequestByReplica, InstallsItsRoot};
+ghost use Rattle.protocol.specs.Evidence.RefusedRuns.{AcceptsAlike, FallsBack, AsksAtTicks, AsksAll, OutputsFollow, FeedsEachStep, FeedsEachCall, FeedsEachTick, AllowsSent, FlushDeliversAll, FlushDeliversSent, LogsNumbers, NoBeginWhileInactive, KeepsProposed, NoRequestByReplica, InstallsItsRoot};
 
 /// A correct client that goes on accepts, and gives nothing else, where `2f + 1` replicas' latest replies are alike; it
 /// gives its open call's ordered request, and nothing else, once all replicas have answered a read and too few alike,
@@ -17,14 +17,13 @@ pub fn outputs_follow_inputs()
     ensures follow { OutputsFollow }
 {}
 
-/// A schedule feeds the input of each of its steps, and no other calls and ticks. It stops in runs alone, at no
-/// delivery of a frame that was sent, and by a flush delivers each frame to each of its correct receivers.
+/// A schedule feeds the input of each of its steps, and no other calls and ticks. It may deliver each frame that was
+/// sent to a correct party, and by a flush it delivers each frame to each of its correct receivers.
 pub fn schedules_feed_all()
     ensures inputs { FeedsEachStep }
     ensures calls { FeedsEachCall }
     ensures ticks { FeedsEachTick }
-    ensures runs { StopsInRuns }
-    ensures stops { StopsAtNoSent }
+    ensures deliveries { AllowsSent }
     ensures flushes { FlushDeliversAll }
     ensures sent { FlushDeliversSent }
 {}

@@ -1,6 +1,8 @@
 -- What is said again fits, and so does the primary's own batch.
-use Rattle.std.proofs.Common.{◌≡◌, ℕ, ◌+◌, ◌≤◌, ◌<◌, inl, inr, Bool, true, List, [], ◌∷◌, length, Some, refl, sym, ap, ◌∙◌, subst, arith}
-use Rattle.std.specs.Prelude.{is_some}
+use Rattle.std.proofs.Common.{◌≡◌, ℕ, ◌+◌, ◌≤◌, ◌<◌, inl, inr, Bool, true, false, List, [], ◌∷◌, ◌++◌, length, Option, Some, None, refl, sym, ap, ◌∙◌, subst, arith}
+use Rattle.std.specs.Prelude.{is_some, ◌==◌}
+use Rattle.std.proofs.lemmas.Bool.{eqb-true, eqb-false}
+use Rattle.std.proofs.lemmas.List.{append-nil, append_assoc}
 use Rattle.wire.specs.Lists.{Each}
 use Rattle.wire.specs.Messages.{MessageData as Message, CheckpointEntryData as CheckpointEntry, pre_prepare as PrePrepare, prepare as Prepare, commit as Commit, checkpoint as Checkpoint, new_view as NewView}
 use Rattle.wire.specs.Spelling.{IsBatch, IsCarried, is_ordered_request, pieces_spelling}
@@ -15,13 +17,14 @@ use Rattle.protocol.specs.System.Trace.{Entry, Has}
 use Rattle.protocol.specs.System.Trace.Entry.{Sent}
 use Rattle.protocol.specs.Replica.Certificates.{are_genuine, logged, commit_of}
 use Rattle.protocol.specs.Replica.RightReplica.{others}
-use Rattle.protocol.specs.Replica.Owed.{IsSaying, Gives}
+use Rattle.protocol.specs.Replica.Owed.{IsSaying, Gives, IsBegunBelow}
+use Rattle.protocol.proofs.Words.Options.{some_injective}
 use Rattle.protocol.proofs.Words.Elements.{all_of_each, each_weaker}
 use Rattle.replica_histories.specs.Desk.{Desk}
 use Rattle.replica_histories.specs.Events as events
 use Rattle.replica_histories.specs.Events.{Start, behind}
 use Rattle.replica_histories.specs.Logs.{FitsLog}
-use Rattle.replica_histories.specs.Outputs.{IsBegunBelow, MayNumber}
+use Rattle.replica_histories.specs.Outputs.{MayNumber}
 use Rattle.replica_histories.proofs.Words.{passed, primary_same}
 use Rattle.replica_histories.proofs.Giving.{batches_fit}
 use Rattle.replica_histories.proofs.SaidOnce.{saying}
@@ -34,7 +37,8 @@ use Rattle.replica.specs.State.{OrdererData, JoinedData, IsOrderer}
 use Rattle.replica.specs.Desks.{given, changes_of, FitsEvent}
 use Rattle.replica.specs.Waiting.{unnumbered, with_numbered}
 use Rattle.replica.specs.Claiming.{LogsBatch}
-use Rattle.replica.specs.Saying.{AllAgain, AreBelow, GoesAgain, IsBelow, Says, SaysAgain, SaysBatch, SaysLastAgain, row_place}
+use Rattle.replica.specs.Saying.{AllAgain, AreBelow, GoesAgain, IsBelow, Posted, PostsAll, PostsBatch, PostsChange, PostsCheckpoint, PostsCommit, PostsNewView, PostsPrepare, PostsRow, Says, SaysAgain, SaysAlso, SaysBatch, SaysLastAgain, SaysLastAlso, row_place}
+use Rattle.replica.proofs.PostedAgain.{posted_now, batch_on, prepare_on, row_on, new_view_on}
 use Rattle.replica.proofs.Parties.{same_log}
 use Rattle.replica.proofs.Staying.{sent_beside, fits_on, fits_behind, changes_still}
 use Rattle.replica.proofs.Flags.{flags_stay, flags_numbered}
@@ -69,36 +73,58 @@ one_below me first end message bytes before after is says l below h =
     (λ other now. subst (IsBelow end) (saying me message other bytes says now) below, are_below_later me first end before l h)
 
 pub nothing_again : (first end : ℕ) (o : OrdererData) (outs : List Output) → first ≤ end → SaysAgain first end o outs o outs
-nothing_again first end o outs l = record { goes = λ is c s desk w known below f. (f, are_below_later o.endpoint.me first end (given o.endpoint.me outs) l below); same = refl }
+nothing_again first end o outs l = record { goes = λ is c s desk w known below f. (f, are_below_later o.endpoint.me first end (given o.endpoint.me outs) l below); same = refl; more = []; given_is = sym (append-nil outs) }
 
-pub no_batch_again : (number : ℕ) (o : OrdererData) (outs : List Output) → SaysAgain (row_place number) (row_place number + 1) o outs o outs
-no_batch_again number o outs = nothing_again (row_place number) (row_place number + 1) o outs (omega arith)
+absent : {A : Type 0} (o : Option A) (x : A) → o ≡ None → o ≡ Some x → ⊥
+absent o x none is = absurd (let bad : None ≡ Some x = sym none ∙ is in cc)
 
-pub no_prepare_again : (number : ℕ) (o : OrdererData) (outs : List Output) → SaysAgain (row_place number + 1) (row_place number + 2) o outs o outs
-no_prepare_again number o outs = nothing_again (row_place number + 1) (row_place number + 2) o outs (omega arith)
+-- where the log has no batch, another is the primary, or the new view has the batch
+pub no_batch_again : (number : ℕ) (o : OrdererData) (outs : List Output) → logs.logged_batch o.log number ≡ None → SaysAlso (row_place number) (row_place number + 1) (PostsBatch number) o outs o outs
+no_batch_again number o outs none =
+    (nothing_again (row_place number) (row_place number + 1) o outs (omega arith), λ text own above is. absurd (absent (logs.logged_batch o.log number) text none is))
 
-pub no_commit_again : (number : ℕ) (o : OrdererData) (outs : List Output) → SaysAgain (row_place number + 2) (row_place number + 3) o outs o outs
-no_commit_again number o outs = nothing_again (row_place number + 2) (row_place number + 3) o outs (omega arith)
+pub other_batch_again : (number : ℕ) (o : OrdererData) (outs : List Output) → (o.log.me ≡ logs.primary o.log o.log.view → o.begun < number → ⊥) → SaysAlso (row_place number) (row_place number + 1) (PostsBatch number) o outs o outs
+other_batch_again number o outs other =
+    (nothing_again (row_place number) (row_place number + 1) o outs (omega arith), λ text own above is. absurd (other own above))
+
+pub no_prepare_again : (number : ℕ) (o : OrdererData) (outs : List Output) → logs.prepare_of o.log number o.log.me ≡ None → SaysAlso (row_place number + 1) (row_place number + 2) (PostsPrepare number) o outs o outs
+no_prepare_again number o outs none =
+    (nothing_again (row_place number + 1) (row_place number + 2) o outs (omega arith), λ digest is. absurd (absent (logs.prepare_of o.log number o.log.me) digest none is))
+
+pub no_commit_again : (number : ℕ) (o : OrdererData) (outs : List Output) → logs.commit_of o.log number o.log.me ≡ None → SaysAlso (row_place number + 2) (row_place number + 3) (PostsCommit number) o outs o outs
+no_commit_again number o outs none =
+    (nothing_again (row_place number + 2) (row_place number + 3) o outs (omega arith), λ digest is. absurd (absent (logs.commit_of o.log number o.log.me) digest none is))
+
+pub no_checkpoint_again : (o : OrdererData) (outs : List Output) → o.last_checkpoint ≡ None → (place : ℕ) → SaysLastAlso true place PostsCheckpoint o outs o outs
+no_checkpoint_again o outs none place = (
+  record { goes = λ active c s desk w known below f. f; same = refl; more = []; given_is = sym (append-nil outs) },
+  λ entry is. absurd (absent o.last_checkpoint entry none is),
+)
 
 -- ---- what stands in the log
 
 pub prepare_again : (number : ℕ) (digest : List ℕ) (o new : OrdererData) (before after : List Output) → IsOrderer o → logs.prepare_of o.log number o.log.me ≡ Some digest
-    → Says o (Prepare o.log.view number digest) before after → new ≡ o → SaysAgain (row_place number + 1) (row_place number + 2) o before new after
-prepare_again number digest o new before after own has says is = subst (λ (x : OrdererData). SaysAgain (row_place number + 1) (row_place number + 2) o before x after) (sym is) (record {
-  goes = λ active c s desk w known below f.
-      let k = said_in c o (Prepare o.log.view number digest) before after known says in
-      let h = subst (λ m. logs.prepare_of o.log number m ≡ Some digest) own.0 has in
-      let past = behind s (given o.endpoint.me before) in (
-        fits_on c o.endpoint.me s o o desk w [] [] before after (Sent o.endpoint.me k.bytes) k.is
-            (sent_beside c o.endpoint.me (Prepare o.log.view number digest) (others c o.endpoint.me) k.bytes past tt k.posted)
-            (sent_keep c o.endpoint.me past (Prepare o.log.view number digest) k.bytes k.posted.says tt (λ signed. absurd cc))
-            (same_log o.log) refl refl refl refl f
-            (prepares_go_again c o.endpoint.me s desk o.log [] (given o.endpoint.me before) number digest k.bytes active h
-            (never_said o.endpoint.me (row_place number + 1) (Prepare o.log.view number digest) (given o.endpoint.me before) (λ l. absurd (omega (arith, l))) below) k.posted f.fits),
-        one_below o.endpoint.me (row_place number + 1) (row_place number + 2) (Prepare o.log.view number digest) k.bytes (given o.endpoint.me before) (given o.endpoint.me after) k.is.is k.posted.says (omega arith) (omega arith) below,
-      );
-  same = refl;
-})
+    → Says o (Prepare o.log.view number digest) before after → new ≡ o → SaysAlso (row_place number + 1) (row_place number + 2) (PostsPrepare number) o before new after
+prepare_again number digest o new before after own has says is = (
+  subst (λ (x : OrdererData). SaysAgain (row_place number + 1) (row_place number + 2) o before x after) (sym is) (record {
+    goes = λ active c s desk w known below f.
+        let k = said_in c o (Prepare o.log.view number digest) before after known says in
+        let h = subst (λ m. logs.prepare_of o.log number m ≡ Some digest) own.0 has in
+        let past = behind s (given o.endpoint.me before) in (
+          fits_on c o.endpoint.me s o o desk w [] [] before after (Sent o.endpoint.me k.bytes) k.is
+              (sent_beside c o.endpoint.me (Prepare o.log.view number digest) (others c o.endpoint.me) k.bytes past tt k.posted)
+              (sent_keep c o.endpoint.me past (Prepare o.log.view number digest) k.bytes k.posted.says tt (λ signed. absurd cc))
+              (same_log o.log) refl refl refl refl f
+              (prepares_go_again c o.endpoint.me s desk o.log [] (given o.endpoint.me before) number digest k.bytes active h
+              (never_said o.endpoint.me (row_place number + 1) (Prepare o.log.view number digest) (given o.endpoint.me before) (λ l. absurd (omega (arith, l))) below) k.posted f.fits),
+          one_below o.endpoint.me (row_place number + 1) (row_place number + 2) (Prepare o.log.view number digest) k.bytes (given o.endpoint.me before) (given o.endpoint.me after) k.is.is k.posted.says (omega arith) (omega arith) below,
+        );
+    same = refl;
+    more = says.output ∷ [];
+    given_is = says.given_is;
+  }),
+  λ other is_it. subst (λ (d : List ℕ). Posted o (Prepare o.log.view number d) after) (some_injective digest other (sym has ∙ is_it)) (posted_now o (Prepare o.log.view number digest) before after says),
+)
 
 -- the own commit that stands in the log, the history has
 committed_here : (c : Configuration) (me : ℕ) (log : LogData) (history : List Entry) (number : ℕ) (digest : List ℕ) → FitsLog c me log history → logs.commit_of log number me ≡ Some digest
@@ -107,22 +133,27 @@ committed_here c me log history number digest f has =
     f.commits number me (passed (logs.is_in_marks log number) (vote_of (logs.row_of log number).commits me) digest has).0 ∙ has
 
 pub commit_again : (number : ℕ) (digest : List ℕ) (o new : OrdererData) (before after : List Output) → IsOrderer o → logs.commit_of o.log number o.log.me ≡ Some digest
-    → Says o (Commit o.log.view number digest) before after → new ≡ o → SaysAgain (row_place number + 2) (row_place number + 3) o before new after
-commit_again number digest o new before after own has says is = subst (λ (x : OrdererData). SaysAgain (row_place number + 2) (row_place number + 3) o before x after) (sym is) (record {
-  goes = λ active c s desk w known below f.
-      let k = said_in c o (Commit o.log.view number digest) before after known says in
-      let h = subst (λ m. logs.commit_of o.log number m ≡ Some digest) own.0 has in
-      let past = behind s (given o.endpoint.me before) in (
-        fits_on c o.endpoint.me s o o desk w [] [] before after (Sent o.endpoint.me k.bytes) k.is
-            (sent_beside c o.endpoint.me (Commit o.log.view number digest) (others c o.endpoint.me) k.bytes past tt k.posted)
-            (sent_keep c o.endpoint.me past (Commit o.log.view number digest) k.bytes k.posted.says (digest, committed_here c o.endpoint.me o.log past number digest f.fits.of_log h) (λ signed. absurd cc))
-            (same_log o.log) refl refl refl refl f
-            (commits_go_again c o.endpoint.me s desk o.log [] (given o.endpoint.me before) number digest k.bytes active h
-            (never_said o.endpoint.me (row_place number + 2) (Commit o.log.view number digest) (given o.endpoint.me before) (λ l. absurd (omega (arith, l))) below) k.posted f.fits),
-        one_below o.endpoint.me (row_place number + 2) (row_place number + 3) (Commit o.log.view number digest) k.bytes (given o.endpoint.me before) (given o.endpoint.me after) k.is.is k.posted.says (omega arith) (omega arith) below,
-      );
-  same = refl;
-})
+    → Says o (Commit o.log.view number digest) before after → new ≡ o → SaysAlso (row_place number + 2) (row_place number + 3) (PostsCommit number) o before new after
+commit_again number digest o new before after own has says is = (
+  subst (λ (x : OrdererData). SaysAgain (row_place number + 2) (row_place number + 3) o before x after) (sym is) (record {
+    goes = λ active c s desk w known below f.
+        let k = said_in c o (Commit o.log.view number digest) before after known says in
+        let h = subst (λ m. logs.commit_of o.log number m ≡ Some digest) own.0 has in
+        let past = behind s (given o.endpoint.me before) in (
+          fits_on c o.endpoint.me s o o desk w [] [] before after (Sent o.endpoint.me k.bytes) k.is
+              (sent_beside c o.endpoint.me (Commit o.log.view number digest) (others c o.endpoint.me) k.bytes past tt k.posted)
+              (sent_keep c o.endpoint.me past (Commit o.log.view number digest) k.bytes k.posted.says (digest, committed_here c o.endpoint.me o.log past number digest f.fits.of_log h) (λ signed. absurd cc))
+              (same_log o.log) refl refl refl refl f
+              (commits_go_again c o.endpoint.me s desk o.log [] (given o.endpoint.me before) number digest k.bytes active h
+              (never_said o.endpoint.me (row_place number + 2) (Commit o.log.view number digest) (given o.endpoint.me before) (λ l. absurd (omega (arith, l))) below) k.posted f.fits),
+          one_below o.endpoint.me (row_place number + 2) (row_place number + 3) (Commit o.log.view number digest) k.bytes (given o.endpoint.me before) (given o.endpoint.me after) k.is.is k.posted.says (omega arith) (omega arith) below,
+        );
+    same = refl;
+    more = says.output ∷ [];
+    given_is = says.given_is;
+  }),
+  λ other is_it. subst (λ (d : List ℕ). Posted o (Commit o.log.view number d) after) (some_injective digest other (sym has ∙ is_it)) (posted_now o (Commit o.log.view number digest) before after says),
+)
 
 -- what stands in the log, the history has
 logged_here : (c : Configuration) (me : ℕ) (log : LogData) (history : List Entry) (number : ℕ) (text : List ℕ) → FitsLog c me log history → logs.logged_batch log number ≡ Some text
@@ -134,42 +165,52 @@ begun_below : (c : Configuration) (me number : ℕ) (o : OrdererData) (history :
 begun_below c me number o history above f new once at = let most = f.begun new once at in omega (arith, most, above)
 
 pub batch_again : (number : ℕ) (text : List ℕ) (o new : OrdererData) (before after : List Output) → IsOrderer o → o.log.me ≡ logs.primary o.log o.log.view → o.begun < number
-    → logs.logged_batch o.log number ≡ Some text → Says o (PrePrepare o.log.view number text) before after → new ≡ o → SaysAgain (row_place number) (row_place number + 1) o before new after
-batch_again number text o new before after own primary above has says is = subst (λ (x : OrdererData). SaysAgain (row_place number) (row_place number + 1) o before x after) (sym is) (record {
-  goes = λ active c s desk w known below f.
-      let k = said_in c o (PrePrepare o.log.view number text) before after known says in
-      let past = behind s (given o.endpoint.me before) in
-      let e = Sent o.endpoint.me k.bytes in
-      let here = logged_here c o.endpoint.me o.log past number text f.fits.of_log has in
-      let on = batches_go_again c o.endpoint.me s desk o.log [] (given o.endpoint.me before) number text k.bytes active (sym primary ∙ own.0) has
-      (begun_below c o.endpoint.me number o past above f.changes)
-      (never_said o.endpoint.me (row_place number) (PrePrepare o.log.view number text) (given o.endpoint.me before) (λ l. absurd (omega (arith, l))) below) k.posted f.fits in (
-        fits_behind c o.endpoint.me s o o desk desk w w [] [] before after e k.is refl f on
-            (λ first. flags_stay c o.endpoint.me o.log.view o.used w desk.state desk.waiting past e
-            (batches_keep_numbers c o.endpoint.me o.log.view number text k.bytes past k.posted.says here).1
-            (f.numbers first))
-            (changes_still c o.endpoint.me s o o desk desk [] [] (given o.endpoint.me before) e f.fits on
-            (sent_keep c o.endpoint.me past (PrePrepare o.log.view number text) k.bytes k.posted.says (text, here) (λ signed. absurd cc)) (same_log o.log) refl refl f.changes),
-        one_below o.endpoint.me (row_place number) (row_place number + 1) (PrePrepare o.log.view number text) k.bytes (given o.endpoint.me before) (given o.endpoint.me after) k.is.is k.posted.says (omega arith) (omega arith) below,
-      );
-  same = refl;
-})
+    → logs.logged_batch o.log number ≡ Some text → Says o (PrePrepare o.log.view number text) before after → new ≡ o → SaysAlso (row_place number) (row_place number + 1) (PostsBatch number) o before new after
+batch_again number text o new before after own primary above has says is = (
+  subst (λ (x : OrdererData). SaysAgain (row_place number) (row_place number + 1) o before x after) (sym is) (record {
+    goes = λ active c s desk w known below f.
+        let k = said_in c o (PrePrepare o.log.view number text) before after known says in
+        let past = behind s (given o.endpoint.me before) in
+        let e = Sent o.endpoint.me k.bytes in
+        let here = logged_here c o.endpoint.me o.log past number text f.fits.of_log has in
+        let on = batches_go_again c o.endpoint.me s desk o.log [] (given o.endpoint.me before) number text k.bytes active (sym primary ∙ own.0) has
+        (begun_below c o.endpoint.me number o past above f.changes)
+        (never_said o.endpoint.me (row_place number) (PrePrepare o.log.view number text) (given o.endpoint.me before) (λ l. absurd (omega (arith, l))) below) k.posted f.fits in (
+          fits_behind c o.endpoint.me s o o desk desk w w [] [] before after e k.is refl f on
+              (λ first. flags_stay c o.endpoint.me o.log.view o.used w desk.state desk.waiting past e
+              (batches_keep_numbers c o.endpoint.me o.log.view number text k.bytes past k.posted.says here).1
+              (f.numbers first))
+              (changes_still c o.endpoint.me s o o desk desk [] [] (given o.endpoint.me before) e f.fits on
+              (sent_keep c o.endpoint.me past (PrePrepare o.log.view number text) k.bytes k.posted.says (text, here) (λ signed. absurd cc)) (same_log o.log) refl refl f.changes),
+          one_below o.endpoint.me (row_place number) (row_place number + 1) (PrePrepare o.log.view number text) k.bytes (given o.endpoint.me before) (given o.endpoint.me after) k.is.is k.posted.says (omega arith) (omega arith) below,
+        );
+    same = refl;
+    more = says.output ∷ [];
+    given_is = says.given_is;
+  }),
+  λ other mine over is_it. subst (λ (t : List ℕ). Posted o (PrePrepare o.log.view number t) after) (some_injective text other (sym has ∙ is_it)) (posted_now o (PrePrepare o.log.view number text) before after says),
+)
 
 -- the last checkpoint
 pub checkpoint_again : (entry : CheckpointEntry) (o new : OrdererData) (before after : List Output) → o.last_checkpoint ≡ Some entry
-    → Says o (Checkpoint entry.number entry.digest) before after → new ≡ o → (place : ℕ) → SaysLastAgain true place o before new after
-checkpoint_again entry o new before after last says is place = subst (λ (x : OrdererData). SaysLastAgain true place o before x after) (sym is) (record {
-  goes = λ active c s desk w known below f.
-      let k = said_in c o (Checkpoint entry.number entry.digest) before after known says in
-      let past = behind s (given o.endpoint.me before) in
-      fits_on c o.endpoint.me s o o desk w [] [] before after (Sent o.endpoint.me k.bytes) k.is
-      (sent_beside c o.endpoint.me (Checkpoint entry.number entry.digest) (others c o.endpoint.me) k.bytes past tt k.posted)
-      (sent_keep c o.endpoint.me past (Checkpoint entry.number entry.digest) k.bytes k.posted.says tt (λ signed. absurd cc))
-      (same_log o.log) refl refl refl refl f
-      (checkpoints_go_again c o.endpoint.me s desk o.log (given o.endpoint.me before) entry.number entry.digest k.bytes
-      (f.said entry last) (never_said o.endpoint.me place (Checkpoint entry.number entry.digest) (given o.endpoint.me before) (λ none. none) below) k.posted f.fits);
-  same = refl;
-})
+    → Says o (Checkpoint entry.number entry.digest) before after → new ≡ o → (place : ℕ) → SaysLastAlso true place PostsCheckpoint o before new after
+checkpoint_again entry o new before after last says is place = (
+  subst (λ (x : OrdererData). SaysLastAgain true place o before x after) (sym is) (record {
+    goes = λ active c s desk w known below f.
+        let k = said_in c o (Checkpoint entry.number entry.digest) before after known says in
+        let past = behind s (given o.endpoint.me before) in
+        fits_on c o.endpoint.me s o o desk w [] [] before after (Sent o.endpoint.me k.bytes) k.is
+        (sent_beside c o.endpoint.me (Checkpoint entry.number entry.digest) (others c o.endpoint.me) k.bytes past tt k.posted)
+        (sent_keep c o.endpoint.me past (Checkpoint entry.number entry.digest) k.bytes k.posted.says (f.changes.latest ∙ last) (λ signed. absurd cc))
+        (same_log o.log) refl refl refl refl f
+        (checkpoints_go_again c o.endpoint.me s desk o.log (given o.endpoint.me before) entry.number entry.digest k.bytes
+        (f.said entry last) (never_said o.endpoint.me place (Checkpoint entry.number entry.digest) (given o.endpoint.me before) (λ none. none) below) k.posted f.fits);
+    same = refl;
+    more = says.output ∷ [];
+    given_is = says.given_is;
+  }),
+  λ other is_it. subst (λ (m : CheckpointEntry). Posted o (Checkpoint m.number m.digest) after) (some_injective entry other (sym last ∙ is_it)) (posted_now o (Checkpoint entry.number entry.digest) before after says),
+)
 
 -- the event goes on with the same orderer
 pub again_twice : (first middle end : ℕ) (a b d : OrdererData) (x y z : List Output) → SaysAgain first middle a x b y → SaysAgain middle end b y d z → SaysAgain first end a x d z
@@ -181,9 +222,11 @@ again_twice first middle end a b d x y z p q = subst (λ (o : OrdererData). Says
           let g = p.goes is c s desk w known below f in
           r.goes is c s desk w known g.1 (subst (λ (o : OrdererData). FitsEvent c a.endpoint.me s o desk w [] y) p.same g.0);
       same = r.same;
+      more = p.more ++ r.more;
+      given_is = r.given_is ∙ ap (λ (xs : List Output). xs ++ r.more) p.given_is ∙ append_assoc x p.more r.more;
     }
 
-pub again_last : (active : Bool) (first place : ℕ) (a b d : OrdererData) (x y z : List Output) → active ≡ true → SaysAgain first place a x b y → SaysLastAgain active place b y d z → SaysLastAgain active first a x d z
+again_last : (active : Bool) (first place : ℕ) (a b d : OrdererData) (x y z : List Output) → active ≡ true → SaysAgain first place a x b y → SaysLastAgain active place b y d z → SaysLastAgain active first a x d z
 again_last active first place a b d x y z right p q = subst (λ (o : OrdererData). SaysLastAgain active place o y d z → SaysLastAgain active first a x d z) (sym p.same) onward q
   where
     onward : SaysLastAgain active place a y d z → SaysLastAgain active first a x d z
@@ -192,19 +235,82 @@ again_last active first place a b d x y z right p q = subst (λ (o : OrdererData
           let g = p.goes (is ∙ right) c s desk w known below f in
           r.goes is c s desk w known g.1 (subst (λ (o : OrdererData). FitsEvent c a.endpoint.me s o desk w [] y) p.same g.0);
       same = r.same;
+      more = p.more ++ r.more;
+      given_is = r.given_is ∙ ap (λ (xs : List Output). xs ++ r.more) p.given_is ∙ append_assoc x p.more r.more;
     }
 
--- one number more
-pub rows_twice : (number : ℕ) (a b d : OrdererData) (x y z : List Output) → SaysAgain 1 (row_place number) a x b y → SaysAgain (row_place number) (row_place number + 3) b y d z → SaysAgain 1 (row_place (number + 1)) a x d z
-rows_twice number a b d x y z p q =
-    let same : row_place number + 3 ≡ row_place (number + 1) = omega arith in
-    subst (λ (n : ℕ). SaysAgain 1 n a x d z) same (again_twice 1 (row_place number) (row_place number + 3) a b d x y z p q)
+-- ---- one after another
 
--- and so with the desk beside
-pub all_again : (active : Bool) (a new : JoinedData) (o : OrdererData) (before after : List Output) → a.orderer.log.active ≡ active → SaysLastAgain active 0 a.orderer before o after → new ≡ record a { orderer = o }
+-- what was posted before is said with what is said since
+also_on : (first middle end : ℕ) (P Q R : OrdererData → List Output → Type 0) (a b d : OrdererData) (x y z : List Output)
+    → ((o : OrdererData) (before more after : List Output) → after ≡ before ++ more → P o before → P o after) → ((o : OrdererData) (outs : List Output) → P o outs → Q o outs → R o outs)
+    → SaysAlso first middle P a x b y → SaysAlso middle end Q b y d z → SaysAlso first end R a x d z
+also_on first middle end P Q R a b d x y z stays both p q =
+    (again_twice first middle end a b d x y z p.0 q.0, both a z (stays a y q.0.more z q.0.given_is p.1) (subst (λ (o : OrdererData). Q o z) p.0.same q.1))
+
+pub row_again : (number : ℕ) (a b d e : OrdererData) (x y z w : List Output) → SaysAlso (row_place number) (row_place number + 1) (PostsBatch number) a x b y
+    → SaysAlso (row_place number + 1) (row_place number + 2) (PostsPrepare number) b y d z → SaysAlso (row_place number + 2) (row_place number + 3) (PostsCommit number) d z e w
+    → SaysAlso (row_place number) (row_place number + 3) (PostsRow number) a x e w
+row_again number a b d e x y z w p q r =
+    also_on (row_place number) (row_place number + 2) (row_place number + 3) (λ o outs. PostsBatch number o outs × PostsPrepare number o outs) (PostsCommit number) (PostsRow number) a d e x z w
+    (λ o before more after is h. (batch_on before more after is o number h.0, prepare_on before more after is o number h.1)) (λ o outs h k. (h.0, h.1, k))
+    (also_on (row_place number) (row_place number + 1) (row_place number + 2) (PostsBatch number) (PostsPrepare number) (λ o outs. PostsBatch number o outs × PostsPrepare number o outs) a b d x y z
+    (λ o before more after is h. batch_on before more after is o number h) (λ o outs h k. (h, k)) p q) r
+
+-- the new view, and the rows of the numbers from one on, up to below another
+abbrev pub PostsRows : ℕ → ℕ → OrdererData → List Output → Type 0
+PostsRows first end o outs = PostsNewView o outs × ((i : ℕ) → first ≤ i → i < end → PostsRow i o outs)
+
+pub rows_begin : (first : ℕ) (a b : OrdererData) (x y : List Output) → 1 ≤ row_place first → SaysAlso 0 1 PostsNewView a x b y → SaysAlso 0 (row_place first) (PostsRows first first) a x b y
+rows_begin first a b x y later p =
+    (again_twice 0 1 (row_place first) a b b x y y p.0 (nothing_again 1 (row_place first) b y later), (p.1, λ i above below. absurd (omega (arith, above, below))))
+
+pub one_row : (first number : ℕ) (a b d : OrdererData) (x y z : List Output) → SaysAlso 0 (row_place number) (PostsRows first number) a x b y
+    → SaysAlso (row_place number) (row_place number + 3) (PostsRow number) b y d z → SaysAlso 0 (row_place (number + 1)) (PostsRows first (number + 1)) a x d z
+one_row first number a b d x y z p q =
+    let same : row_place number + 3 ≡ row_place (number + 1) = omega arith in
+    subst (λ (n : ℕ). SaysAlso 0 n (PostsRows first (number + 1)) a x d z) same
+    (also_on 0 (row_place number) (row_place number + 3) (PostsRows first number) (PostsRow number) (PostsRows first (number + 1)) a b d x y z
+    (λ o before more after is h. (new_view_on before more after is o h.0, λ i above below. row_on before more after is o i (h.1 i above below)))
+    (λ o outs h k. (h.0, λ i above below. go o outs i above h k (i == number) refl below)) p q)
+  where
+    go : (o : OrdererData) (outs : List Output) (i : ℕ) → first ≤ i → PostsRows first number o outs → PostsRow number o outs → (same : Bool) → (i == number) ≡ same → i < number + 1 → PostsRow i o outs
+    go o outs i above h k true e below = subst (λ (n : ℕ). PostsRow n o outs) (sym (eqb-true i number e)) k
+    go o outs i above h k false e below = h.1 i above (less (eqb-false i number e) below)
+      where
+        less : (i ≡ number → ⊥) → i < number + 1 → i < number
+        less other l = omega (arith, other, l)
+
+pub all_said : (executed end : ℕ) (a b d : OrdererData) (x y z : List Output) → a.log.low + a.log.span < end → SaysAlso 0 (row_place end) (PostsRows (executed + 1) end) a x b y
+    → SaysLastAlso true (row_place end) PostsCheckpoint b y d z → SaysLastAlso true 0 (PostsAll executed) a x d z
+all_said executed end a b d x y z whole p q = (
+  again_last true 0 (row_place end) a b d x y z refl p.0 q.0,
+  record {
+    new_view = new_view_on y q.0.more z q.0.given_is a p.1.0;
+    rows = λ i above most. row_on y q.0.more z q.0.given_is a i (p.1.1 i (omega (arith, above)) (omega (arith, most, whole)));
+    checkpoint = subst (λ (o : OrdererData). PostsCheckpoint o z) p.0.same q.1;
+  },
+)
+
+-- ---- and so with the desk beside
+
+pub all_again : (a new : JoinedData) (o : OrdererData) (before after : List Output) → a.orderer.log.active ≡ true → SaysLastAlso true 0 (PostsAll a.desk.executed.state.number) a.orderer before o after
+    → new ≡ record a { orderer = o } → AllAgain a before new after
+all_again a new o before after at says is = record {
+  same = is ∙ ap (λ (k : OrdererData). record a { orderer = k }) says.0.same;
+  goes = subst (λ (k : OrdererData). GoesAgain 0 a.orderer before k after) says.0.same (says.0.goes at);
+  active = λ active. says.1;
+  inactive = λ inactive. absurd (let bad : true ≡ false = sym at ∙ inactive in cc);
+}
+
+pub change_only : (a new : JoinedData) (o : OrdererData) (before after : List Output) → a.orderer.log.active ≡ false → SaysLastAlso false 0 PostsChange a.orderer before o after → new ≡ record a { orderer = o }
     → AllAgain a before new after
-all_again active a new o before after at says is =
-    (is ∙ ap (λ (k : OrdererData). record a { orderer = k }) says.same, subst (λ (k : OrdererData). GoesAgain 0 a.orderer before k after) says.same (says.goes at))
+change_only a new o before after at says is = record {
+  same = is ∙ ap (λ (k : OrdererData). record a { orderer = k }) says.0.same;
+  goes = subst (λ (k : OrdererData). GoesAgain 0 a.orderer before k after) says.0.same (says.0.goes at);
+  active = λ active. absurd (let bad : false ≡ true = sym at ∙ active in cc);
+  inactive = λ inactive. says.1;
+}
 
 -- ---- a batch
 

@@ -14,6 +14,7 @@ use Rattle.wire.specs.declared.messages.Commit.{Commit}
 use Rattle.wire.specs.declared.messages.Prepare.{Prepare}
 use Rattle.wire.specs.declared.messages.Message.{Message as WireMessage}
 use Rattle.wire.specs.declared.messages.Message.TheVariants as messages
+use Rattle.wire.specs.declared.messages.Meta.{Meta as WireMeta}
 use Rattle.wire.specs.declared.messages.NewView.{NewView as WireNewView}
 use Rattle.wire.specs.declared.messages.PrePrepare.{PrePrepare as WirePrePrepare}
 use Rattle.authenticator.specs.Membership.{Membership}
@@ -42,6 +43,7 @@ use Rattle.view_change.specs.Selecting.{AreFrom, IsFrom}
 use Rattle.replica.specs.Changing.{IsJoinedBy, IsJoinedByNone, IsNextView, aimed_view}
 use Rattle.replica.specs.EnteringViews.{IsSelection}
 use Rattle.replica.specs.State.{HoldsBatches, IsOrderer, OrdererData}
+use Rattle.replica.specs.Transferring.{MayBeSaid}
 use Rattle.replica.proofs.JoiningOthers.{joined_by, joined_by_none, later_above}
 
 -- ---- what is heard
@@ -63,6 +65,10 @@ pub heard_batches : (m : Membership) (me s : ℕ) (bytes : List ℕ) (message : 
 heard_batches m me s bytes message x h is =
     let said : IsMessage (NewView (new_view_data x)) = heard_message m me bytes _ (h ∙ ap (λ (y : WireMessage). Some (record { sender = s; message = message_data y })) is) in
     said.batches
+
+pub heard_digests : (m : Membership) (me s : ℕ) (bytes : List ℕ) (message : WireMessage) (x : WireMeta) → heard m me bytes ≡ Some (record { sender = s; message = message_data message }) → message ≡ messages.Meta x
+    → MayBeSaid x
+heard_digests m me s bytes message x h is = heard_message m me bytes _ (h ∙ ap (λ (y : WireMessage). Some (record { sender = s; message = message_data y })) is)
 
 -- ---- texts
 

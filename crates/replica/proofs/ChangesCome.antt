@@ -223,7 +223,7 @@ module _ (r : JoinedData) (one : AreOne r.orderer r.desk) (rules : JudgesAlike r
           (
             rests c r past runs,
             runs.all,
-            (none.0, none.1, none.2, none.3, refused_move judge faulty c past runs known []),
+            (none.0, none.1, none.2, none.3, none.4, refused_move judge faulty c past runs known []),
             inl refl,
           ),
         );
@@ -295,7 +295,7 @@ module _ (input : Entry) (old : JoinedData) (alone : AreOne old.orderer old.desk
   answered a x came moved c past runs known outputs executed at =
       let partless = subst (λ (e : EndpointState). brings_part c e.me input ≡ false) came.party.endpoint (came.begins c past runs known).3.1 in
       let parts = others_owe_no_part c (me_of old) past input outputs runs.holds.of_desk.point executed partless in
-      (parts.0, parts.1, parts.2, parts.3, moved c past runs known outputs at)
+      (parts.0, parts.1, parts.2, parts.3, parts.4, moved c past runs known outputs at)
 
   -- and may begin it
   begins_now : (a b : JoinedData) (x y : List Output) → BeginsView a x b y → Comes input old a x → MovesAt input old a.orderer.target → TakesInput input old touched.View b y

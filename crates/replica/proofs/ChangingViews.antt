@@ -1,7 +1,8 @@
 -- The replica's own view changes.
-use Rattle.std.proofs.Common.{◌≡◌, ◌≢◌, ℕ, zero, suc, ◌<◌, ◌≤◌, ◌+◌, ◌⊎◌, inl, inr, max, true, false, List, [], ◌∷◌, Option, Some, length, map, drop, get_or, Vec, option_map, IfSome, refl, sym, ap, ap₂, ◌∙◌, subst, arith}
+use Rattle.std.proofs.Common.{◌≡◌, ◌≢◌, ℕ, zero, suc, ◌<◌, ◌≤◌, ◌+◌, ◌⊎◌, inl, inr, max, true, false, List, [], ◌∷◌, Option, Some, None, length, map, drop, get_or, Vec, option_map, IfSome, refl, sym, ap, ap₂, ◌∙◌, subst, arith}
 use Rattle.std.specs.declared.alloc.Global.{Global}
 use Rattle.std.proofs.lemmas.Bool.{leb-false}
+use Rattle.std.proofs.lemmas.List.{append-nil}
 use mathlib.Core.List.{reverse_aux}
 use Rattle.wire.specs.Messages.{MessageData as Message, ViewChangeData, CheckpointEntryData as CheckpointEntry, view_change as ViewChange}
 use Rattle.wire.specs.Views.{view_change_data}
@@ -43,7 +44,8 @@ use Rattle.replica.specs.declared.waiting.WaitingRequest.{WaitingRequest}
 use Rattle.replica.specs.Waiting.{WaitingData}
 use Rattle.replica.specs.Desks.{given, changes_of, AreCallsOf, FitsEvent}
 use Rattle.replica.specs.Going.{IsVotedAll}
-use Rattle.replica.specs.Saying.{AreBelow, SaysLastAgain}
+use Rattle.replica.specs.Saying.{AreBelow, PostedFrame, PostsChange, SaysLastAlso}
+use Rattle.replica.proofs.PostedAgain.{frame_now}
 use Rattle.replica.proofs.Again.{never_said}
 use Rattle.replica.specs.Claiming.{MaySign, SaysFrame}
 use Rattle.replica.specs.Receiving.{Receives}
@@ -258,15 +260,23 @@ leaves_as view old signed later frame said before after one next own k is same s
 
 -- ---- it is said again
 
-pub no_change_again : (o : OrdererData) (outs : List Output) → SaysLastAgain false 0 o outs o outs
-no_change_again o outs = record { goes = λ inactive c s desk w known below f. f; same = refl }
+pub no_change_again : (o : OrdererData) (outs : List Output) → option_map (λ h. h.frame) (held_of o.received.held o.log.me) ≡ None → SaysLastAlso false 0 PostsChange o outs o outs
+no_change_again o outs none = (
+  record { goes = λ inactive c s desk w known below f. f; same = refl; more = []; given_is = sym (append-nil outs) },
+  λ held is. absurd (let bad : None ≡ Some held.frame = sym none ∙ ap (option_map (λ (h : HeldData). h.frame)) is in cc),
+)
 
 pub change_again : (o : OrdererData) (frame : List ℕ) (before after : List Output) → IsOrderer o → option_map (λ h. h.frame) (held_of o.received.held o.log.me) ≡ Some frame → SaysFrame o frame before after
-    → SaysLastAgain false 0 o before o after
-change_again o frame before after own has says = record {
-  goes = λ inactive c s desk w known below f. goes c s desk w known below inactive f;
-  same = refl;
-}
+    → SaysLastAlso false 0 PostsChange o before o after
+change_again o frame before after own has says = (
+  record {
+    goes = λ inactive c s desk w known below f. goes c s desk w known below inactive f;
+    same = refl;
+    more = says.output ∷ [];
+    given_is = says.given_is;
+  },
+  λ held is. subst (λ (b : List ℕ). PostedFrame o b after) (some_injective frame held.frame (sym has ∙ ap (option_map (λ (h : HeldData). h.frame)) is)) (frame_now o frame before after says),
+)
   where
     goes : (c : Configuration) (s : Start) (desk : Desk) (w : WaitingData) → members c ≡ o.endpoint.membership → AreBelow o.endpoint.me 0 (given o.endpoint.me before) → o.log.active ≡ false → FitsEvent c o.endpoint.me s o desk w [] before
         → FitsEvent c o.endpoint.me s o desk w [] after

@@ -36,7 +36,7 @@ use Rattle.view_change.specs.ClaimsView.{ClaimsData}
 use Rattle.replica.specs.State.{OrdererData, DeskData, JoinedData, AreOne}
 use Rattle.replica.specs.Checkpoints.{Follows, Settles, TakesCheckpoint, counting, said_entry}
 use Rattle.replica.specs.Desks.{given, FitsEvent, Stands, changes_of}
-use Rattle.replica.specs.Entering.{event_of, IsTakenBeside, Leaves, TakesBytes, TakesMessage}
+use Rattle.replica.specs.Entering.{event_of, IsTakenAlone, IsTakenBeside, Leaves, TakesBytes, TakesMessage}
 use Rattle.replica.specs.Fetching.{aimed_at, aiming}
 use Rattle.replica.specs.Joined.{Runs, me_of}
 use Rattle.replica.specs.Going.{CommitsNoMore, IsExecuted, IsOneParty, IsSameLog, IsVotedAll, Rests}
@@ -237,9 +237,14 @@ module _ (r : JoinedData) (one : AreOne r.orderer r.desk) (s : ℕ) (entry : Che
       party = party n true settles;
       begins = λ c past runs known. (
         subst (λ (due : List Message). Stands c (event_of c r past runs bytes) n.orderer n.desk due []) (none_for_stable runs.desk counted entry settles.0) (stands n true settles c past runs known),
-        (rests_on n true settles c past runs, subst (λ (k : OrdererData). IsTakenBeside c k.endpoint.me (event_of c r past runs bytes)) (sym (orderer_is n true settles)) (counts c past runs known)),
+        (rests_on n true settles c past runs, subst (λ (k : OrdererData). IsTakenAlone c k.endpoint.me (event_of c r past runs bytes)) (sym (orderer_is n true settles)) (alone c past runs known)),
       );
     }
+      where
+        alone : (c : Configuration) (past : List Entry) (runs : Runs c r past) → members c ≡ r.desk.membership → IsTakenAlone c (me_of r) (event_of c r past runs bytes)
+        alone c past runs known =
+            let t = counts c past runs known in
+            (t.0, λ outputs executed. others_owe_none c (me_of r) past (Got (me_of r) bytes) outputs runs.holds.of_desk.point executed t.1)
 
     -- Or they don't, and a state may be fetched.
     module _ (unstable : logs.is_stable counted entry ≡ false) where

@@ -7,24 +7,26 @@ use Rattle.events.specs.declared.output.Output.{Output}
 use Rattle.ordering.specs.Log as logs
 use Rattle.ordering.specs.Log.{LogData}
 use Rattle.ordering.specs.Keeping.{IsLog}
-use Rattle.protocol.specs.System.Configuration.{Configuration, members}
+use Rattle.protocol.specs.System.Configuration.{Configuration, is_number, members}
 use Rattle.protocol.specs.System.Trace.{Entry, Once}
 use Rattle.protocol.specs.System.Trace.Entry.{Sent}
 use Rattle.protocol.specs.Replica.State.{State, root_of}
-use Rattle.protocol.specs.Replica.RightReplica.{others}
-use Rattle.protocol.specs.Replica.Owed.{IsSaying}
+use Rattle.protocol.specs.Replica.RightReplica.{Point, MayCheckpoint, others}
+use Rattle.protocol.specs.Replica.Owed.{IsSaying, latest_checkpoint}
 use Rattle.protocol.proofs.Words.Options.{some_injective}
-use Rattle.replica_histories.specs.Desk.{Desk, desk_from, kept_from, snapshot_of}
+use Rattle.replica_histories.specs.Desk.{Desk, point_of, desk_from, kept_from, snapshot_of}
 use Rattle.replica_histories.specs.Events as events
 use Rattle.replica_histories.specs.Events.{Start, behind}
-use Rattle.replica_histories.specs.Changes.{CutsClaims, FitsChanges, KeepsChanges}
+use Rattle.replica_histories.specs.Changes.{CutsClaims, FitsChanges}
 use Rattle.replica_histories.specs.Marks.{cut_if_stable, checked_log}
 use Rattle.replica_histories.specs.Outputs.{checkpoint_due}
 use Rattle.replica_histories.proofs.Words.{passed, gated}
 use Rattle.replica_histories.proofs.Asking.{cuts_ask_no_more}
 use Rattle.replica_histories.proofs.Cutting.{cut_same}
-use Rattle.replica_histories.proofs.ChangesKept.{sent_keep}
-use Rattle.replica_histories.proofs.ChangesPassing.{claims_are_above}
+use Rattle.replica_histories.proofs.Ending.{steps_leave}
+use Rattle.replica_histories.proofs.OwnCheckpoints.{checkpoints_are_latest}
+use Rattle.replica_histories.proofs.ChangesKept.{checkpoints_are_noted}
+use Rattle.replica_histories.proofs.ChangesPassing.{claims_are_above, outputs_pass}
 use Rattle.replica_histories.proofs.Giving.{checkpoints_fit, kept_are_above}
 use Rattle.view_change.specs.ClaimsView.{ClaimsData}
 use Rattle.replica.specs.State.{OrdererData, DeskData, JoinedData, AreOne}
@@ -36,7 +38,7 @@ use Rattle.replica.specs.Keeping.{newest_with}
 use Rattle.replica.specs.Checkpoints.{IsDueKept, SaysCheckpoint, SaysDueCheckpoint, Settles}
 use Rattle.replica.specs.Saying.{Says}
 use Rattle.replica.proofs.Parties.{same_party}
-use Rattle.replica.proofs.Staying.{changes_cut, numbers_alike, numbers_beside, sent_beside}
+use Rattle.replica.proofs.Staying.{numbers_alike, numbers_beside, sent_beside}
 use Rattle.replica.proofs.Voting.{SaidIn, said_in}
 
 -- ---- what is due
@@ -121,7 +123,7 @@ same_checked log entry =
 
 module _ (c : Configuration) (s : Start) (o : OrdererData) (desk : Desk) (w : WaitingData) (entry : CheckpointEntry) (claims : ClaimsData) (before after : List Output) (known : members c ≡ o.endpoint.membership)
     (says : Says o (Checkpoint entry.number entry.digest) before after) (voted : IsVotedAll o.log) (f : FitsEvent c o.endpoint.me s o desk w (Checkpoint entry.number entry.digest ∷ []) before)
-    (cuts : CutsClaims o.log.low o.claims o.claims → CutsClaims (checked_log o.log o.log.me entry).low o.claims claims) where
+    (cuts : CutsClaims o.log.low o.claims o.claims → CutsClaims (checked_log o.log o.log.me entry).low o.claims claims) (here : entry.number ≡ desk.state.number) where
   abbrev me : ℕ
   me = o.endpoint.me
 
@@ -143,12 +145,20 @@ module _ (c : Configuration) (s : Start) (o : OrdererData) (desk : Desk) (w : Wa
       (numbers_beside c me w o desk past (Sent me said.bytes) f.fits.of_log.faults f.fits.of_log.own
       (sent_beside c me (Checkpoint entry.number entry.digest) (others c me) said.bytes past tt said.posted) f.numbers)
 
-  keeps : KeepsChanges c me past (Sent me said.bytes)
-  keeps = sent_keep c me past (Checkpoint entry.number entry.digest) said.bytes said.posted.says tt (λ signed. absurd cc)
+  -- it is the latest of the own
+  latest : latest_checkpoint c me (Sent me said.bytes ∷ past) ≡ Some entry
+  latest =
+      let point : Point = point_of desk f.fits.of_desk.states f.fits.of_desk.ran in
+      let may : MayCheckpoint c past point entry.number entry.digest × (is_number entry.number ≡ true) = f.fits.of_desk.rightly (Checkpoint entry.number entry.digest) (inl refl) in
+      checkpoints_are_latest c me past point entry said.bytes (steps_leave c me s (given me before) point f.fits.of_desk.leaves f.fits.of_desk.steps) may.0 here may.1 said.posted.says
 
   changing : FitsChanges c me (checking o entry claims).log (changes_of (checking o entry claims)) (Sent me said.bytes ∷ past)
-  changing = changes_cut c me s o (checking o entry claims) desk later (Checkpoint entry.number entry.digest ∷ []) [] (given me before) (Sent me said.bytes) f.fits fitting keeps (same_checked o.log entry)
-      (cuts (claims_are_above c me o.log past o.claims f.fits.of_log f.changes.claims)) refl f.changes
+  changing =
+      let same = same_checked o.log entry in
+      checkpoints_are_noted c me past o.log (checking o entry claims).log (changes_of o) claims entry said.bytes
+      (outputs_pass c me s desk later o.log (checking o entry claims).log (Checkpoint entry.number entry.digest ∷ []) [] (given me before) (Sent me said.bytes) f.fits fitting)
+      (record { view = same.view; active = same.active }) said.posted.says latest
+      (cuts (claims_are_above c me o.log past o.claims f.fits.of_log f.changes.claims)) f.changes
 
   says_due : FitsEvent c me s (checking o entry claims) later w [] after
   says_due = record {
@@ -240,7 +250,8 @@ module _ (a : JoinedData) (o : OrdererData) (n : JoinedData) (entry : Checkpoint
         };
         fits = subst (λ (m : ℕ). FitsEvent c m s (checking a.orderer entry n.orderer.claims) (desk_from (checking a.orderer entry n.orderer.claims).log.low st.desk) a.desk.waiting [] y) (sym one.0)
             (says_due c s a.orderer st.desk a.desk.waiting entry n.orderer.claims x y (known ∙ one.1) says.says voted
-            (subst (λ (m : ℕ). FitsEvent c m s a.orderer st.desk a.desk.waiting (Checkpoint entry.number entry.digest ∷ []) x) one.0 fits) claims_are);
+            (subst (λ (m : ℕ). FitsEvent c m s a.orderer st.desk a.desk.waiting (Checkpoint entry.number entry.digest ∷ []) x) one.0 fits) claims_are
+            (ap (λ (e : CheckpointEntry). e.number) due.is ∙ sym (ap (λ (st : State). st.number) st.is.state)));
       }))
     where
       fits : FitsEvent c a.desk.me s a.orderer st.desk a.desk.waiting (Checkpoint entry.number entry.digest ∷ []) x

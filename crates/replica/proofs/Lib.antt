@@ -6,6 +6,7 @@ pub mod Staying
 pub mod Rows
 pub mod Logging
 pub mod Voting
+pub mod PostedAgain
 pub mod Again
 pub mod Checkpointing
 pub mod KeptStates

@@ -22,6 +22,7 @@ use Rattle.protocol.specs.System.Trace.{Entry}
 use Rattle.protocol.specs.System.Trace.Entry.{Sent}
 use Rattle.protocol.specs.Replica.Certificates.{view}
 use Rattle.protocol.specs.Replica.Selection.{may_select}
+use Rattle.protocol.proofs.Words.Options.{some_injective}
 use Rattle.replica_histories.specs.Events.{behind}
 use Rattle.replica_histories.specs.Numbers.{is_pre_prepare}
 use Rattle.replica_histories.specs.Changes.{KeepsChanges, IsOwnView}
@@ -31,14 +32,15 @@ use Rattle.replica.specs.State.{OrdererData}
 use Rattle.replica.specs.Claiming.{MaySign, SaysFrame}
 use Rattle.replica.specs.Desks.{given}
 use Rattle.replica.specs.EnteringViews.{IsSelection, MaySignView, new_view_of}
-use Rattle.replica.specs.Saying.{SaysAgain}
+use Rattle.replica.specs.Saying.{PostedFrame, PostsNewView, SaysAlso}
+use Rattle.replica.proofs.PostedAgain.{frame_now}
 use Rattle.replica.proofs.Again.{nothing_again, never_said, one_below}
 use Rattle.replica.proofs.Given.{GivesOne, gives_one}
 use Rattle.replica.proofs.Parties.{same_log}
 use Rattle.replica.proofs.Staying.{IsBeside, fits_on}
 
-pub no_view_again : (o : OrdererData) (outs : List Output) → SaysAgain 0 1 o outs o outs
-no_view_again o outs = nothing_again 0 1 o outs (omega arith)
+pub no_view_again : (o : OrdererData) (outs : List Output) → o.new_view ≡ None → SaysAlso 0 1 PostsNewView o outs o outs
+no_view_again o outs none = (nothing_again 0 1 o outs (omega arith), λ frame is. absurd (let bad : None ≡ Some frame = sym none ∙ is in cc))
 
 -- a new view of the own view is taken no more
 module _ (c : Configuration) (me v : ℕ) (past : List Entry) (frame : List ℕ) (own : IsOwnView c me v past frame) (here : view c past ≡ v) where
@@ -48,27 +50,32 @@ module _ (c : Configuration) (me v : ℕ) (past : List Entry) (frame : List ℕ)
   is_beside : IsBeside c me past (Sent me frame)
   is_beside = record {
     here = refl;
-    none = keeps_all.none;
+    none = keeps_all.views.none;
     sends = ap (λ (o : Option Body). option_map_or (λ (b : Body). is_pre_prepare b.message) o false) own.posted.says;
   }
 
-pub view_again : (frame : List ℕ) (o : OrdererData) (before after : List Output) → o.new_view ≡ Some frame → SaysFrame o frame before after → SaysAgain 0 1 o before o after
-view_again frame o before after there says = record {
-  goes = λ active c s desk w known below f.
-      let me : ℕ = o.endpoint.me in
-      let past : List Entry = behind s (given me before) in
-      let own : IsOwnView c me o.log.view past frame = f.changes.own_view frame there in
-      let is : GivesOne c me before after (Sent me frame) =
-      gives_one c me before after says.output (Sent me frame) says.given_is says.sends.sends (says.sends.meant c (NewView own.new) known own.posted) in (
-        fits_on c me s o o desk w [] [] before after (Sent me frame) is
-            (is_beside c me o.log.view past frame own f.fits.of_log.view) (keeps_all c me o.log.view past frame own f.fits.of_log.view)
-            (same_log o.log) refl refl refl refl f
-            (new_views_go_again c me s desk o.log [] (given me before) own.new frame active own.view own.primary own.sent
-            (never_said me 0 (NewView own.new) (given me before) (λ l. absurd (omega (arith, l))) below) own.posted f.fits),
-        one_below me 0 1 (NewView own.new) frame (given me before) (given me after) is.is own.posted.says (omega arith) (omega arith) below,
-      );
-  same = refl;
-}
+pub view_again : (frame : List ℕ) (o : OrdererData) (before after : List Output) → o.new_view ≡ Some frame → SaysFrame o frame before after → SaysAlso 0 1 PostsNewView o before o after
+view_again frame o before after there says = (
+  record {
+    goes = λ active c s desk w known below f.
+        let me : ℕ = o.endpoint.me in
+        let past : List Entry = behind s (given me before) in
+        let own : IsOwnView c me o.log.view past frame = f.changes.own_view frame there in
+        let is : GivesOne c me before after (Sent me frame) =
+        gives_one c me before after says.output (Sent me frame) says.given_is says.sends.sends (says.sends.meant c (NewView own.new) known own.posted) in (
+          fits_on c me s o o desk w [] [] before after (Sent me frame) is
+              (is_beside c me o.log.view past frame own f.fits.of_log.view) (keeps_all c me o.log.view past frame own f.fits.of_log.view)
+              (same_log o.log) refl refl refl refl f
+              (new_views_go_again c me s desk o.log [] (given me before) own.new frame active own.view own.primary own.sent
+              (never_said me 0 (NewView own.new) (given me before) (λ l. absurd (omega (arith, l))) below) own.posted f.fits),
+          one_below me 0 1 (NewView own.new) frame (given me before) (given me after) is.is own.posted.says (omega arith) (omega arith) below,
+        );
+    same = refl;
+    more = says.output ∷ [];
+    given_is = says.given_is;
+  },
+  λ other is_it. subst (λ (b : List ℕ). PostedFrame o b after) (some_injective frame other (sym there ∙ is_it)) (frame_now o frame before after says),
+)
 
 -- ---- texts of batches
 

@@ -35,6 +35,7 @@ use Rattle.replica_histories.proofs.Counting.{others_drop}
 use Rattle.replica_histories.proofs.Entering.{inputs_fit}
 use Rattle.replica_histories.proofs.NewViews.{new_views_enter}
 use Rattle.replica_histories.proofs.Questions.{others_owe_none}
+use Rattle.replica_histories.proofs.ChangesMade.{not_mine}
 use Rattle.replica.specs.declared.taking.Touched.TheVariants as touched
 use Rattle.replica.specs.State.{JoinedData, AreOne, IsOrderer}
 use Rattle.replica.specs.Desks.{FitsEvent, Stands}
@@ -165,7 +166,7 @@ module _ (judge : NewViewsAreJudged) (decide : SizesDecide) (r : JoinedData) (on
     passes = inputs_enter c me runs.desk (desk_from (begun_log r.orderer.log new).low runs.desk) r.orderer.log (begun_log r.orderer.log new) (start_due runs.desk new) past e runs.holds begins_it
 
     taken_stands : Stands c (event_of c r past runs bytes) n.orderer n.desk [] outs
-    taken_stands = entered_stands c (event_of c r past runs bytes) r runs.desk new None [] past e sender one clients runs.is_desk refl tt begins_it passes t (hears c known) tt (omega arith, λ sent leaf is now. absurd now, λ leaf l. inl l) runs.said runs.changes n outs x
+    taken_stands = entered_stands c (event_of c r past runs bytes) r runs.desk new None [] past e sender one clients runs.is_desk refl tt begins_it passes t (hears c known) (not_mine c me past sender new bytes (hears c known) t) (omega arith, λ sent leaf is now. absurd now, λ leaf l. inl l) runs.said runs.changes n outs x
 
     taken_answered : IsTakenAnswered c n (event_of c r past runs bytes)
     taken_answered =
@@ -183,7 +184,7 @@ module _ (judge : NewViewsAreJudged) (decide : SizesDecide) (r : JoinedData) (on
         let t = right_taken judge c me sender past new bytes (hears c known) (judged c past runs known ∙ right) in (
           taken_stands clients n outs x c past runs known t,
           (
-            entered_votes c (event_of c r past runs bytes) r runs.desk new None [] past e sender one clients runs.is_desk refl tt (begins_it clients n outs x c past runs known t) (passes clients n outs x c past runs known t) t (hears c known) tt
+            entered_votes c (event_of c r past runs bytes) r runs.desk new None [] past e sender one clients runs.is_desk refl tt (begins_it clients n outs x c past runs known t) (passes clients n outs x c past runs known t) t (hears c known) (not_mine c me past sender new bytes (hears c known) t)
                 (omega arith, λ sent leaf is now. absurd now, λ leaf l. inl l) runs.said runs.changes n outs x,
             taken_answered clients n outs x c past runs known t,
           ),

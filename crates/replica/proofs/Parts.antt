@@ -28,7 +28,7 @@ use Rattle.replica_histories.specs.Changes.{IsNoChange}
 use Rattle.replica_histories.specs.Transfers.{FitsOpen, MayAsk, IsTold, RestsOn}
 use Rattle.replica_histories.proofs.Fetching.{digests_enter, pages_enter, asked_digests_count, asked_pages_count}
 use Rattle.replica_histories.proofs.PartsOwed.{fetches_suffice, other_digests_owe_none, other_pages_owe_none}
-use Rattle.replica_histories.proofs.Transfers.{digests_keep, digests_open, heard_valid}
+use Rattle.replica_histories.proofs.Transfers.{digests_keep, digests_open}
 use Rattle.replica_histories.proofs.TransfersInstalling.{digests_rest, pages_rest}
 use Rattle.replica.specs.declared.open_transfer.Taken.{Taken}
 use Rattle.replica.specs.declared.taking.Touched.TheVariants as touched
@@ -244,10 +244,9 @@ module _ (r : JoinedData) (one : AreOne r.orderer r.desk) (bytes : List ℕ) (se
   digests_dropped meta hears (same, others) silent =
       dropped (MetaMessage meta.number.0 meta.level meta.index meta.digests.items) hears (λ c. record { log = tt; call = refl; asks = λ st. refl; views = refl; changes = tt })
       (λ c past runs known.
-      let hears_so = heard_so r one c past runs bytes (record { sender = sender; message = MetaMessage meta.number.0 meta.level meta.index meta.digests.items }) known hears in
-      other_digests_owe_none c (me_of r) runs.desk r.orderer.log past sender meta.number.0 r.desk.executed.state.number (record { level = meta.level; index = meta.index }) meta.digests.items bytes [] runs.holds hears_so
-      (of_open c past runs (λ t. IsOther t meta.number.0 (record { level = meta.level; index = meta.index }) (digest_of_children meta.digests.items))
-      (λ o there. others o there (heard_valid c (me_of r) bytes (record { sender = sender; message = MetaMessage meta.number.0 meta.level meta.index meta.digests.items }) hears_so)))) same silent
+      other_digests_owe_none c (me_of r) runs.desk r.orderer.log past sender meta.number.0 r.desk.executed.state.number (record { level = meta.level; index = meta.index }) meta.digests.items bytes [] runs.holds
+      (heard_so r one c past runs bytes (record { sender = sender; message = MetaMessage meta.number.0 meta.level meta.index meta.digests.items }) known hears)
+      (of_open c past runs (λ t. IsOther t meta.number.0 (record { level = meta.level; index = meta.index }) (digest_of_children meta.digests.items)) others)) same silent
 
   pub page_dropped : (page : Page) → heard r.desk.membership r.desk.me bytes ≡ Some (record { sender = sender; message = PageMessage page.number.0 page.index page.text.items })
       → TakesPage r.desk page desk None → outs ≡ [] → TakesBytes bytes r touched.Nothing (record r { desk = desk }) outs

@@ -1,6 +1,6 @@
 -- Desk and orderer together hold of the whole history what a whole replica holds, and the other way round.
-use Rattle.std.proofs.Common.{◌≡◌, ℕ, ◌+◌, ◌*◌, ◌≤◌, ◌<◌, inl, inr, Bool, true, false, cond, List, [], ◌∷◌, length, refl, sym, ap, ◌∙◌, subst, arith, Option, Some, None, is_some}
-use Rattle.std.specs.Prelude.{nat_le, nat_lt, not, ◌&&◌, ◌^◌}
+use Rattle.std.proofs.Common.{◌≡◌, ℕ, ◌+◌, ◌*◌, ◌≤◌, ◌<◌, ◌⊎◌, inl, inr, Bool, true, false, cond, List, [], ◌∷◌, length, refl, sym, ap, ◌∙◌, subst, arith, Option, Some, None, is_some}
+use Rattle.std.specs.Prelude.{nat_le, nat_lt, slice_get, not, ◌&&◌, ◌^◌}
 use Rattle.sha2.specs.Sha256.{sha256}
 use Rattle.quorum.specs.Votes.{has_digest}
 use Rattle.quorum.proofs.Counting.{count_same}
@@ -22,7 +22,7 @@ use Rattle.view_change.specs.ReceivedData.{HeldData}
 use Rattle.replica_histories.specs.Logs.{FitsLog, IsVoted, above_mark}
 use Rattle.replica_histories.specs.Claims.{FitsClaims, WasLogged}
 use Rattle.replica_histories.specs.Received.{FitsReceived}
-use Rattle.replica_histories.specs.Changes.{Changes, FitsChanges}
+use Rattle.replica_histories.specs.Changes.{Changes, FitsChanges, IsBegunUpTo}
 use Rattle.replica_histories.specs.Events as histories
 use Rattle.replica_histories.specs.Numbers as numbers
 use Rattle.replica.specs.Idle.{IsIdle, IsQuiet, LeavesOut, CertifySame}
@@ -265,12 +265,19 @@ module _ (c : Configuration) (me : ℕ) (g h : List Entry) (p : LeavesOut c me g
     received = received_over x.held f.received;
     places = f.places;
     begun = λ new k same. f.begun new (taken_back new k) same;
+    begun_by = begun_over f.begun_by;
     own_change = λ a. let o = f.own_change a in record { own = o.own; held = o.held; view = o.view; sent = sent_over o.own.frame o.sent; posted = o.posted };
     own_view = λ frame is. let o = f.own_view frame is in record { new = o.new; view = o.view; primary = o.primary; sent = sent_over frame o.sent; posted = o.posted };
     own_latest = f.own_latest;
+    own_begins = f.own_begins;
+    latest = ap (λ (ms : List CheckpointEntry). slice_get ms 0) (words.checkpoints me) ∙ f.latest;
     leaves = λ sent leaf by k. f.leaves sent leaf by (leaf_back sent leaf by k);
     signed = λ leaf l. let s = f.signed leaf l in (s.0, s.1, sent_over s.0 s.2);
   }
+    where
+      begun_over : (x.begun ≡ 0) ⊎ IsBegunUpTo c log.view x.begun g → (x.begun ≡ 0) ⊎ IsBegunUpTo c log.view x.begun h
+      begun_over (inl none) = inl none
+      begun_over (inr (new, once, at, is)) = inr (new, taken_over new once, at, is)
 
   pub changes_back : (log : LogData) (x : Changes) → AreChanges x.held → FitsChanges c me log x h → FitsChanges c me log x g
   changes_back log x are f = record {
@@ -279,12 +286,19 @@ module _ (c : Configuration) (me : ℕ) (g h : List Entry) (p : LeavesOut c me g
     received = received_back x.held are f.received;
     places = f.places;
     begun = λ new k same. f.begun new (taken_over new k) same;
+    begun_by = begun_back f.begun_by;
     own_change = λ a. let o = f.own_change a in record { own = o.own; held = o.held; view = o.view; sent = sent_back (ViewChange o.own.change) o.own.frame (λ q. q) o.posted.says o.sent; posted = o.posted };
     own_view = λ frame is. let o = f.own_view frame is in record { new = o.new; view = o.view; primary = o.primary; sent = sent_back (NewView o.new) frame (λ q. q) o.posted.says o.sent; posted = o.posted };
     own_latest = f.own_latest;
+    own_begins = f.own_begins;
+    latest = sym (ap (λ (ms : List CheckpointEntry). slice_get ms 0) (words.checkpoints me)) ∙ f.latest;
     leaves = λ sent leaf by k. f.leaves sent leaf by (sent_over sent k);
     signed = λ leaf l. let s = f.signed leaf l in (s.0, s.1, leaf_back s.0 leaf s.1 s.2);
   }
+    where
+      begun_back : (x.begun ≡ 0) ⊎ IsBegunUpTo c log.view x.begun h → (x.begun ≡ 0) ⊎ IsBegunUpTo c log.view x.begun g
+      begun_back (inl none) = inl none
+      begun_back (inr (new, once, at, is)) = inr (new, taken_back new once, at, is)
 
   pub said_over : (last : Option CheckpointEntry) → WasSaid me last g → WasSaid me last h
   said_over last f entry is = once_over c me (λ past e. IsSaying me (Checkpoint entry.number entry.digest) e) (λ e g h p x. x) g h p (f entry is)

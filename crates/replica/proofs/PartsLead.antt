@@ -18,7 +18,8 @@ use Rattle.view_change.specs.ReceivedView.{ReceivedState, AreReceived, configura
 use Rattle.view_change.proofs.Opening.{signed_is}
 use Rattle.replica.specs.declared.replica.Event.{Event}
 use Rattle.replica.specs.declared.replica.Event.TheVariants as events
-use Rattle.replica.specs.State.{MemberData, OrdererData, DeskData, OrdererPart, DeskPart, IsOrdererPart, IsDeskPart, AreOne}
+use Rattle.replica.specs.Fits.{EventLeads}
+use Rattle.replica.specs.State.{MemberData, OrdererData, DeskData, OrdererPart, DeskPart, ReplicaData, IsOrdererPart, IsDeskPart, AreOne}
 use Rattle.replica.specs.Desking.{IsNewDesk}
 use Rattle.replica.specs.Taking.{IsNewOrderer}
 use Rattle.replica.specs.Inputs.{input_of}
@@ -164,6 +165,12 @@ together_one o d x y t are_o are_d o_is d_is = (
   one_period o d x y t o_is d_is,
 )
 
+-- ---- the replica of both
+
+pub replica_leads : (r : ReplicaData) (o : OrdererPart) (d : DeskPart) (event : Event) (outs : List Output) → d.member ≡ r.desk.member → BothLead r.orderer r.desk event outs o d → EventLeads r event outs (record { orderer = o; desk = d })
+replica_leads r o d event outs same leads c history fits =
+    subst (λ (m : MemberData). FitBoth c m.me o d (after_event r.desk.member.me (input_of r.desk.member.me event) outs history)) (sym same) (leads c r.desk.member.me history fits)
+
 -- ---- parts that are not together fit nothing
 
 same_members : (m n : MemberData) → m.me ≡ n.me → m.membership ≡ n.membership → m ≡ n
@@ -173,8 +180,8 @@ pub not_so : (b : Bool) → b ≡ false → IsTrue b → ⊥
 not_so true e h = absurd cc
 not_so false e h = absurd cc
 
-pub none_lead : (o : OrdererPart) (d : DeskPart) (event : Event) → is_none o.holds ≡ false → is_none d.holds ≡ false → (AreTogether o d → ⊥) → BothLead o d event [] o d
-none_lead o d event o_runs d_runs apart c me history (fits_desk, fits_orderer) = absurd (go o.holds d.holds refl refl o_runs d_runs)
+pub fit_none : (o : OrdererPart) (d : DeskPart) → is_none o.holds ≡ false → is_none d.holds ≡ false → (AreTogether o d → ⊥) → (c : Configuration) (me : ℕ) (history : List Entry) → FitBoth c me o d history → ⊥
+fit_none o d o_runs d_runs apart c me history (fits_desk, fits_orderer) = go o.holds d.holds refl refl o_runs d_runs
   where
     go : (a : Option OrdererData) (b : Option DeskData) → o.holds ≡ a → d.holds ≡ b → is_none a ≡ false → is_none b ≡ false → ⊥
     go None b a_is b_is h k = absurd cc

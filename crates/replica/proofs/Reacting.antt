@@ -161,8 +161,7 @@ module _ (input : Entry) (old : JoinedData) (one : AreOne old.orderer old.desk) 
   leads_waiting mid new x outs t n c past f =
       let runs = f.runs in
       let b = t.begins c past runs (known c past f) in
-      ends_numbered c past mid mid new x outs f runs t.party (same_party mid) n (omega arith) b.1.0 b.0
-      (beside_answered c (me_of mid) (event_with c old past runs input) mid.desk.executed.state.number b.1.1)
+      ends_numbered c past mid mid new x outs f runs t.party (same_party mid) n (omega arith) b.1.0 b.0 (b.1.1.0, λ outputs executed above. b.1.1.1 outputs executed)
 
   leads_row : (number : Number) (mid new : JoinedData) (x outs : List Output) → TakesInput input old (touched.Row number) mid x → FollowsUp (touched.Row number) mid x new outs → Leads old input outs new
   leads_row number mid new x outs t (voted, y, g, n) c past f =

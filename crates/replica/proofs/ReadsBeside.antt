@@ -21,7 +21,7 @@ use Rattle.protocol.specs.Replica.Transfers.{fetching}
 use Rattle.protocol.specs.Replica.Owed.{Owes, Proceeds, IsNumbered}
 use Rattle.protocol.proofs.Words.Moving.{no_reason}
 use Rattle.protocol.proofs.Words.Options.{some_injective}
-use Rattle.replica_histories.specs.Questions.{read_from, read_reply}
+use Rattle.replica_histories.specs.Questions.{read_from, read_reply, ordered_from}
 use Rattle.replica_histories.specs.TransfersQuorums.{QuorumsFetched}
 use Rattle.replica_histories.specs.Numbers.{KeepsNumbers}
 use Rattle.replica_histories.specs.Desk.{snapshot_of, point_of}
@@ -116,6 +116,7 @@ module _ (c : Configuration) (me : ℕ) (h : List Entry) (p : Point) (bytes answ
     replies = λ ran k. absurd k;
     checkpoints = λ k e multiple. absurd (no_execution k e);
     again = λ k t o kept other is at. let bad : false ≡ true = read_only (record { sender = 256 + k; message = Request t modes.Ordered o }) other in absurd cc;
+    says_again = λ waits. let bad : false ≡ true = read_only (ordered_from waits.0) waits.2 in absurd cc;
     reads = λ a t o other is. inl (same_answer a t o (sym hears ∙ other));
     fetched_digests = λ s k index level is other st kept. let bad : false ≡ true = read_only (record { sender = s; message = Fetch k level index }) other in absurd cc;
     fetched_page = λ s k index other st kept. let bad : false ≡ true = read_only (record { sender = s; message = Fetch k levels.Page index }) other in absurd cc;

@@ -17,7 +17,7 @@ use Rattle.protocol.specs.Replica.Certificates.{is_in_marks}
 use Rattle.protocol.specs.Replica.State.{Call, call_in}
 use Rattle.protocol.specs.Replica.RightReplica.{Point, with_waiting, waiting_after}
 use Rattle.protocol.specs.Replica.Owed.{Owes, Proceeds, IsNumbered}
-use Rattle.replica_histories.specs.Questions.{read_from}
+use Rattle.replica_histories.specs.Questions.{read_from, ordered_from}
 use Rattle.replica_histories.specs.TransfersQuorums.{QuorumsFetched}
 use Rattle.replica_histories.proofs.Resting.{Rests, rests}
 use Rattle.replica.specs.Idle.{IsIdle, CertifySame}
@@ -82,6 +82,7 @@ module _ (c : Configuration) (me : ℕ) (h : List Entry) (p : Point) (bytes : Li
     replies = λ ran k. absurd k;
     checkpoints = λ k e multiple. absurd e;
     again = λ k t o kept other is at. let bad : false ≡ true = reads (record { sender = 256 + k; message = Request t modes.Ordered o }) other in absurd cc;
+    says_again = λ waits. let bad : false ≡ true = reads (ordered_from waits.0) waits.2 in absurd cc;
     reads = λ a t o other is. absurd (never a t o other is);
     fetched_digests = λ s k index level is other st kept. let bad : false ≡ true = reads (record { sender = s; message = Fetch k level index }) other in absurd cc;
     fetched_page = λ s k index other st kept. let bad : false ≡ true = reads (record { sender = s; message = Fetch k levels.Page index }) other in absurd cc;

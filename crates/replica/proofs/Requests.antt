@@ -20,9 +20,10 @@ use Rattle.protocol.specs.System.Trace.{Entry, Has}
 use Rattle.protocol.specs.System.Trace.Entry.{Got}
 use Rattle.protocol.specs.Replica.Certificates.{taken, new_view_from}
 use Rattle.protocol.specs.Replica.State.{State, Call, call_in, call_of, kept_of, last_time}
-use Rattle.protocol.specs.Replica.RightReplica.{with_waiting}
+use Rattle.protocol.specs.Replica.RightReplica.{Point, with_waiting}
 use Rattle.protocol.specs.Replica.Owed.{IsNoOlder}
-use Rattle.replica_histories.specs.Questions.{brings_question, has_question}
+use Rattle.replica_histories.specs.Questions.{AnswersInput}
+use Rattle.replica_histories.specs.Resending.{AllGoes}
 use Rattle.replica_histories.specs.Desk.{Desk}
 use Rattle.replica_histories.specs.Logs.{FitsLog}
 use Rattle.replica_histories.specs.Events as histories
@@ -33,15 +34,19 @@ use Rattle.replica_histories.proofs.Entering.{inputs_fit}
 use Rattle.replica_histories.specs.Changes.{FitsChanges, Passes, IsNoBatch, IsNoChange}
 use Rattle.replica_histories.proofs.ChangesPassing.{inputs_enter}
 use Rattle.replica_histories.proofs.ChangesKept.{heard_keep, others_bring_none}
-use Rattle.replica_histories.proofs.Questions.{others_owe_none}
+use Rattle.replica_histories.proofs.Questions.{new_requests_owe_none}
+use Rattle.replica_histories.proofs.Resending.{resending_suffices, waiting_are_new}
+use Rattle.protocol.proofs.Words.Linking.{heard_said}
+use Rattle.protocol.proofs.Words.Reacting.{proceeds_leaves}
+use Rattle.protocol.proofs.Points.Invoking.{call_body}
 use Rattle.replica.specs.declared.waiting.WaitingRequest.{WaitingRequest}
 use Rattle.replica.specs.declared.taking.Touched.TheVariants as touched
 use Rattle.replica.specs.State.{OrdererData, DeskData, JoinedData, AreOne}
 use Rattle.replica.specs.Waiting.{WaitingData, frames_of, is_begun, is_of, request_of, with_request, without}
-use Rattle.replica.specs.Desks.{IsDeskOf, FitsWaiting, FitsEvent, Stands, given, changes_of}
+use Rattle.replica.specs.Desks.{IsCallOf, IsDeskOf, FitsWaiting, FitsEvent, Stands, given, changes_of}
 use Rattle.replica.specs.Desking.{HasReply, PaysAgain, Waits}
 use Rattle.replica.specs.Arriving.{IsBehind, IsPast, IsWaitingAlready, IsNewer}
-use Rattle.replica.specs.Saying.{AllAgain, GoesAgain}
+use Rattle.replica.specs.Saying.{AllAgain}
 use Rattle.replica.specs.Joined.{Runs, me_of}
 use Rattle.replica.specs.Entering.{event_of, Leaves, TakesBytes, TakesRequest}
 use Rattle.replica.proofs.Beginning.{rests, none_taken, changes_kept}
@@ -49,7 +54,8 @@ use Rattle.replica.proofs.GoingOn.{again_stands}
 use Rattle.replica.proofs.Parties.{one_self, same_log}
 use Rattle.replica.proofs.Flags.{flags_waiting}
 use Rattle.replica.proofs.Staying.{numbers_beside, said_on}
-use Rattle.replica.proofs.WaitingOn.{AreOlder, older, no_older, no_older_same, is_latest, seen_before, waits_before, latest, calls_replaced, differ_replaced, frames_replaced}
+use Rattle.replica.proofs.PostedAgain.{all_goes}
+use Rattle.replica.proofs.WaitingOn.{AreOlder, found_call, none_waits, older, no_older, no_older_same, is_latest, seen_before, waits_before, latest, calls_replaced, differ_replaced, frames_replaced}
 
 -- ---- what is heard
 
@@ -108,6 +114,11 @@ module _ (c : Configuration) (me : ℕ) (bytes : List ℕ) (k t : ℕ) (op : Ope
       here : (frame : List ℕ) → Has (λ x. x ≡ frame) desk.frames ⊎ (frame ≡ bytes) → Has (λ x. x ≡ frame) desk.frames ⊎ ((frame ≡ bytes) × (is_some (heard (members c) me bytes) ≡ true))
       here frame (inl x) = inl x
       here frame (inr x) = inr (x, ap is_some h)
+
+-- what is behind the request that waits isn't that one
+not_behind : (c : Configuration) (me : ℕ) (bytes : List ℕ) (k t : ℕ) (op : Operation) (r : WaitingRequest) → heard (members c) me bytes ≡ Some (body_of k t op) → IsCallOf c r (call_for k t op) → IsBehind r t bytes → ⊥
+not_behind c me bytes k t op r hears is (inl below) = let same = is.2 in omega (arith, below, same)
+not_behind c me bytes k t op r hears is (inr (same, other)) = other (call_body c r.frame.items (call_for k t op) is.0 ∙ sym (heard_said c me bytes (body_of k t op) hears))
 
 -- ---- a replica gets it
 
@@ -207,18 +218,36 @@ module _ (old : JoinedData) (client : ClientId) (timestamp : Timestamp) (bytes :
     unseen : last_time old.desk.executed.state k < t → last_time runs.desk.state k < t
     unseen lt = subst (λ (st : State). last_time st k < t) (sym state_is) lt
 
-    -- it is no part of a state, and asks for none
-    no_part : brings_question c (me_of old) input ≡ false
-    no_part = ap has_question h
+    abbrev point : Point
+    point = runs.holds.of_desk.point
+
+    -- it doesn't wait
+    abbrev IsFresh : Type 0
+    IsFresh = Has (λ x. x ≡ call_for k t op) runs.desk.waiting → ⊥
+
+    point_waits : point.waiting ≡ runs.desk.waiting
+    point_waits = ap (λ (p : Point). p.waiting) runs.holds.of_desk.is
+
+    -- then nothing goes again
+    owes_none : IsFresh → (outputs : List Entry) (executed : ℕ) → AnswersInput c (me_of old) past input outputs point executed
+    owes_none fresh outputs executed =
+        new_requests_owe_none c (me_of old) past input outputs point executed (call_for k t op) h (λ has. fresh (subst (λ (xs : List Call). Has (λ x. x ≡ call_for k t op) xs) point_waits has))
+
+    seen_fresh : t ≤ last_time old.desk.executed.state k → IsFresh
+    seen_fresh le has =
+        let above = waiting_are_new c (me_of old) past point (call_for k t op) (proceeds_leaves c (me_of old) past [] point point runs.holds.of_desk.proceeds)
+        (subst (λ (xs : List Call). Has (λ x. x ≡ call_for k t op) xs) (sym point_waits) has) in
+        let at : last_time point.state k ≡ last_time old.desk.executed.state k = ap (λ (st : State). last_time st k) (ap (λ (p : Point). p.state) runs.holds.of_desk.is ∙ state_is) in
+        omega (arith, above, at, le)
+
+    past_fresh : IsPast old.desk k t bytes → IsFresh
+    past_fresh (inl le) has = seen_fresh le has
+    past_fresh (inr (r, found, behind)) has =
+        not_behind c (me_of old) bytes k t op r h (found_call c k old.desk.waiting.requests runs.desk.waiting r (call_for k t op) runs.is_desk.waiting runs.is_desk.differ found has refl) behind
 
     -- where nothing is touched
-    leaves : (outs : List Output) → (outs ≡ []) ⊎ IsTaken c (me_of old) start → Leaves c start touched.Nothing old outs
-    leaves outs silent = (
-      rests c old past runs,
-      runs.all,
-      others_owe_none c (me_of old) past input (given (me_of old) outs) runs.holds.of_desk.point old.desk.executed.state.number no_part,
-      silent,
-    )
+    leaves : (outs : List Output) → AnswersInput c (me_of old) past input (given (me_of old) outs) point old.desk.executed.state.number → (outs ≡ []) ⊎ IsTaken c (me_of old) start → Leaves c start touched.Nothing old outs
+    leaves outs answered silent = (rests c old past runs, runs.all, answered, silent)
 
   -- ---- what is given for it
 
@@ -231,7 +260,8 @@ module _ (old : JoinedData) (client : ClientId) (timestamp : Timestamp) (bytes :
     party = one_self old;
     begins = λ c past runs known. (
       pays c (start c past runs known) old.orderer known (stands_seen c past runs known (seen_of_kept old.desk.executed.state k t kept has same)),
-      leaves c past runs known outs (inr (counts c past runs known (inl (kept, ap (λ (st : State). kept_of st k) (state_is c past runs known) ∙ has, same)))),
+      leaves c past runs known outs (owes_none c past runs known (seen_fresh c past runs known (seen_of_kept old.desk.executed.state k t kept has same)) (given (me_of old) outs) old.desk.executed.state.number)
+          (inr (counts c past runs known (inl (kept, ap (λ (st : State). kept_of st k) (state_is c past runs known) ∙ has, same)))),
     );
   }
 
@@ -242,24 +272,31 @@ module _ (old : JoinedData) (client : ClientId) (timestamp : Timestamp) (bytes :
     begins = λ c past runs known. (
       subst (λ (xs : List Output). Stands c (start c past runs known) old.orderer old.desk [] xs) (sym silent)
           (due_none old.desk c (start c past runs known) old.orderer [] none (stands_past c past runs known is)),
-      leaves c past runs known outs (inl silent),
+      leaves c past runs known outs (owes_none c past runs known (past_fresh c past runs known is) (given (me_of old) outs) old.desk.executed.state.number) (inl silent),
     );
   }
 
   -- what waits already makes the replica say again what it said
-  takes_again : (outs : List Output) → due ≡ [] → IsWaitingAlready old.desk k t bytes → GoesAgain 0 old.orderer [] old.orderer outs → TakesBytes bytes old touched.Nothing old outs
+  takes_again : (outs : List Output) → due ≡ [] → IsWaitingAlready old.desk k t bytes → AllAgain old [] old outs → TakesBytes bytes old touched.Nothing old outs
   takes_again outs none (lt, r, found, same, says) again = record {
     party = one_self old;
     begins = λ c past runs known. (
-      again_stands old outs one again c (start c past runs known) known
+      again_stands old outs one again.goes c (start c past runs known) known
           (due_none old.desk c (start c past runs known) old.orderer [] none (stands_waiting c past runs known r found (omega (arith, same)))),
-      leaves c past runs known outs (inr (counts c past runs known (inr (
+      leaves c past runs known outs (given_again c past runs known) (inr (counts c past runs known (inr (
         unseen c past runs known lt,
         no_older_same c k t op old.desk.waiting.requests runs.desk.waiting r runs.is_desk.waiting runs.is_desk.differ found
             (ap (option_and_then (call_in c)) says ∙ call_of_bytes c (me_of old) bytes k t op (h c past runs known)),
       )))),
     );
   }
+    where
+      given_again : (c : Configuration) (past : List Entry) (runs : Runs c old past) (known : members c ≡ old.desk.membership)
+          → AnswersInput c (me_of old) past (Got (me_of old) bytes) (given (me_of old) outs) runs.holds.of_desk.point old.desk.executed.state.number
+      given_again c past runs known =
+          resending_suffices c (me_of old) runs.desk old.orderer.log past (Got (me_of old) bytes) (given (me_of old) outs) (changes_of old.orderer) (call_for k t op) old.desk.executed.state.number runs.holds runs.changes (h c past runs known)
+          (subst (λ (st : State). AllGoes (me_of old) old.orderer.log (changes_of old.orderer) st.number (given (me_of old) outs)) (sym (state_is c past runs known))
+          (all_goes c old.orderer outs (known ∙ one.1) runs.holds.of_log.fits.own old.desk.executed.state.number again.active again.inactive))
 
   -- what is newer waits
   module _ (outs : List Output) (desk : DeskData) (none : due ≡ []) (silent : outs ≡ []) (newer : IsNewer old.desk k t) (waits : Waits client timestamp bytes old.desk desk) where
@@ -337,7 +374,7 @@ module _ (old : JoinedData) (client : ClientId) (timestamp : Timestamp) (bytes :
               unseen c past runs known newer.0,
               no_older c k t op old.desk.waiting.requests runs.desk.waiting runs.is_desk.waiting (are_older c past runs known),
             )),
-            no_part c past runs known,
+            owes_none c past runs known (λ has. none_waits c k t op old.desk.waiting.requests runs.desk.waiting runs.is_desk.waiting (are_older c past runs known) has),
           ),
         ),
       );
@@ -348,9 +385,11 @@ module _ (old : JoinedData) (client : ClientId) (timestamp : Timestamp) (bytes :
 
 -- ---- what a request does
 
--- what was said again by the same orderer
-pub all_again : (before new : JoinedData) (x y : List Output) → AllAgain before x new y → x ≡ [] → GoesAgain 0 before.orderer [] before.orderer y
-all_again before new x y says first = subst (λ (xs : List Output). GoesAgain 0 before.orderer xs before.orderer y) first says.1
+-- what was said again by the same replica, from the first output on
+pub all_again : (before old new : JoinedData) (x y : List Output) → before ≡ old → AllAgain before x new y → x ≡ [] → AllAgain old [] old y
+all_again before old new x y same says first =
+    let own : AllAgain old [] new y = subst (λ (xs : List Output). AllAgain old xs new y) first (subst (λ (r : JoinedData). AllAgain r x new y) same says) in
+    subst (λ (r : JoinedData). AllAgain old [] r y) own.same own
 
 abbrev Silent : JoinedData → ClientId → Timestamp → Type 0
 Silent old client timestamp = again_for client.number timestamp.0 (kept_of old.desk.executed.state client.number) ≡ []
@@ -366,7 +405,7 @@ request_past old client timestamp bytes new outs one same none silent is op hear
     subst (λ (r : JoinedData). TakesBytes bytes old touched.Nothing r outs) (sym same) (takes_past old client timestamp bytes one op hears outs none silent is)
 
 pub request_again : (old : JoinedData) (client : ClientId) (timestamp : Timestamp) (bytes : List ℕ) (new : JoinedData) (outs : List Output) → AreOne old.orderer old.desk → new ≡ old
-    → Silent old client timestamp → IsWaitingAlready old.desk client.number timestamp.0 bytes → GoesAgain 0 old.orderer [] old.orderer outs → TakesRequest client timestamp bytes old touched.Nothing new outs
+    → Silent old client timestamp → IsWaitingAlready old.desk client.number timestamp.0 bytes → AllAgain old [] old outs → TakesRequest client timestamp bytes old touched.Nothing new outs
 request_again old client timestamp bytes new outs one same none is says op hears =
     subst (λ (r : JoinedData). TakesBytes bytes old touched.Nothing r outs) (sym same) (takes_again old client timestamp bytes one op hears outs none is says)
 

@@ -167,7 +167,7 @@ module _ (r : JoinedData) (one : AreOne r.orderer r.desk) where
 
     -- what a tick asks for
     answers : (outputs : List Entry) (executed : ℕ) → MovesOn c me past tick outputs point → AnswersInput c me past tick outputs point executed
-    answers outputs executed moves = let parts = others_owe_no_part c me past tick outputs point executed refl in (parts.0, parts.1, parts.2, parts.3, moves)
+    answers outputs executed moves = let parts = others_owe_no_part c me past tick outputs point executed refl in (parts.0, parts.1, parts.2, parts.3, parts.4, moves)
 
     -- where nothing more is to be done
     leaves : (new : JoinedData) (outs : List Output) → Rests new → IsAllNumbered new

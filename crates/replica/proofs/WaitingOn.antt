@@ -12,7 +12,7 @@ use Rattle.protocol.specs.System.Trace.{Has}
 use Rattle.protocol.specs.Replica.State.{State, Call, call_of, last_time}
 use Rattle.protocol.specs.Replica.RightReplica.{is_newer}
 use Rattle.protocol.specs.Replica.Owed.{IsNoOlder}
-use Rattle.protocol.proofs.Words.Elements.{has_either, has_filter, has_map, has_mapped, each_weaker, each_with, all_of_each}
+use Rattle.protocol.proofs.Words.Elements.{has_either, has_filter, has_map, has_mapped, each_has, each_weaker, each_with, all_of_each}
 use Rattle.replica.specs.declared.waiting.WaitingRequest.{WaitingRequest}
 use Rattle.replica.specs.Waiting.{is_of, texts}
 use Rattle.replica.specs.Desks.{IsCallOf, AreCallsOf, AreOfDifferentClients}
@@ -93,6 +93,28 @@ calls_older c k t [] [] h o = tt
 calls_older c k t [] (x ∷ calls) h o = absurd h
 calls_older c k t (r ∷ rs) [] h o = absurd h
 calls_older c k t (r ∷ rs) (x ∷ calls) h o = (λ same. subst (λ (n : ℕ). n < t) (sym h.0.2) (o.0 (sym h.0.1 ∙ same)), calls_older c k t rs calls h.1 o.1)
+
+-- of a client the found request's call alone waits
+pub found_call : (c : Configuration) (k : ℕ) (rs : List WaitingRequest) (calls : List Call) (r : WaitingRequest) (call : Call) → AreCallsOf c rs calls → AreOfDifferentClients rs → find (is_of k) rs ≡ Some r
+    → Has (λ x. x ≡ call) calls → call.client ≡ k → IsCallOf c r call
+found_call c k [] [] r call h d f has at = absurd has
+found_call c k [] (x ∷ calls) r call h d f has at = absurd h
+found_call c k (y ∷ ys) [] r call h d f has at = absurd h
+found_call c k (y ∷ ys) (x ∷ calls) r call h d f has at = go (y.client.number == k) refl f has (λ g more. found_call c k ys calls r call h.1 (rest_differs Differ y ys d) g more at)
+  where
+    go : (b : Bool) → (y.client.number == k) ≡ b → cond b (Some y) (find (is_of k) ys) ≡ Some r → (x ≡ call) ⊎ Has (λ z. z ≡ call) calls → (find (is_of k) ys ≡ Some r → Has (λ z. z ≡ call) calls → IsCallOf c r call) → IsCallOf c r call
+    go true e g (inl same) rest = subst (λ (z : Call). IsCallOf c r z) same (subst (λ (z : WaitingRequest). IsCallOf c z x) (same_of y r g) h.0)
+    go true e g (inr more) rest =
+        absurd (each_has (λ (z : Call). z.client ≢ k) calls call (calls_of_others c k ys calls h.1 (others k y ys (eqb-true y.client.number k e) (first_differs Differ y ys d))) more at)
+    go false e g (inl same) rest = absurd (eqb-false y.client.number k e (sym h.0.1 ∙ ap (λ (z : Call). z.client) same ∙ at))
+    go false e g (inr more) rest = rest g more
+
+-- where all are older, none of the timestamp waits
+pub none_waits : (c : Configuration) (k t : ℕ) (op : Operation) (rs : List WaitingRequest) (calls : List Call) → AreCallsOf c rs calls → AreOlder k t rs
+    → Has (λ x. x ≡ record { client = k; timestamp = t; op = op }) calls → ⊥
+none_waits c k t op rs calls h o has =
+    let less = each_has (λ (x : Call). (x.client ≡ k) → x.timestamp < t) calls (record { client = k; timestamp = t; op = op }) (calls_older c k t rs calls h o) has refl in
+    omega (arith, less)
 
 -- the call is another client's, or older, or this one
 abbrev MayWait : ℕ → ℕ → Operation → Call → Type 0

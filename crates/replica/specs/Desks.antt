@@ -71,6 +71,7 @@ changes_of o = record {
   new_view = o.new_view;
   claims = o.claims;
   held = o.received.held;
+  last_checkpoint = o.last_checkpoint;
   spent = o.spent;
 }
 

@@ -41,6 +41,11 @@ IsAnswered c me s number =
     (outputs : List Entry) (executed : ℕ) → number ≤ executed
     → AnswersInput c me s.before s.input outputs s.old executed
 
+-- a rule takes the input, and what it wants is given, whatever the event gives
+abbrev pub IsTakenAlone : Configuration → ℕ → Start → Type 0
+IsTakenAlone c me s = IsTaken c me s
+    × ((outputs : List Entry) (executed : ℕ) → AnswersInput c me s.before s.input outputs s.old executed)
+
 -- A rule takes the input, and what it wants is given wherever the target is the replica's.
 abbrev pub IsTakenAnswered : Configuration → JoinedData → Start → Type 0
 IsTakenAnswered c r s = IsTaken c (me_of r) s
@@ -54,7 +59,7 @@ abbrev pub Leaves : Configuration → Start → Touched → JoinedData → List 
 Leaves c s touched.Nothing r outs = Rests r × IsAllNumbered r
     × AnswersInput c (me_of r) s.before s.input (given (me_of r) outs) s.old r.desk.executed.state.number
     × ((outs ≡ []) ⊎ IsTaken c (me_of r) s)
-Leaves c s touched.Waiting r outs = Rests r × IsTakenBeside c (me_of r) s
+Leaves c s touched.Waiting r outs = Rests r × IsTakenAlone c (me_of r) s
 Leaves c s (touched.Row number) r outs = IsVotedBut number.0 r.orderer.log × IsTakenBeside c (me_of r) s
 Leaves c s touched.State r outs = IsVotedAll r.orderer.log × IsTaken c (me_of r) s
     × IsAnswered c (me_of r) s r.desk.executed.state.number

@@ -68,6 +68,17 @@ pub record FitsOrderer (c : Configuration) (me : ℕ) (o : OrdererPart) (orderin
 abbrev pub FitBoth : Configuration → ℕ → OrdererPart → DeskPart → List Entry → Type 0
 FitBoth c me o d history = FitsDesk c me d history × FitsOrderer c me o (without_reads history)
 
+-- ---- which parts go together
+
+-- Both are of one replica, with checkpoints as often, and neither has stopped.
+pub record AreTogether (o : OrdererPart) (d : DeskPart) : Type 0 where
+  pub member : o.member ≡ d.member
+  pub orderer : OrdererData
+  pub desk : DeskData
+  pub orders : o.holds ≡ Some orderer
+  pub answers : d.holds ≡ Some desk
+  pub period : orderer.received.sizes.period ≡ desk.period
+
 -- ---- what a call leads to
 
 -- Whatever history both fit, they fit that behind the event then.
@@ -105,15 +116,6 @@ OrdererStops o stopped =
     → FitsOrderer c me stopped other
 
 -- ---- of private functions
-
--- both are of one replica, and neither has stopped
-pub record AreTogether (o : OrdererPart) (d : DeskPart) : Type 0 where
-  pub member : o.member ≡ d.member
-  pub orderer : OrdererData
-  pub desk : DeskData
-  pub orders : o.holds ≡ Some orderer
-  pub answers : d.holds ≡ Some desk
-  pub period : orderer.received.sizes.period ≡ desk.period
 
 -- what they give in an event when they are joined
 pub record Reacts (o : OrdererData) (d : DeskData) (event : Event) (outs : List Output) (later_o : OrdererData)

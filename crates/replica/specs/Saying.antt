@@ -1,16 +1,19 @@
 -- What an orderer says to the other replicas.
-use Rattle.std.specs.Prelude.{◌≡◌, ◌≢◌, ℕ, ◌+◌, ◌*◌, ◌<◌, Bool, true, List, [], ◌∷◌, ◌++◌, length, None}
-use Rattle.wire.specs.Messages.{MessageData as Message, pre_prepare as PrePrepare, prepare as Prepare, commit as Commit, new_view as NewView}
+use Rattle.std.specs.Prelude.{◌≡◌, ◌≢◌, ℕ, ◌+◌, ◌*◌, ◌≤◌, ◌<◌, Bool, true, false, List, [], ◌∷◌, ◌++◌, length, Some, None}
+use Rattle.wire.specs.Messages.{MessageData as Message, CheckpointEntryData as CheckpointEntry, pre_prepare as PrePrepare, prepare as Prepare, commit as Commit, checkpoint as Checkpoint, new_view as NewView}
 use Rattle.wire.specs.Lists.{Each}
 use Rattle.wire.specs.Words.{requests_of}
 use Rattle.events.specs.declared.output.Output.{Output}
+use Rattle.events.specs.Outputs.{entry_of}
 use Rattle.posting.specs.Endpoint.{PostsToOthers}
 use Rattle.ordering.specs.Log as logs
 use Rattle.ordering.specs.Log.{with_batch, with_prepare, with_commit}
 use Rattle.ordering.specs.declared.votes.Vote.{Vote}
 use Rattle.protocol.specs.System.Configuration.{Configuration, members}
-use Rattle.protocol.specs.System.Trace.{Entry}
+use Rattle.protocol.specs.System.Trace.{Entry, Has}
+use Rattle.protocol.specs.System.Trace.Entry.{Sent}
 use Rattle.protocol.specs.Replica.Owed.{IsSaying}
+use Rattle.view_change.specs.ReceivedData.{HeldData, held_of}
 use Rattle.replica_histories.specs.Desk.{Desk}
 use Rattle.replica_histories.specs.Events.{Start, behind}
 use Rattle.replica_histories.specs.Outputs.{MayNumber}
@@ -94,6 +97,8 @@ pub record SaysAgain (first end : ℕ) (old : OrdererData) (before : List Output
       → FitsEvent c old.endpoint.me s old desk w [] before
       → FitsEvent c old.endpoint.me s new desk w [] after × AreBelow old.endpoint.me end (given old.endpoint.me after)
   pub same : new ≡ old
+  pub more : List Output
+  pub given_is : after ≡ before ++ more
 
 -- What fits what was said so far, which comes before the place, fits what was said since. Nothing else is due.
 abbrev pub GoesAgain : ℕ → OrdererData → List Output → OrdererData → List Output → Type 0
@@ -107,11 +112,73 @@ pub record SaysLastAgain (active : Bool) (place : ℕ) (old : OrdererData) (befo
     (after : List Output) : Type 0 where
   pub goes : old.log.active ≡ active → GoesAgain place old before new after
   pub same : new ≡ old
+  pub more : List Output
+  pub given_is : after ≡ before ++ more
 
--- All that is to be said again by a replica that waits for a request: the parts go on where it is the orderer's alone.
-abbrev pub AllAgain : JoinedData → List Output → JoinedData → List Output → Type 0
-AllAgain old before new after =
-    (new ≡ old) × GoesAgain 0 old.orderer before old.orderer after
+-- And this holds of all that is given then.
+abbrev pub SaysAlso :
+    ℕ → ℕ → (OrdererData → List Output → Type 0) → OrdererData → List Output → OrdererData → List Output → Type 0
+SaysAlso first end P old before new after = SaysAgain first end old before new after × P old after
+
+abbrev pub SaysLastAlso :
+    Bool → ℕ → (OrdererData → List Output → Type 0) → OrdererData → List Output → OrdererData → List Output → Type 0
+SaysLastAlso active place P old before new after = SaysLastAgain active place old before new after × P old after
+
+-- the message is posted to the other replicas among the outputs, or this very frame is
+abbrev pub Posted : OrdererData → Message → List Output → Type 0
+Posted o message outs = Has (λ output. PostsToOthers o.endpoint message output) outs
+
+abbrev pub PostedFrame : OrdererData → List ℕ → List Output → Type 0
+PostedFrame o frame outs = Has (λ output. entry_of o.endpoint.me output ≡ Sent o.endpoint.me frame) outs
+
+-- the primary's batch of a number is posted, if it is above those of the new view
+abbrev pub PostsBatch : ℕ → OrdererData → List Output → Type 0
+PostsBatch number o outs =
+    (text : List ℕ) → o.log.me ≡ logs.primary o.log o.log.view → o.begun < number
+    → logs.logged_batch o.log number ≡ Some text → Posted o (PrePrepare o.log.view number text) outs
+
+-- so is the own prepare, or commit, that the log has
+abbrev pub PostsPrepare : ℕ → OrdererData → List Output → Type 0
+PostsPrepare number o outs =
+    (digest : List ℕ) → logs.prepare_of o.log number o.log.me ≡ Some digest
+    → Posted o (Prepare o.log.view number digest) outs
+
+abbrev pub PostsCommit : ℕ → OrdererData → List Output → Type 0
+PostsCommit number o outs =
+    (digest : List ℕ) → logs.commit_of o.log number o.log.me ≡ Some digest
+    → Posted o (Commit o.log.view number digest) outs
+
+-- all three of a number
+abbrev pub PostsRow : ℕ → OrdererData → List Output → Type 0
+PostsRow number o outs = PostsBatch number o outs × PostsPrepare number o outs × PostsCommit number o outs
+
+-- the own new view, the last checkpoint, and the own view change
+abbrev pub PostsNewView : OrdererData → List Output → Type 0
+PostsNewView o outs = (frame : List ℕ) → o.new_view ≡ Some frame → PostedFrame o frame outs
+
+abbrev pub PostsCheckpoint : OrdererData → List Output → Type 0
+PostsCheckpoint o outs =
+    (entry : CheckpointEntry) → o.last_checkpoint ≡ Some entry → Posted o (Checkpoint entry.number entry.digest) outs
+
+abbrev pub PostsChange : OrdererData → List Output → Type 0
+PostsChange o outs =
+    (held : HeldData) → held_of o.received.held o.log.me ≡ Some held → PostedFrame o held.frame outs
+
+-- all that an active replica says again: of the numbers above the executed one, up to the end of the marks
+pub record PostsAll (executed : ℕ) (o : OrdererData) (outs : List Output) : Type 0 where
+  pub new_view : PostsNewView o outs
+  pub rows : (i : ℕ) → executed < i → i ≤ o.log.low + o.log.span → PostsRow i o outs
+  pub checkpoint : PostsCheckpoint o outs
+
+-- A replica that waits for a request says all again while it is active, and else its view change. The parts go on where
+-- it is the orderer's alone.
+pub record AllAgain (old : JoinedData) (before : List Output) (new : JoinedData) (after : List Output) : Type 0 where
+  pub same : new ≡ old
+  pub goes : GoesAgain 0 old.orderer before old.orderer after
+  pub active : old.orderer.log.active ≡ true → PostsAll old.desk.executed.state.number old.orderer after
+  pub inactive : old.orderer.log.active ≡ false → PostsChange old.orderer after
+
+-- ---- a batch
 
 -- The primary's own batch of this text is said. Where it may be numbered, and is of the oldest requests without a number,
 -- these have it then.

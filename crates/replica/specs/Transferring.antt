@@ -23,18 +23,20 @@ moved o entry = record o { transfer = moved_to o.transfer entry.number entry.dig
 
 -- ---- parts
 
+-- Digests that a message may say: those of 32 children, below the root or an inner part.
+abbrev pub MayBeSaid : Meta → Type 0
+MayBeSaid meta = IsMessage (MetaMessage meta.number.0 meta.level meta.index meta.digests.items)
+
 -- digests, or a page, that the transfer doesn't await
 abbrev pub AreOtherDigests : OpenData → Meta → Type 0
 AreOtherDigests o meta =
-    IsMessage (MetaMessage meta.number.0 meta.level meta.index meta.digests.items)
-    → IsOther o.transfer meta.number.0 (record { level = meta.level; index = meta.index })
+    IsOther o.transfer meta.number.0 (record { level = meta.level; index = meta.index })
     (digest_of_children meta.digests.items)
 
 abbrev pub IsOtherPage : OpenData → Page → Type 0
 IsOtherPage o page = IsOther o.transfer page.number.0 (page_place page.index) (sha256 page.text.items)
 
--- Digests are taken that have the wanted digest at the place that was asked for last, and no others. They are those of a
--- message that may be said.
+-- Digests are taken that have the wanted digest at the place that was asked for last, and no others.
 abbrev pub TakesDigestsOf : OpenData → Meta → OpenData → Bool → Type 0
 TakesDigestsOf old meta new true =
     (meta.number.0 ≡ old.transfer.number) × (old.transfer.asked ≡ record { level = meta.level; index = meta.index })

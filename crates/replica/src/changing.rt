@@ -6,7 +6,7 @@ ghost use Rattle.ordering.specs.Log.{left};
 ghost use Rattle.replica_histories.specs.Views.{entries_of};
 ghost use Rattle.replica.specs.Changing.{ChangesView, IsDue, IsNotDue, IsNextView, MaySignChange, aimed_view, is_ascending};
 ghost use Rattle.replica.specs.Entering.{TakesTick};
-ghost use Rattle.replica.specs.Saying.{SaysLastAgain};
+ghost use Rattle.replica.specs.Saying.{PostsChange, SaysLastAlso};
 
 use crate::desk::Desk;
 use crate::joined::Joined;
@@ -165,8 +165,8 @@ impl Orderer {
         alloc: Global,
         outputs: &mut Outputs,
     ) -> Result<(), Stop>
-        ensures ok { OnOk result
-            (SaysLastAgain false 0 self.old outputs.old.items self.new outputs.new.items) }
+        ensures ok { OnOk result (SaysLastAlso false 0 PostsChange self.old outputs.old.items self.new
+            outputs.new.items) }
         ensures same { self.new ≡ self.old }
     {
         let this = &*self;

@@ -6,6 +6,7 @@ ghost use Rattle.wire.specs.Spelling.{IsMessage, is_signed, last_index};
 ghost use Rattle.posting.specs.Endpoint.{FitsFrame};
 ghost use Rattle.state_transfer.specs.Places.{IsPlace};
 ghost use Rattle.replica.specs.Fetching.{AimsAt, AsksPart, GivesBack, GivesPart, HasPart, Installs, IsAskedFor, TakesDigests, TakesPage, aimed_at, closing_reached};
+ghost use Rattle.replica.specs.Transferring.{MayBeSaid};
 
 use crate::desk::Desk;
 use crate::open_transfer::{OpenTransfer, Taken};
@@ -114,6 +115,7 @@ impl Desk {
 
     /// Takes the digests below a place, if they are asked for. Returns whether. Takes no memory.
     pub(crate) fn take_digests(&mut self, meta: &Meta) -> bool
+        requires { MayBeSaid meta.now }
         ensures { TakesDigests self.old meta.now self.new result }
     {
         match &mut self.transfer {

@@ -6,7 +6,7 @@ ghost use Rattle.wire.specs.Views.{checkpoint_entry_data};
 ghost use Rattle.ordering.specs.Log.{count_checkpoints};
 ghost use Rattle.replica.specs.Claiming.{CutsLog};
 ghost use Rattle.replica.specs.Checkpoints.{SaysCheckpoint, TakesCheckpoint, said_entry};
-ghost use Rattle.replica.specs.Saying.{Says, SaysLastAgain};
+ghost use Rattle.replica.specs.Saying.{PostsCheckpoint, Says, SaysLastAlso};
 
 use crate::orderer::Orderer;
 use events::{Outputs, Stop};
@@ -56,8 +56,8 @@ impl Orderer {
         alloc: Global,
         outputs: &mut Outputs,
     ) -> Result<(), Stop>
-        ensures ok { OnOk result
-            ((place : ℕ) → SaysLastAgain true place self.old outputs.old.items self.new outputs.new.items) }
+        ensures ok { OnOk result ((place : ℕ) → SaysLastAlso true place PostsCheckpoint self.old
+            outputs.old.items self.new outputs.new.items) }
         ensures same { self.new ≡ self.old }
     {
         match self.last_checkpoint {

@@ -11,7 +11,7 @@ ghost use Rattle.view_change.specs.Sets.{texts_of};
 ghost use Rattle.replica.specs.Beginning.{MayBegin};
 ghost use Rattle.replica.specs.Entering.{TakesMessage};
 ghost use Rattle.replica.specs.EnteringViews.{IsSelection, MaySignView, new_view_of};
-ghost use Rattle.replica.specs.Saying.{SaysAgain};
+ghost use Rattle.replica.specs.Saying.{PostsNewView, SaysAlso};
 
 use crate::joined::Joined;
 use crate::orderer::Orderer;
@@ -134,8 +134,8 @@ impl Orderer {
         alloc: Global,
         outputs: &mut Outputs,
     ) -> Result<(), Stop>
-        ensures ok { OnOk result
-            (SaysAgain 0 1 self.old outputs.old.items self.new outputs.new.items) }
+        ensures ok { OnOk result (SaysAlso 0 1 PostsNewView self.old outputs.old.items self.new
+            outputs.new.items) }
         ensures same { self.new ≡ self.old }
     {
         let own = &*self;

@@ -5,7 +5,7 @@ ghost use Rattle.wire.specs.Views.{checkpoint_entry_data};
 ghost use Rattle.partition_tree.specs.Digests.{root_of};
 ghost use Rattle.state_transfer.specs.Places.{IsPlace};
 ghost use Rattle.execution.specs.Installing.{HasPagesAt, NoneFalls, NoneReplaces};
-ghost use Rattle.replica.specs.Transferring.{AsksPlace, IsRestedAt, TakesDigestsOf, TakesPageOf, is_given_back, moved, started};
+ghost use Rattle.replica.specs.Transferring.{AsksPlace, IsRestedAt, MayBeSaid, TakesDigestsOf, TakesPageOf, is_given_back, moved, started};
 
 use execution::Executed;
 use state_transfer::{PartFault, Place, Replaced, Transfer};
@@ -85,11 +85,12 @@ impl OpenTransfer {
 
     /// Takes the digests below a place, if they are the ones asked for. Returns whether. Takes no memory.
     pub(crate) fn take_digests(&mut self, meta: &Meta) -> bool
+        requires { MayBeSaid meta.now }
         ensures { TakesDigestsOf self.old meta.now self.new result }
     {
-        // Of a message that was heard there are 32.
         let Ok(digests) = <&[_; 32]>::try_from(meta.digests.as_slice()) else {
-            return false;
+            // A message that may be said has 32.
+            unreachable!();
         };
         let place = Place {
             level: meta.level,

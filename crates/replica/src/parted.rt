@@ -3,7 +3,7 @@
 //! The desk goes with the whole history, the orderer with the entries of ordering. An event of ordering takes both; a
 //! read takes the desk alone. Each part has a stop flag of its own: one that stopped holds nothing any more.
 
-ghost use Rattle.std.specs.Prelude.{◌≡◌, ◌⊎◌, ◌↔◌, true, false, [], None, Some, Err, is_none, IfOk, OnErr, OnOk, IsTrue};
+ghost use Rattle.std.specs.Prelude.{◌≡◌, ◌⊎◌, ◌↔◌, true, false, [], None, Some, Err, is_none, IfOk, IsOk, OnErr, OnOk, IsTrue};
 ghost use Rattle.events.specs.declared.output.Stop.TheVariants as Stop;
 ghost use Rattle.replica.specs.State.{AreOne};
 ghost use Rattle.replica.specs.MemberView.{member_data};
@@ -89,13 +89,13 @@ impl Orderer {
         self.holds = None;
     }
 
-    /// What the replica of both parts gives for its next input. A desk of another replica gives nothing, and nothing
-    /// changes.
+    /// What the replica of both parts gives for its next input. A desk of another replica, or with another period of
+    /// checkpoints, gives nothing, and nothing changes.
     ///
     /// # Errors
     ///
-    /// NoMemory where memory runs out, and Stopped exactly where either part had stopped before. Both have stopped
-    /// then, and nothing is given.
+    /// NoMemory where memory runs out, which it never does with such a desk, and Stopped exactly where either part had
+    /// stopped before. Both have stopped then, and nothing is given.
     pub fn step(
         &mut self,
         alloc: Global,
@@ -105,6 +105,10 @@ impl Orderer {
         ensures leads { IfOk result (λ outs. BothLead self.old desk.old event.entry outs.items self.new desk.new) }
         ensures meant { IfOk result (λ outs. BothSendAsMeant self.old desk.old outs.items) }
         ensures stops { OnErr result (BothLead self.old desk.old event.entry [] self.new desk.new) }
+        ensures apart { ¬ (AreTogether self.old desk.old) → IfOk result (λ outs. outs.items ≡ []) }
+        ensures same { ¬ (AreTogether self.old desk.old) → IfOk result (λ _. self.new ≡ self.old) }
+        ensures desk_same { ¬ (AreTogether self.old desk.old) → IfOk result (λ _. desk.new ≡ desk.old) }
+        ensures refused { ¬ (AreTogether self.old desk.old) → OnErr result (result ≡ Err Stop.Stopped) }
         ensures runs { IfOk result (λ _. is_none self.new.holds ≡ false) }
         ensures desk_runs { IfOk result (λ _. is_none desk.new.holds ≡ false) }
         ensures stopped { OnErr result (self.new.holds ≡ None) }
@@ -143,7 +147,7 @@ impl Orderer {
     ) -> Result<Outputs, Stop>
         requires together { AreTogether self.old desk.old }
         ensures leads { IfOk result (λ outs. BothLead self.old desk.old event.entry outs.items self.new desk.new) }
-        ensures meant { IfOk result (λ outs. BothSendAsMeant self.old desk.old outs.items) }
+        ensures sends { IfOk result (λ outs. BothSendAsMeant self.old desk.old outs.items) }
         ensures runs { IfOk result (λ _. is_none self.new.holds ≡ false) }
         ensures desk_runs { IfOk result (λ _. is_none desk.new.holds ≡ false) }
         ensures refused { OnErr result (result ≡ Err Stop.NoMemory) }
@@ -243,14 +247,15 @@ impl Desk {
     ///
     /// # Errors
     ///
-    /// NoMemory where memory runs out, with which the desk stops, and Stopped exactly where it had stopped before.
-    /// Nothing is given then.
+    /// NoMemory where memory runs out for a read, with which the desk stops, and Stopped exactly where it had stopped
+    /// before. Nothing is given then.
     pub fn read(&mut self, alloc: Global, bytes: &[u8], arena: &mut Bump) -> Result<Outputs, Stop>
         ensures leads { asks_read bytes.now ≡ true
             → IfOk result (λ outs. ReadLeads self.old bytes.now outs.items self.new) }
         ensures meant { IfOk result (λ outs. ReadSendsAsMeant self.old outs.items) }
         ensures stops { asks_read bytes.now ≡ true → OnErr result (ReadLeads self.old bytes.now [] self.new) }
         ensures others { asks_read bytes.now ≡ false → IfOk result (λ outs. outs.items ≡ []) }
+        ensures refused { asks_read bytes.now ≡ false → OnErr result (result ≡ Err Stop.Stopped) }
         ensures same { IfOk result (λ _. self.new ≡ self.old) }
         ensures stopped { OnErr result (self.new.holds ≡ None) }
         ensures before { (result ≡ Err Stop.Stopped) ↔ (self.old.holds ≡ None) }
@@ -279,7 +284,8 @@ impl Desk {
         ensures leads { asks_read bytes.now ≡ true → is_none self.old.holds ≡ false
             → OnOk result (ReadLeads self.old bytes.now outputs.new.items self.new) }
         ensures meant { OnOk result (ReadSendsAsMeant self.old outputs.new.items) }
-        ensures others { asks_read bytes.now ≡ false → OnOk result (outputs.new.items ≡ []) }
+        ensures others { asks_read bytes.now ≡ false → outputs.new.items ≡ [] }
+        ensures done { asks_read bytes.now ≡ false → IsOk result }
         ensures same { self.new ≡ self.old }
     {
         let Some(state) = &mut self.holds else {

@@ -8,7 +8,7 @@ ghost use Rattle.ordering.specs.Log.{is_in_marks};
 ghost use Rattle.wire.specs.Views.{message_data, texts_of};
 ghost use Rattle.posting.specs.Endpoint.{FitsFrame};
 ghost use Rattle.state_transfer.specs.Places.{IsPlace};
-ghost use Rattle.replica.specs.Saying.{Says, SaysAgain, SaysBatch, SaysLastAgain, row_place};
+ghost use Rattle.replica.specs.Saying.{PostsAll, PostsBatch, PostsCommit, PostsPrepare, PostsRow, Says, SaysAlso, SaysBatch, SaysLastAlso, row_place};
 
 use crate::orderer::Orderer;
 use authenticator::SealFault;
@@ -56,8 +56,8 @@ impl Orderer {
         outputs: &mut Outputs,
     ) -> Result<(), Stop>
         requires { executed.0 < 2 ^ 48 }
-        ensures ok { OnOk result
-            (SaysLastAgain true 0 self.old outputs.old.items self.new outputs.new.items) }
+        ensures ok { OnOk result (SaysLastAlso true 0 (PostsAll executed.0) self.old
+            outputs.old.items self.new outputs.new.items) }
         ensures same { self.new ≡ self.old }
     {
         self.say_new_view_again(alloc, outputs)?;
@@ -75,7 +75,7 @@ impl Orderer {
         number: Number,
         outputs: &mut Outputs,
     ) -> Result<(), Stop>
-        ensures ok { OnOk result (SaysAgain (row_place number.0) (row_place number.0 + 3)
+        ensures ok { OnOk result (SaysAlso (row_place number.0) (row_place number.0 + 3) (PostsRow number.0)
             self.old outputs.old.items self.new outputs.new.items) }
         ensures same { self.new ≡ self.old }
     {
@@ -90,7 +90,7 @@ impl Orderer {
         number: Number,
         outputs: &mut Outputs,
     ) -> Result<(), Stop>
-        ensures ok { OnOk result (SaysAgain (row_place number.0) (row_place number.0 + 1)
+        ensures ok { OnOk result (SaysAlso (row_place number.0) (row_place number.0 + 1) (PostsBatch number.0)
             self.old outputs.old.items self.new outputs.new.items) }
         ensures same { self.new ≡ self.old }
     {
@@ -112,7 +112,7 @@ impl Orderer {
         number: Number,
         outputs: &mut Outputs,
     ) -> Result<(), Stop>
-        ensures ok { OnOk result (SaysAgain (row_place number.0 + 1) (row_place number.0 + 2)
+        ensures ok { OnOk result (SaysAlso (row_place number.0 + 1) (row_place number.0 + 2) (PostsPrepare number.0)
             self.old outputs.old.items self.new outputs.new.items) }
         ensures same { self.new ≡ self.old }
     {
@@ -130,7 +130,7 @@ impl Orderer {
         number: Number,
         outputs: &mut Outputs,
     ) -> Result<(), Stop>
-        ensures ok { OnOk result (SaysAgain (row_place number.0 + 2) (row_place number.0 + 3)
+        ensures ok { OnOk result (SaysAlso (row_place number.0 + 2) (row_place number.0 + 3) (PostsCommit number.0)
             self.old outputs.old.items self.new outputs.new.items) }
         ensures same { self.new ≡ self.old }
     {

@@ -5,6 +5,7 @@ ghost use Rattle.wire.specs.Messages.{fetch, meta, page};
 ghost use Rattle.wire.specs.Spelling.{last_index};
 ghost use Rattle.replica.specs.Entering.{TakesMessage};
 ghost use Rattle.replica.specs.Fetching.{AsksOn, InstallsFetched, SaysFetch};
+ghost use Rattle.replica.specs.Transferring.{MayBeSaid};
 
 use crate::joined::Joined;
 use crate::taking::Touched;
@@ -54,6 +55,7 @@ impl Joined {
         outputs: &mut Outputs,
     ) -> Result<Touched, Stop>
         requires first { outputs.old.items ≡ [] }
+        requires said { MayBeSaid message.now }
         ensures ok { IfOk result (λ touched. TakesMessage sender
             (meta message.now.number.0 message.now.level message.now.index message.now.digests.items)
             self.old touched self.new outputs.new.items) }

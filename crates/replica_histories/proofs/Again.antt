@@ -14,7 +14,7 @@ use Rattle.protocol.specs.System.Trace.{Entry, Once, Always}
 use Rattle.protocol.specs.System.Trace.Entry.{Invoke, Got, Tick, Executed, Installed, Sent, Accepted}
 use Rattle.protocol.specs.Replica.Certificates.{are_genuine, counts_at, taken, checkpoint_from, with_checkpoint, insert_checkpoint, checkpoints_of, batch_from, prepare_from, commit_from, batch_begun, brought, low, is_in_marks, begun_proposal, entry_proposal, proposal, logged, prepare_of, commit_of}
 use Rattle.protocol.specs.Replica.RightReplica.{Point, Leaves, HasSeen, MayCheckpoint, others}
-use Rattle.protocol.specs.Replica.Owed.{NumbersOnce}
+use Rattle.protocol.specs.Replica.Owed.{NumbersOnce, IsBegunBelow}
 use Rattle.protocol.proofs.Words.Options.{some_injective, and_then_some, then_some_gives, given_once, or_else_cases}
 use Rattle.protocol.proofs.Words.Temporal.{once_weaker, once_stays}
 use Rattle.protocol.proofs.Words.Elements.{each_weaker}
@@ -22,7 +22,7 @@ use Rattle.protocol.proofs.Agreement.Voting.{RightAt, once_right, Logs, logged_s
 use Rattle.replica_histories.specs.Desk.{Desk, point_of}
 use Rattle.replica_histories.specs.Logs.{above_mark, Takes}
 use Rattle.replica_histories.specs.Events.{Start, behind, Fits}
-use Rattle.replica_histories.specs.Outputs.{IsBegunBelow, PreparesGoAgain, CommitsGoAgain, BatchesGoAgain, CheckpointsGoAgain}
+use Rattle.replica_histories.specs.Outputs.{PreparesGoAgain, CommitsGoAgain, BatchesGoAgain, CheckpointsGoAgain}
 use Rattle.replica_histories.proofs.Words.{passed, given_not, marks_are, primary_same}
 use Rattle.replica_histories.proofs.Certified.{active}
 use Rattle.replica_histories.proofs.Speaking.{heard_other, prepare_spoken, spoken_logged, prepare_backup, Certified, commit_spoken, spoken_certified}

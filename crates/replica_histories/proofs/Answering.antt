@@ -28,7 +28,7 @@ use Rattle.replica_histories.proofs.Logging.{beside_placed}
 use Rattle.replica_histories.proofs.SaidOnce.{unsent, pays_none}
 use Rattle.replica_histories.proofs.Giving.{sent_fits, no_proposal}
 use Rattle.replica_histories.proofs.TransfersAnswering.{IsPart, hears_one, snapshots_are_kept, kept_have_snapshots, answers_may_go, answers_suffice, none_is_owed}
-use Rattle.replica_histories.proofs.Questions.{fetches_owe_no_read, others_bring_no_part, reads_owe_no_part, hears_no_move}
+use Rattle.replica_histories.proofs.Questions.{fetches_owe_no_read, others_bring_no_part, reads_owe_no_part, hears_no_move, fetches_owe_nothing_again, reads_owe_nothing_again}
 use Rattle.replica_histories.proofs.TransfersQuorums.{no_root}
 
 -- ---- a part is given
@@ -86,6 +86,7 @@ parts_suffice c me desk log past input outputs snapshot asker index executed lev
       fetches_owe_no_read c me asker snapshot.number index level past input outputs held.of_desk.point hears,
       none.0,
       none.1,
+      fetches_owe_nothing_again c me asker snapshot.number index level past input outputs held.of_desk.point hears,
       hears_no_move c me (record { sender = asker; message = Fetch snapshot.number level index }) past input outputs held.of_desk.point hears refl,
     )
 
@@ -96,6 +97,7 @@ other_numbers_owe_none c me desk log past input outputs asker k index executed l
       fetches_owe_no_read c me asker k index level past input outputs held.of_desk.point hears,
       no_part.0,
       no_part.1,
+      fetches_owe_nothing_again c me asker k index level past input outputs held.of_desk.point hears,
       hears_no_move c me (record { sender = asker; message = Fetch k level index }) past input outputs held.of_desk.point hears refl,
     )
 
@@ -122,7 +124,7 @@ reads_fit c me s desk log due outputs client t op bytes heard_it is none posted 
 pub reads_suffice : ReadsSuffice
 reads_suffice c me desk log past input outputs client t executed op held hears given =
     let none = others_bring_no_part c me (read_from client t op) past input hears outputs held.of_desk.point executed refl in
-    (reads_owe_no_part c me client t op past input outputs held.of_desk.point hears, each, none.0, none.1, hears_no_move c me (read_from client t op) past input outputs held.of_desk.point hears refl)
+    (reads_owe_no_part c me client t op past input outputs held.of_desk.point hears, each, none.0, none.1, reads_owe_nothing_again c me client t op past input outputs held.of_desk.point hears, hears_no_move c me (read_from client t op) past input outputs held.of_desk.point hears refl)
   where
     from : State
     from = held.of_desk.point.state
@@ -142,7 +144,7 @@ reads_suffice c me desk log past input outputs client t executed op held hears g
 pub other_operations_owe_none : OtherOperationsOweNone
 other_operations_owe_none c me desk log past input outputs client t executed op held hears not_read =
     let none = others_bring_no_part c me (read_from client t op) past input hears outputs held.of_desk.point executed refl in
-    (reads_owe_no_part c me client t op past input outputs held.of_desk.point hears, each, none.0, none.1, hears_no_move c me (read_from client t op) past input outputs held.of_desk.point hears refl)
+    (reads_owe_no_part c me client t op past input outputs held.of_desk.point hears, each, none.0, none.1, reads_owe_nothing_again c me client t op past input outputs held.of_desk.point hears, hears_no_move c me (read_from client t op) past input outputs held.of_desk.point hears refl)
   where
     each : (k u : ℕ) (other : Operation) → Hears c me (read_from k u other) past input → is_read_only other ≡ true → Gives me (read_reply held.of_desk.point.state k u other) outputs
     each k u other h is =

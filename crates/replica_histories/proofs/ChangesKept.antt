@@ -1,30 +1,29 @@
 -- Which entries bring nothing about for changes of the view, and which view changes are signed.
 use Rattle.std.proofs.Common.{◌≡◌, ◌≢◌, ℕ, ◌≤◌, ◌<◌, Bool, true, false, ◌&&◌, List, ◌∷◌, Option, Some, None, refl, sym, ap, ◌∙◌, subst, arith, eqb-true}
-use Rattle.std.specs.Prelude.{◌==◌, option_and_then}
+use Rattle.std.specs.Prelude.{◌==◌, option_and_then, ⊤}
 use Rattle.std.specs.Bool.{then_some}
 use Rattle.std.specs.Option.{option_map_or}
 use Rattle.std.proofs.lemmas.Bool.{and_parts, ne_eqb, le-ltb, lt-ltb}
-use Rattle.wire.specs.Messages.{BodyData as Body, MessageData as Message, AuthenticatorData as Authenticator, macs, signature, NewViewData, ViewChangeData, commit as Commit, view_change as ViewChange, new_view as NewView}
+use Rattle.wire.specs.Messages.{BodyData as Body, MessageData as Message, AuthenticatorData as Authenticator, macs, signature, NewViewData, ViewChangeData, commit as Commit, checkpoint as Checkpoint, view_change as ViewChange, new_view as NewView}
 use Rattle.wire.specs.Spelling.{authenticator_is_signed, is_signed}
 use Rattle.wire.specs.Words.{said}
 use Rattle.wire.proofs.Saying.{reads_frames, says_what_is_spelled}
 use Rattle.signing.specs.Heard.{heard, has_signature, signed_body}
 use Rattle.signing.proofs.Heard.{heard_was_signed, signed_is_heard}
 use Rattle.ordering.specs.Log as logs
-use Rattle.ordering.specs.Log.{LogData}
 use Rattle.protocol.specs.System.Configuration.{Configuration, replicas, primary, members}
 use Rattle.protocol.specs.System.Frames.{IsSealed}
 use Rattle.protocol.specs.System.Trace.{Entry}
 use Rattle.protocol.specs.System.Trace.Entry.{Invoke, Got, Tick, Executed, Installed, Sent, Accepted}
 use Rattle.protocol.specs.Replica.Selection.{may_select, change_in, signed_change}
-use Rattle.protocol.specs.Replica.Certificates.{brought, view, target, taken, is_later, new_view_from, change_sent, change_from, is_active_in, low, is_in_marks, proposal, logged, commit_from, commit_of, change_taken, latest_change}
+use Rattle.protocol.specs.Replica.Certificates.{brought, checkpoint_from, view, target, taken, is_later, new_view_from, change_sent, change_from, is_active_in, low, is_in_marks, proposal, logged, commit_from, commit_of, change_taken, latest_change}
 use Rattle.protocol.proofs.Words.Options.{some_injective, or_else_second, and_then_some}
 use Rattle.protocol.proofs.Words.Plain.{IsPlain, Plain, heard_plain, plain_low}
 use Rattle.protocol.proofs.Agreement.Executing.{commit_stays}
 use Rattle.protocol.proofs.Agreement.Commits.{commit_source}
 use Rattle.protocol.proofs.Agreement.Offers.{entry_batch}
 use Rattle.view_change.proofs.Opening.{spelled_tells, is_change, signed_is}
-use Rattle.replica_histories.specs.Changes.{KeepsChanges, IsNoNews, IsNoBatch, IsNoChange, SentKeep, SilentKeep, GotKeep, HeardKeep, OthersBringNone, HeardAreSigned, OwnAreSigned}
+use Rattle.replica_histories.specs.Changes.{KeepsViews, KeepsChanges, IsNoNews, CheckpointsAreNoted, IsNoBatch, IsNoChange, SentKeep, SilentKeep, GotKeep, HeardKeep, OthersBringNone, HeardAreSigned, OwnAreSigned}
 use Rattle.replica_histories.proofs.Words.{given_not, marks_are}
 use Rattle.replica_histories.proofs.Certified.{active_view}
 use Rattle.replica_histories.proofs.Logging.{none_taken, proposal_quiet}
@@ -33,13 +32,20 @@ use Rattle.replica_histories.proofs.NumbersKept.{proposal_said, logged_same}
 use Rattle.replica_histories.proofs.Received.{sent_bring_none, unsigned_bring_none, taken_is}
 use Rattle.protocol.specs.System.Frames.{leaf_of}
 use Rattle.protocol.specs.Replica.RightReplica.{SendsBytes, SentBefore}
-use Rattle.replica_histories.proofs.ChangesPassing.{commit_quiet}
+use Rattle.replica_histories.proofs.ChangesPassing.{commit_quiet, changes_noted}
+use Rattle.replica_histories.proofs.OwnCheckpoints.{IsNoLater, none_later, got_later, sent_later}
 use Rattle.replica_histories.proofs.Leaves.{unsigned_sends_none}
 
 -- ---- what is said again
 
-pub sent_keep : SentKeep
-sent_keep c me past message bytes says news again = record { none = none; target = same_target; logged = same_logged; commits = same_commits; changes = λ s other. sent_bring_none c me s bytes past; leaves = leaves }
+-- of a checkpoint nothing is asked
+abbrev pub IsNoViewNews : Configuration → ℕ → List Entry → Message → Type 0
+IsNoViewNews c me past (Checkpoint k root) = ⊤
+IsNoViewNews c me past message = IsNoNews c me past message
+
+pub sent_views : (c : Configuration) (me : ℕ) (past : List Entry) (message : Message) (bytes : List ℕ) → said bytes ≡ Some (record { sender = me; message = message }) → IsNoViewNews c me past message
+    → (is_signed message ≡ true → SentBefore bytes past) → KeepsViews c me past (Sent me bytes)
+sent_views c me past message bytes says news again = record { none = none; target = same_target; logged = same_logged; commits = same_commits; changes = λ s other. sent_bring_none c me s bytes past; leaves = leaves }
   where
     e : Entry
     e = Sent me bytes
@@ -51,7 +57,7 @@ sent_keep c me past message bytes says news again = record { none = none; target
         go true signed = subst (λ (x : List ℕ). SentBefore x past) now (again signed)
         go false unsigned = unsigned_sends_none c past e (record { sender = me; message = message }) says unsigned sent leaf is now
 
-    no_view : (m : Message) → IsNoNews c me past m
+    no_view : (m : Message) → IsNoViewNews c me past m
         → option_and_then (λ (new : NewViewData). then_some (is_later (view c past) (target past) new) new) (new_view_from c (record { sender = me; message = m })) ≡ None
     no_view (NewView new) h = at ((me == primary c new.view) && may_select c new) (rw (le-ltb (view c past) new.view h) refl)
       where
@@ -63,7 +69,7 @@ sent_keep c me past message bytes says news again = record { none = none; target
     none : taken c past e ≡ None
     none = ap (λ (o : Option Body). option_and_then (λ (new : NewViewData). then_some (is_later (view c past) (target past) new) new) (option_and_then (new_view_from c) o)) says ∙ no_view message news
 
-    no_later : (m : Message) → IsNoNews c me past m → change_from (record { sender = me; message = m }) ≤ target past
+    no_later : (m : Message) → IsNoViewNews c me past m → change_from (record { sender = me; message = m }) ≤ target past
     no_later (ViewChange vc) h = h
     no_later _ h = omega arith
 
@@ -73,16 +79,16 @@ sent_keep c me past message bytes says news again = record { none = none; target
         let is : change_sent e ≡ change_from (record { sender = me; message = message }) = ap (λ (o : Option Body). option_map_or change_from o 0) says in
         omega arith
 
-    news_of : (other : Message) (sender : ℕ) → said bytes ≡ Some (record { sender = sender; message = other }) → IsNoNews c me past other
+    news_of : (other : Message) (sender : ℕ) → said bytes ≡ Some (record { sender = sender; message = other }) → IsNoViewNews c me past other
     news_of other sender h =
         let same : ◌≡◌ {A = Body} (record { sender = me; message = message }) (record { sender = sender; message = other }) = some_injective _ _ (sym says ∙ h) in
-        subst (IsNoNews c me past) (ap (λ (b : Body). b.message) same) news
+        subst (IsNoViewNews c me past) (ap (λ (b : Body). b.message) same) news
 
     same_logged : (v i : ℕ) → logged c me (e ∷ past) v i ≡ logged c me past v i
     same_logged v i = logged_same c me v i past e
         (λ batch h free.
         let s = proposal_said c me v i batch past e none h in
-        let there : (text : List ℕ) × (logged c me past v i ≡ Some text) = subst (IsNoNews c me past) s.2 (news_of s.0.message s.0.sender s.1) in
+        let there : (text : List ℕ) × (logged c me past v i ≡ Some text) = subst (IsNoViewNews c me past) s.2 (news_of s.0.message s.0.sender s.1) in
         given_not (logged c me past v i) there.0 there.1 free)
 
     same_commits : (v i : ℕ) → commit_of c me (e ∷ past) v i me ≡ commit_of c me past v i me
@@ -94,16 +100,38 @@ sent_keep c me past message bytes says news again = record { none = none; target
             let there : (other : List ℕ) × (commit_of c me past v i me ≡ Some other) = news_of (Commit v i d) me (commit_source c me me v i d past e h) in
             commit_stays c me v i me there.0 e past there.1 ∙ sym there.1
 
+no_view_news : (c : Configuration) (me : ℕ) (past : List Entry) (message : Message) → IsNoNews c me past message → IsNoViewNews c me past message
+no_view_news c me past (Checkpoint k root) news = tt
+no_view_news c me past _ news = news
+
+no_later_checkpoint : (c : Configuration) (me : ℕ) (past : List Entry) (message : Message) → IsNoNews c me past message → IsNoLater c me past message
+no_later_checkpoint c me past message news k root is = subst (IsNoNews c me past) is news
+
+pub sent_keep : SentKeep
+sent_keep c me past message bytes says news again = record {
+  views = sent_views c me past message bytes says (no_view_news c me past message news) again;
+  checkpoint = sent_later c me past bytes message says (no_later_checkpoint c me past message news);
+}
+
+-- an own checkpoint that is new
+pub checkpoints_are_noted : CheckpointsAreNoted
+checkpoints_are_noted c me past log after x claims entry bytes p same says latest cuts f =
+    changes_noted c me past (Sent me bytes) log after x claims (Some entry) p same
+    (sent_views c me past (Checkpoint entry.number entry.digest) bytes says tt (λ signed. absurd cc)) latest cuts f
+
 -- ---- what brings nothing
 
 nothing_keeps : (c : Configuration) (me : ℕ) (past : List Entry) (e : Entry) → brought c e ≡ None → change_sent e ≡ 0 → ((s : ℕ) → latest_change c (e ∷ past) s ≡ latest_change c past s) → ((sent : List ℕ) → SendsBytes sent past e → ⊥) → KeepsChanges c me past e
 nothing_keeps c me past e nothing still changes sends = record {
-  none = none;
-  target = omega arith;
-  logged = λ v i. logged_same c me v i past e (λ batch h free. let s = proposal_said c me v i batch past e none h in given_not (brought c e) s.0 s.1 nothing);
-  commits = λ v i. commit_quiet c me past e v i (ap (option_and_then (commit_from me v i)) nothing);
-  changes = λ s other. changes s;
-  leaves = λ sent leaf is now. absurd (sends sent now);
+  views = record {
+    none = none;
+    target = omega arith;
+    logged = λ v i. logged_same c me v i past e (λ batch h free. let s = proposal_said c me v i batch past e none h in given_not (brought c e) s.0 s.1 nothing);
+    commits = λ v i. commit_quiet c me past e v i (ap (option_and_then (commit_from me v i)) nothing);
+    changes = λ s other. changes s;
+    leaves = λ sent leaf is now. absurd (sends sent now);
+  };
+  checkpoint = none_later c me past e (ap (option_and_then checkpoint_from) nothing);
 }
   where
     none : taken c past e ≡ None
@@ -136,12 +164,15 @@ no_own c me v i bytes (Some body) h = not_own me v i body.sender body.message (h
 
 pub got_keep : GotKeep
 got_keep c me past bytes log after p same none batches changes = record {
-  none = none;
-  target = omega arith;
-  logged = λ v i. logged_same c me v i past e (λ batch h free. fresh v i batch h free);
-  commits = λ v i. commit_quiet c me past e v i (no_own c me v i bytes (heard (members c) me bytes) refl);
-  changes = changes;
-  leaves = λ sent leaf is now. absurd now;
+  views = record {
+    none = none;
+    target = omega arith;
+    logged = λ v i. logged_same c me v i past e (λ batch h free. fresh v i batch h free);
+    commits = λ v i. commit_quiet c me past e v i (no_own c me v i bytes (heard (members c) me bytes) refl);
+    changes = changes;
+    leaves = λ sent leaf is now. absurd now;
+  };
+  checkpoint = got_later c me past bytes;
 }
   where
     e : Entry
@@ -164,15 +195,18 @@ got_keep c me past bytes log after p same none batches changes = record {
 
 pub heard_keep : HeardKeep
 heard_keep c me past bytes none no_batch changes = record {
-  none = none;
-  target = omega arith;
-  logged = λ v i. logged_same c me v i past (Got me bytes)
-      (λ batch h free.
-      let s = proposal_said c me v i batch past (Got me bytes) none h in
-      subst (λ (m : Message). IsNoBatch (Some (record { sender = s.0.sender; message = m }))) s.2 (subst IsNoBatch s.1 no_batch));
-  commits = λ v i. commit_quiet c me past (Got me bytes) v i (no_own c me v i bytes (heard (members c) me bytes) refl);
-  changes = changes;
-  leaves = λ sent leaf is now. absurd now;
+  views = record {
+    none = none;
+    target = omega arith;
+    logged = λ v i. logged_same c me v i past (Got me bytes)
+        (λ batch h free.
+        let s = proposal_said c me v i batch past (Got me bytes) none h in
+        subst (λ (m : Message). IsNoBatch (Some (record { sender = s.0.sender; message = m }))) s.2 (subst IsNoBatch s.1 no_batch));
+    commits = λ v i. commit_quiet c me past (Got me bytes) v i (no_own c me v i bytes (heard (members c) me bytes) refl);
+    changes = changes;
+    leaves = λ sent leaf is now. absurd now;
+  };
+  checkpoint = got_later c me past bytes;
 }
 
 -- ---- view changes

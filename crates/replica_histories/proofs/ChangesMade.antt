@@ -6,14 +6,15 @@ use Rattle.std.proofs.lemmas.Bool.{eqb-false}
 use Rattle.std.proofs.lemmas.List.{length-set}
 use Rattle.wire.specs.Messages.{BodyData as Body, BatchEntryData as Claim, NewViewData, view_change as ViewChange, new_view as NewView}
 use Rattle.wire.specs.Lists.{Each}
+use Rattle.signing.specs.Heard.{heard}
 use Rattle.ordering.specs.Log as logs
 use Rattle.ordering.specs.Log.{LogData}
 use Rattle.ordering.proofs.Reading.{above_low}
-use Rattle.protocol.specs.System.Configuration.{Configuration, replicas}
+use Rattle.protocol.specs.System.Configuration.{Configuration, primary, replicas, members}
 use Rattle.protocol.specs.System.Trace.{Entry, Once, Has}
 use Rattle.protocol.specs.System.Trace.Entry.{Got, Sent}
 use Rattle.protocol.specs.Replica.Selection.{signed_change}
-use Rattle.protocol.specs.Replica.Certificates.{view, taken, new_view_from, change_sent, change_from, low, is_in_marks, logged}
+use Rattle.protocol.specs.Replica.Certificates.{view, checkpoint_from, taken, new_view_from, change_sent, change_from, low, is_in_marks, logged}
 use Rattle.protocol.specs.Replica.RightReplica.{SendsBytes}
 use Rattle.protocol.proofs.Words.Options.{some_injective}
 use Rattle.protocol.proofs.Words.Elements.{each_has, has_weaker}
@@ -26,15 +27,17 @@ use Rattle.replica_histories.specs.Logs.{Stays}
 use Rattle.replica_histories.specs.Claims.{WasLogged}
 use Rattle.replica_histories.specs.Views.{begun_log}
 use Rattle.replica_histories.specs.Changes.{IsOwnView, Passes, CutsClaims, claims_from, texts_from, IsOwnFrame, ChangesAreSent, ChangesAreTaken, ViewsAreBegun}
-use Rattle.replica_histories.proofs.Words.{apart, marks_are, marks_stay}
+use Rattle.replica_histories.proofs.Words.{apart, given_not, marks_are, marks_stay}
 use Rattle.replica_histories.proofs.Logging.{none_taken}
+use Rattle.replica_histories.proofs.OwnCheckpoints.{none_later}
+use Rattle.replica_histories.proofs.Speaking.{heard_other}
 use Rattle.replica_histories.proofs.Batches.{stays, begun_low, begun_view, begun_active, begun_batch}
 use Rattle.replica_histories.proofs.Beginning.{Still, still_brings, still_commit, new_small, logged_cases, logged_here}
 use Rattle.replica_histories.proofs.Changing.{same_logged}
 use Rattle.replica_histories.proofs.ClaimsAdding.{no_batch_adds, no_commit_adds}
 use Rattle.replica_histories.proofs.Leaves.{leaves_stay, leaves_remain, leaves_sent, leaves_spent}
 use Rattle.replica_histories.proofs.Received.{put_there, put_elsewhere, received_stays, received_takes, received_own}
-use Rattle.replica_histories.proofs.ChangesPassing.{claims_are_above, claims_pass, begun_before, own_stays, own_view_stays, changes_nothing, sends_none}
+use Rattle.replica_histories.proofs.ChangesPassing.{claims_are_above, claims_pass, begun_before, begun_by_stays, own_stays, own_view_stays, changes_nothing, sends_none}
 use Rattle.replica_histories.proofs.ChangesKept.{heard_are_signed}
 
 -- ---- a view change is sent
@@ -50,6 +53,9 @@ changes_are_sent c me spent past log x own p known mine posted above spends f = 
   received = received_own c me past x.held own mine is_place f.received;
   places = length-set x.held own.sender (Some own) ∙ f.places;
   begun = λ new once at. f.begun new (begun_before c past e new none once) at;
+  begun_by = begun_by_stays c past e log.view log.view x.begun refl f.begun_by;
+  own_begins = f.own_begins;
+  latest = none_later c me past e (ap (option_and_then checkpoint_from) posted.says) ∙ f.latest;
   own_change = λ rests. record { own = own; held = held_there; view = refl; sent = inl refl; posted = posted };
   own_view = λ frame is. own_view_stays c me past e log.view log.view frame refl (f.own_view frame is);
 }
@@ -88,6 +94,9 @@ changes_are_taken c me past log x s vc bytes p hears refused f = record {
   received = received_takes c me s bytes past x.held vc signed.0 (subst (λ (v : ℕ). refusal_of c v x.held (s, vc) ≡ None) (sym p.fits.view) refused) (subst (λ (n : ℕ). s < n) (sym f.places) signed.2) f.received;
   places = length-set x.held s (Some h) ∙ f.places;
   begun = λ new once at. f.begun new (begun_before c past e new none once) at;
+  begun_by = begun_by_stays c past e log.view log.view x.begun refl f.begun_by;
+  own_begins = f.own_begins;
+  latest = none_later c me past e (ap (option_and_then checkpoint_from) hears) ∙ f.latest;
   own_change = λ rests. own_stays c me past e x (record x { held = with_held h x.held }) refl (put_elsewhere x.held s me (Some h) (λ same. signed.1 (sym same))) (f.own_change rests);
   own_view = λ frame is. own_view_stays c me past e log.view log.view frame refl (f.own_view frame is);
 }
@@ -250,6 +259,9 @@ views_are_begun c me past e log x new frame claims s spent p t brings begins own
   received = received_stays c me past e x.held (λ r other. changes_nothing c past e (record { sender = s; message = NewView new }) r brings refl) f.received;
   places = f.places;
   begun = begun;
+  begun_by = inr (new, inl t, sym view_is, refl);
+  own_begins = λ mine. own_begins frame own (ap (primary c) (sym view_is) ∙ mine);
+  latest = none_later c me past e (ap (option_and_then checkpoint_from) brings) ∙ f.latest;
   own_change = λ rests. absurd (apart (begun_log log new).active (begun_active log new p.fits.is_log (small c me past e log new p t q)) rests);
   own_view = λ text is. own_view text (subst (IsOwnFrame c me e new) is own);
 }
@@ -282,3 +294,16 @@ views_are_begun c me past e log x new frame claims s spent p t brings begins own
 
     own_view : (text : List ℕ) → IsOwnFrame c me e new (Some text) → IsOwnView c me (begun_log log new).view (e ∷ past) text
     own_view text k = record { new = new; view = sym view_is; primary = k.1; sent = inl (subst (SendsBytes text past) (sym k.0) refl); posted = k.2 }
+
+    own_begins : (o : Option (List ℕ)) → IsOwnFrame c me e new o → primary c new.view ≡ me → ((begun_log log new).view ≡ 0) ⊎ ((text : List ℕ) × (o ≡ Some text))
+    own_begins None other mine = absurd (other mine)
+    own_begins (Some text) k mine = inr (text, refl)
+
+-- a new view that is got is of another primary
+pub not_mine : (c : Configuration) (me : ℕ) (past : List Entry) (s : ℕ) (new : NewViewData) (bytes : List ℕ) → heard (members c) me bytes ≡ Some (record { sender = s; message = NewView new }) → taken c past (Got me bytes) ≡ Some new
+    → primary c new.view ≢ me
+not_mine c me past s new bytes h t mine = go (s == primary c new.view) refl
+  where
+    go : (b : Bool) → (s == primary c new.view) ≡ b → ⊥
+    go true e = heard_other c me bytes (record { sender = s; message = NewView new }) h (eqb-true s (primary c new.view) e ∙ mine)
+    go false e = given_not (taken c past (Got me bytes)) new t (none_taken c past (Got me bytes) (ap (option_and_then (new_view_from c)) h ∙ rw e refl))

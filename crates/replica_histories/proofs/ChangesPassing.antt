@@ -5,18 +5,19 @@ use Rattle.std.specs.Prelude.{◌==◌, nat_lt, nat_le, option_and_then}
 use Rattle.std.specs.Bool.{then_some}
 use Rattle.std.specs.Option.{option_map_or}
 use Rattle.std.proofs.lemmas.Bool.{and_parts, ne_eqb}
-use Rattle.wire.specs.Messages.{BodyData as Body, MessageData as Message, BatchEntryData as Claim, NewViewData, pre_prepare as PrePrepare, commit as Commit}
+use Rattle.wire.specs.Messages.{BodyData as Body, MessageData as Message, BatchEntryData as Claim, NewViewData, CheckpointEntryData as CheckpointEntry, pre_prepare as PrePrepare, commit as Commit}
 use Rattle.wire.specs.Words.{said}
 use Rattle.wire.specs.Lists.{Each}
 use Rattle.signing.specs.Heard.{signed_body}
 use Rattle.ordering.specs.Log as logs
 use Rattle.ordering.specs.Log.{LogData}
 use Rattle.ordering.proofs.Reading.{batches_are_logged}
-use Rattle.protocol.specs.System.Configuration.{Configuration, replicas, span, members}
+use Rattle.protocol.specs.System.Configuration.{Configuration, primary, replicas, span, members}
 use Rattle.protocol.specs.System.Trace.{Entry, Once, Has}
 use Rattle.protocol.specs.System.Trace.Entry.{Invoke, Got, Tick, Executed, Installed, Sent, Accepted}
 use Rattle.protocol.specs.Replica.Selection.{change_in, signed_change}
-use Rattle.protocol.specs.Replica.Certificates.{brought, taken, new_view_from, change_sent, change_from, counts_at, low, is_in_marks, logged, commit_from, commit_of, vote_in, latest_change}
+use Rattle.protocol.specs.Replica.Certificates.{brought, checkpoint_from, taken, new_view_from, change_sent, change_from, counts_at, low, is_in_marks, logged, commit_from, commit_of, vote_in, latest_change}
+use Rattle.protocol.specs.Replica.Owed.{latest_checkpoint}
 use Rattle.protocol.proofs.Words.Options.{some_injective, or_else_alone, or_else_second}
 use Rattle.protocol.proofs.Words.Elements.{each_has}
 use Rattle.protocol.proofs.Words.Plain.{Plain, said_plain, taken_none, plain_target, plain_low}
@@ -29,7 +30,7 @@ use Rattle.replica_histories.specs.Desk.{point_of}
 use Rattle.replica_histories.specs.Events.{start_at}
 use Rattle.replica_histories.specs.Claims.{SaidCommit, WasLogged, FitsClaims}
 use Rattle.replica_histories.specs.Numbers.{is_pre_prepare}
-use Rattle.replica_histories.specs.Changes.{Changes, HasOwnChange, IsOwnView, Passes, CutsClaims, OutputsPass, InputsEnter, ClaimsAreAbove, ChangesBegin, ChangesStay, CommitsAreClaimed, BatchesAreClaimed}
+use Rattle.replica_histories.specs.Changes.{Changes, HasOwnChange, IsOwnView, IsBegunUpTo, FitsChanges, IsSameView, KeepsViews, Passes, CutsClaims, OutputsPass, InputsEnter, ClaimsAreAbove, ChangesBegin, ChangesStay, CommitsAreClaimed, BatchesAreClaimed}
 use Rattle.replica_histories.proofs.Words.{passed, gated, given_not, marks_are}
 use Rattle.replica_histories.proofs.Certified.{is_prepared_in}
 use Rattle.replica_histories.proofs.Logging.{none_taken}
@@ -38,6 +39,7 @@ use Rattle.replica_histories.proofs.NumbersKept.{view_of, number_of, proposal_sa
 use Rattle.replica_histories.proofs.Claims.{claims_begin, claims_grow}
 use Rattle.replica_histories.proofs.ClaimsAdding.{no_batch_adds, no_commit_adds, batch_adds, commit_adds}
 use Rattle.replica_histories.proofs.Leaves.{leaves_stay, leaves_remain, unsigned_sends_none}
+use Rattle.replica_histories.proofs.OwnCheckpoints.{none_first, none_later}
 use Rattle.replica_histories.proofs.Received.{none_held, received_begin, received_stays, sent_bring_none, unsigned_bring_none}
 
 -- ---- the logs, at an entry
@@ -117,6 +119,16 @@ own_stays c me past e x y target_same held_same o = record { own = o.own; held =
 pub own_view_stays : (c : Configuration) (me : ℕ) (past : List Entry) (e : Entry) (v w : ℕ) (frame : List ℕ) → w ≡ v → IsOwnView c me v past frame → IsOwnView c me w (e ∷ past) frame
 own_view_stays c me past e v w frame same o = record { new = o.new; view = o.view ∙ sym same; primary = o.primary; sent = inr o.sent; posted = o.posted }
 
+pub begun_by_stays : (c : Configuration) (past : List Entry) (e : Entry) (v w i : ℕ) → w ≡ v → (i ≡ 0) ⊎ IsBegunUpTo c v i past → (i ≡ 0) ⊎ IsBegunUpTo c w i (e ∷ past)
+begun_by_stays c past e v w i same (inl none) = inl none
+begun_by_stays c past e v w i same (inr (new, once, at, is)) = inr (new, inr once, at ∙ sym same, is)
+
+abbrev pub OwnBegins : Configuration → ℕ → ℕ → Option (List ℕ) → Type 0
+OwnBegins c me v frame = primary c v ≡ me → (v ≡ 0) ⊎ ((text : List ℕ) × (frame ≡ Some text))
+
+pub own_begins_stays : (c : Configuration) (me v w : ℕ) (frame : Option (List ℕ)) → w ≡ v → OwnBegins c me v frame → OwnBegins c me w frame
+own_begins_stays c me v w frame same h = subst (λ (x : ℕ). OwnBegins c me x frame) (sym same) h
+
 places_of : (n : ℕ) → length (replicate n (let o : Option HeldData = None in o)) ≡ n
 places_of zero = refl
 places_of (suc n) = ap suc (places_of n)
@@ -129,26 +141,38 @@ changes_begin c me = record {
   places = places_of (replicas c);
   begun = λ new once at. absurd once;
   own_change = λ rests. absurd cc;
+  begun_by = inl refl;
   own_view = λ frame is. absurd cc;
+  own_begins = λ own. inl refl;
+  latest = none_first c me;
   leaves = λ sent leaf is before. absurd before;
   signed = λ leaf l. absurd (omega (arith, l));
   own_latest = λ own is. let bad : None ≡ Some own = sym (none_held (replicas c) me) ∙ is in absurd cc;
 }
 
-pub changes_stay : ChangesStay
-changes_stay c me past e log after x claims p same k cuts f = record {
+-- with whatever own checkpoint is the latest then
+pub changes_noted : (c : Configuration) (me : ℕ) (past : List Entry) (e : Entry) (log after : LogData) (x : Changes) (claims : ClaimsData) (last : Option CheckpointEntry) → Passes c me past e log after → IsSameView log after
+    → KeepsViews c me past e → latest_checkpoint c me (e ∷ past) ≡ last → CutsClaims after.low x.claims claims → FitsChanges c me log x past
+    → FitsChanges c me after (record x { claims = claims; last_checkpoint = last }) (e ∷ past)
+changes_noted c me past e log after x claims last p same k latest cuts f = record {
   target = k.target ∙ f.target;
   claims = claims_pass c me past e log after x.claims claims [] [] p (no_commit_adds c me past e k.commits) (no_batch_adds c me past e k.logged) cuts.prepared cuts.logged
       (λ text has. inl (each_has (IsAmong x.claims.texts) claims.texts text cuts.texts has)) f.claims;
   received = received_stays c me past e x.held k.changes f.received;
   places = f.places;
   begun = λ new once at. f.begun new (begun_before c past e new k.none once) (at ∙ same.view);
-  own_change = λ rests. own_stays c me past e x (record x { claims = claims }) refl refl (f.own_change (sym same.active ∙ rests));
+  begun_by = begun_by_stays c past e log.view after.view x.begun same.view f.begun_by;
+  own_change = λ rests. own_stays c me past e x (record x { claims = claims; last_checkpoint = last }) refl refl (f.own_change (sym same.active ∙ rests));
   own_view = λ frame is. own_view_stays c me past e log.view after.view frame same.view (f.own_view frame is);
+  own_begins = own_begins_stays c me log.view after.view x.new_view same.view f.own_begins;
+  latest = latest;
   leaves = leaves_stay x.spent past e k.leaves f.leaves;
   signed = leaves_remain x.spent past e f.signed;
   own_latest = f.own_latest;
 }
+
+pub changes_stay : ChangesStay
+changes_stay c me past e log after x claims p same k cuts f = changes_noted c me past e log after x claims x.last_checkpoint p same k.views (k.checkpoint ∙ f.latest) cuts f
 
 -- ---- what a body brings
 
@@ -223,6 +247,9 @@ commits_are_claimed c me past log after x i digest bytes p same low_same due say
   received = received_stays c me past e x.held (λ s other. sent_bring_none c me s bytes past) f.received;
   places = f.places;
   begun = λ new once at. f.begun new (begun_before c past e new none once) (at ∙ same.view);
+  begun_by = begun_by_stays c past e log.view after.view x.begun same.view f.begun_by;
+  own_begins = own_begins_stays c me log.view after.view x.new_view same.view f.own_begins;
+  latest = none_later c me past e (ap (option_and_then checkpoint_from) says) ∙ f.latest;
   own_change = λ rests. own_stays c me past e x (record x { claims = record x.claims { prepared = with_prepared claim x.claims.prepared } }) refl refl (f.own_change (sym same.active ∙ rests));
   own_view = λ frame is. own_view_stays c me past e log.view after.view frame same.view (f.own_view frame is);
   leaves = leaves_stay x.spent past e (unsigned_sends_none c past e (record { sender = me; message = Commit log.view i digest }) says refl) f.leaves;
@@ -280,6 +307,9 @@ batches_are_claimed c me past e log x claims s i text p inside free brings adds 
   received = received_stays c me past e x.held (λ r other. changes_nothing c past e (record { sender = s; message = PrePrepare log.view i text }) r brings refl) f.received;
   places = f.places;
   begun = λ new once at. f.begun new (begun_before c past e new none once) at;
+  begun_by = begun_by_stays c past e log.view log.view x.begun refl f.begun_by;
+  own_begins = f.own_begins;
+  latest = none_later c me past e (ap (option_and_then checkpoint_from) brings) ∙ f.latest;
   own_change = λ rests. own_stays c me past e x (record x { claims = claims }) refl refl (f.own_change rests);
   own_view = λ frame is. own_view_stays c me past e log.view log.view frame refl (f.own_view frame is);
   leaves = leaves_stay x.spent past e (unsigned_sends_none c past e (record { sender = s; message = PrePrepare log.view i text }) brings refl) f.leaves;

@@ -167,7 +167,7 @@ listed_brought c s m (e ∷ past) h = go (behind_says m s (checkpoint_in c e) (c
     go (inl k) below = inr (below k)
     go (inr k) below = inl (checkpoint_source c s m past e k)
 
-own_said : (c : Configuration) (me : ℕ) (m : CheckpointEntry) (history : List Entry) (point : Point) → Leaves c me history point → says_checkpoint m (checkpoints_of c history me) ≡ true
+pub own_said : (c : Configuration) (me : ℕ) (m : CheckpointEntry) (history : List Entry) (point : Point) → Leaves c me history point → says_checkpoint m (checkpoints_of c history me) ≡ true
     → Once (λ earlier e. IsSaying me (Checkpoint m.number m.digest) e) history
 own_said c me m history point leaves h =
     once_weaker (Speaks (checking me m.number m.digest)) (λ earlier e. IsSaying me (Checkpoint m.number m.digest) e) (λ earlier e k. says me (Checkpoint m.number m.digest) earlier e k) history
@@ -246,7 +246,7 @@ own_at_most c me m history point leaves h =
 
 -- ---- one that was said adds nothing
 
-said_listed : (c : Configuration) (me k : ℕ) (root : List ℕ) (e : Entry) → is_number k ≡ true → IsSaying me (Checkpoint k root) e → checkpoint_in c e ≡ Some (me, record { number = k; digest = root })
+pub said_listed : (c : Configuration) (me k : ℕ) (root : List ℕ) (e : Entry) → is_number k ≡ true → IsSaying me (Checkpoint k root) e → checkpoint_in c e ≡ Some (me, record { number = k; digest = root })
 said_listed c me k root (Sent p bytes) n h = ap (option_and_then checkpoint_from) h ∙ ap (λ (b : Bool). then_some b (let y : ℕ × CheckpointEntry = (me, record { number = k; digest = root }) in y)) n
 said_listed c me k root (Got p bytes) n h = absurd h
 said_listed c me k root (Tick p) n h = absurd h

@@ -34,6 +34,7 @@ use Rattle.replica_histories.proofs.Settling.{votes_said}
 use Rattle.replica_histories.proofs.Speaking.{prepare_spoken, spoken_logged, commit_spoken, spoken_certified, in_event}
 use Rattle.replica_histories.proofs.TransfersAnswering.{answers_turn, answers_in_parts}
 use Rattle.replica_histories.proofs.TransfersQuorums.{quorums_end}
+use Rattle.replica_histories.proofs.Resending.{sends_turned}
 
 -- ---- at each output
 
@@ -153,13 +154,14 @@ module _ (c : Configuration) (me : ℕ) (s : Start) (desk : Desk) (log : LogData
     replies = λ ran h. given (reply_of ran.call.client ran.kept) (gave (reply_of ran.call.client ran.kept) (f.of_desk.replies ran h));
     checkpoints = checkpoints;
     again = λ k t op kept hears is same. given (reply_of k kept) (gave (reply_of k kept) (f.of_desk.asked k kept (t, op, hears, is, same)));
+    says_again = λ waits. sends_turned c me s.before s.old.state.number outputs (answered.4 waits);
     reads = λ client t op hears is. given (read_reply s.old.state client t op) (answered.1 client t op hears is);
     fetched_digests = parts.0;
     fetched_page = parts.1;
     fetches = λ k root h above fresh. given (Fetch k levels.Root 0) (fetched.1 k root h above fresh);
     goes_on_by_digests = λ p k index level digests hears awaited. goes_on k (answered.2 p k index level digests hears awaited);
     goes_on_by_page = λ p k index text hears awaited. goes_on k (answered.3 p k index text hears awaited);
-    view_changes = answered.4;
+    view_changes = answered.5;
     dropped = λ bytes got drops. dropped taken bytes got drops;
   }
     where

@@ -50,3 +50,5 @@ pub mod ChangesPassing
 pub mod ChangesKept
 pub mod ChangesMade
 pub mod OneChange
+pub mod Resending
+pub mod OwnCheckpoints

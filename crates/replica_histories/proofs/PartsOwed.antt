@@ -25,7 +25,7 @@ use Rattle.state_transfer.specs.Transfer.{TransferData}
 use Rattle.replica_histories.specs.Desk.{Desk}
 use Rattle.replica_histories.specs.Events.{Holds}
 use Rattle.replica_histories.specs.Fetching.{IsOther, OtherDigestsOweNone, OtherPagesOweNone, FetchesSuffice, FetchedSuffice}
-use Rattle.replica_histories.specs.Questions.{is_part, AnswersInput, AnswersReads, MovesOn}
+use Rattle.replica_histories.specs.Questions.{is_part, AnswersInput, AnswersReads, AnswersWaiting, MovesOn}
 use Rattle.replica_histories.specs.Transfers.{FitsTransfer, FitsOpen, RestsOn}
 use Rattle.replica_histories.specs.TransfersAnswers.{AnswersFetches}
 use Rattle.replica_histories.proofs.Questions.{parts_ask_nothing}
@@ -71,9 +71,10 @@ module _ (c : Configuration) (me : ℕ) (past : List Entry) (bytes : List ℕ) (
     λ s k index level digests hears awaited. on (record { sender = s; message = Meta k level index digests }) hears awaited,
     λ s k index text hears awaited. on (record { sender = s; message = Page k index text }) hears awaited,
     nothing.2,
+    nothing.3,
   )
     where
-      nothing : AnswersFetches c me past (Got me bytes) outputs point × AnswersReads c me past (Got me bytes) outputs point × MovesOn c me past (Got me bytes) outputs point
+      nothing : AnswersFetches c me past (Got me bytes) outputs point × AnswersReads c me past (Got me bytes) outputs point × AnswersWaiting c me past (Got me bytes) outputs point × MovesOn c me past (Got me bytes) outputs point
       nothing = parts_ask_nothing c me body past (Got me bytes) h outputs point part
 
       on : (other : Body) → heard (members c) me bytes ≡ Some other → Awaits other → GoesOnFor (number_in other)

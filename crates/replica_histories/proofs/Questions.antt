@@ -1,11 +1,13 @@
--- What an input asks: a part, a read, or whether the replica has to move.
-use Rattle.std.proofs.Common.{◌≡◌, ℕ, inl, inr, Bool, true, false, List, Option, None, Some, refl, sym, ap, ◌∙◌}
+-- What an input asks: a part, a read, what was sent for a request that waits, or whether the replica has to move.
+use Rattle.std.proofs.Common.{◌≡◌, ℕ, ◌+◌, ◌-◌, inl, inr, Bool, true, false, List, Option, None, Some, refl, sym, ap, ◌∙◌, subst, arith}
 use Rattle.tuple_codec.specs.Operations.{Operation}
+use Rattle.terms.specs.declared.order.Mode.TheVariants as modes
 use Rattle.terms.specs.declared.state.Level.{Level}
 use Rattle.wire.specs.Messages.{BodyData as Body, fetch as Fetch, meta as Meta, page as Page, MessageData as Message, request as Request, view_change as ViewChange}
 use Rattle.signing.specs.Heard.{heard}
 use Rattle.protocol.specs.System.Configuration.{Configuration, members}
-use Rattle.protocol.specs.System.Trace.{Entry, Hears}
+use Rattle.protocol.specs.System.Frames.{same_mode}
+use Rattle.protocol.specs.System.Trace.{Entry, Has, Hears}
 use Rattle.protocol.specs.System.Trace.Entry.{Invoke, Got, Tick, Executed, Installed, Sent, Accepted}
 use Rattle.protocol.specs.Replica.Owed.{HasToMove}
 use Rattle.protocol.specs.Replica.RightReplica.{Point}
@@ -13,7 +15,7 @@ use Rattle.protocol.specs.Replica.State.{Call}
 use Rattle.protocol.specs.Replica.Transfers.{place_from}
 use Rattle.protocol.proofs.Words.Moving.{no_time}
 use Rattle.protocol.proofs.Words.Options.{some_injective}
-use Rattle.replica_histories.specs.Questions.{is_question, is_part, has_question, brings_question, OthersOweNone, AnswersReads, AnswersDigests, AnswersPages, read_from, asks_part, has_part, brings_part, MovesOn, OthersOweNoPart}
+use Rattle.replica_histories.specs.Questions.{is_question, is_part, has_question, brings_question, OthersOweNone, AnswersReads, AnswersDigests, AnswersPages, read_from, asks_part, has_part, brings_part, MovesOn, OthersOweNoPart, NewRequestsOweNone, AnswersWaiting, ordered_from}
 use Rattle.replica_histories.specs.TransfersAnswers.{AnswersFetches}
 use Rattle.replica_histories.proofs.TransfersAnswering.{hears_one}
 
@@ -31,7 +33,7 @@ asks_so c me body before (Accepted x y z) h = absurd h
 abbrev pub is_change : Body → Bool
 is_change body = elim body.message [ ViewChange vc ↦ true | _ ↦ false ]
 
--- or whether it asks for a part or a read
+-- or whether it asks for a part, or is a request
 part_so : (c : Configuration) (me : ℕ) (body : Body) (before : List Entry) (input : Entry) → Hears c me body before input → brings_part c me input ≡ asks_part body
 part_so c me body before (Got p bytes) h = ap has_part h
 part_so c me body before (Invoke x y z) h = absurd h
@@ -47,6 +49,7 @@ others_owe_no_part c me before input outputs old executed none = (
   λ client t op hears is. absurd (let bad : false ≡ true = sym none ∙ part_so c me (read_from client t op) before input hears in cc),
   λ s k index level digests hears awaited. absurd (let bad : false ≡ true = sym none ∙ part_so c me (record { sender = s; message = Meta k level index digests }) before input hears in cc),
   λ s k index text hears awaited. absurd (let bad : false ≡ true = sym none ∙ part_so c me (record { sender = s; message = Page k index text }) before input hears in cc),
+  λ waits. absurd (let bad : false ≡ true = sym none ∙ part_so c me (ordered_from waits.0) before input waits.2 in cc),
 )
 
 -- Bytes that are heard to ask nothing give no reason to move.
@@ -81,7 +84,7 @@ no_part c me _ none = refl
 
 pub others_owe_none : OthersOweNone
 others_owe_none c me before input outputs old executed none =
-    let parts = others_owe_no_part c me before input outputs old executed (no_part c me input none) in (parts.0, parts.1, parts.2, parts.3, no_move_owed c me before input outputs old none)
+    let parts = others_owe_no_part c me before input outputs old executed (no_part c me input none) in (parts.0, parts.1, parts.2, parts.3, parts.4, no_move_owed c me before input outputs old none)
 
 -- Where a part or a read is asked for, no move is.
 no_change_heard : (c : Configuration) (me p : ℕ) (body : Body) (before : List Entry) (bytes : List ℕ) (waiting : List Call) (v : ℕ) → heard (members c) me bytes ≡ Some body → is_change body ≡ false
@@ -117,10 +120,11 @@ module _ (c : Configuration) (me : ℕ) (body : Body) (before : List Entry) (inp
       go sender (Page k index text) h = refl
       go sender _ h = absurd cc
 
-  pub parts_ask_nothing : (outputs : List Entry) (old : Point) → is_part body ≡ true → AnswersFetches c me before input outputs old × AnswersReads c me before input outputs old × MovesOn c me before input outputs old
+  pub parts_ask_nothing : (outputs : List Entry) (old : Point) → is_part body ≡ true → AnswersFetches c me before input outputs old × AnswersReads c me before input outputs old × AnswersWaiting c me before input outputs old × MovesOn c me before input outputs old
   parts_ask_nothing outputs old part = (
     λ s k index level h st is. absurd (let bad : true ≡ false = sym part ∙ same_kind (record { sender = s; message = Fetch k level index }) h in cc),
     λ client t op h is. absurd (let bad : true ≡ false = sym part ∙ same_kind (read_from client t op) h in cc),
+    λ waits. absurd (let bad : true ≡ false = sym part ∙ same_kind (ordered_from waits.0) waits.2 in cc),
     hears_no_move c me body before input outputs old hears (part_only body part),
   )
 
@@ -136,3 +140,53 @@ pub reads_owe_no_part : (c : Configuration) (me client t : ℕ) (op : Operation)
     → AnswersFetches c me before input outputs old
 reads_owe_no_part c me client t op before input outputs old hears s k index level other st is =
     absurd (let bad : None ≡ Some (k, (level, index)) = ap place_from (hears_one c me (read_from client t op) (record { sender = s; message = Fetch k level index }) before input hears other) in cc)
+
+-- ---- an ordered request is neither
+
+abbrev is_read_body : Body → Bool
+is_read_body body = elim body.message [ Request t mode op ↦ same_mode mode modes.ReadOnly | _ ↦ false ]
+
+pub fetches_owe_nothing_again : (c : Configuration) (me s k index : ℕ) (level : Level) (before : List Entry) (input : Entry) (outputs : List Entry) (old : Point) → Hears c me (record { sender = s; message = Fetch k level index }) before input
+    → AnswersWaiting c me before input outputs old
+fetches_owe_nothing_again c me s k index level before input outputs old hears waits =
+    absurd (let bad : Some (k, (level, index)) ≡ None = ap place_from (hears_one c me (record { sender = s; message = Fetch k level index }) (ordered_from waits.0) before input hears waits.2) in cc)
+
+pub reads_owe_nothing_again : (c : Configuration) (me client t : ℕ) (op : Operation) (before : List Entry) (input : Entry) (outputs : List Entry) (old : Point) → Hears c me (read_from client t op) before input
+    → AnswersWaiting c me before input outputs old
+reads_owe_nothing_again c me client t op before input outputs old hears waits =
+    absurd (let bad : true ≡ false = ap is_read_body (hears_one c me (read_from client t op) (ordered_from waits.0) before input hears waits.2) in cc)
+
+pub requests_owe_no_part : (c : Configuration) (me : ℕ) (call : Call) (before : List Entry) (input : Entry) (outputs : List Entry) (old : Point) → Hears c me (ordered_from call) before input
+    → AnswersFetches c me before input outputs old
+requests_owe_no_part c me call before input outputs old hears s k index level other st is =
+    absurd (let bad : None ≡ Some (k, (level, index)) = ap place_from (hears_one c me (ordered_from call) (record { sender = s; message = Fetch k level index }) before input hears other) in cc)
+
+pub requests_owe_no_read : (c : Configuration) (me : ℕ) (call : Call) (before : List Entry) (input : Entry) (outputs : List Entry) (old : Point) → Hears c me (ordered_from call) before input
+    → AnswersReads c me before input outputs old
+requests_owe_no_read c me call before input outputs old hears client t op other is =
+    absurd (let bad : false ≡ true = ap is_read_body (hears_one c me (ordered_from call) (read_from client t op) before input hears other) in cc)
+
+-- a request is of one call
+abbrev call_from : Call → Body → Call
+call_from other body = elim body.message [ Request t mode op ↦ record { client = body.sender - 256; timestamp = t; op = op } | _ ↦ other ]
+
+call_back : (call : Call) → call_from call (ordered_from call) ≡ call
+call_back call = ap (λ (n : ℕ). let x : Call = record { client = n; timestamp = call.timestamp; op = call.op } in x) (back call.client)
+  where
+    back : (n : ℕ) → 256 + n - 256 ≡ n
+    back n = omega arith
+
+same_call : (call other : Call) → ordered_from call ≡ ordered_from other → call ≡ other
+same_call call other same = sym (call_back call) ∙ ap (call_from call) same ∙ call_back other
+
+pub new_requests_owe_none : NewRequestsOweNone
+new_requests_owe_none c me before input outputs old executed call hears new =
+    let parts = others_bring_no_part c me (ordered_from call) before input hears outputs old executed refl in (
+      requests_owe_no_part c me call before input outputs old hears,
+      requests_owe_no_read c me call before input outputs old hears,
+      parts.0,
+      parts.1,
+      λ waits. absurd (new (subst (λ (x : Call). Has (λ y. y ≡ x) old.waiting)
+          (same_call waits.0 call (hears_one c me (ordered_from waits.0) (ordered_from call) before input waits.2 hears)) waits.1)),
+      hears_no_move c me (ordered_from call) before input outputs old hears refl,
+    )

@@ -29,7 +29,7 @@ use Rattle.replica_histories.proofs.TransfersInstalling.{pages_read}
 -- ---- snapshots of different numbers
 
 -- none is above the number, and no two are of one number
-record Distinct (snapshots : List State) (number : ℕ) : Type 0 where
+pub record Distinct (snapshots : List State) (number : ℕ) : Type 0 where
   pub below : (x : State) → Has (λ z. z ≡ x) snapshots → x.number ≤ number
   pub one : (x y : State) → Has (λ z. z ≡ x) snapshots → Has (λ z. z ≡ y) snapshots → x.number ≡ y.number → x ≡ y
 
@@ -72,7 +72,7 @@ distinct_step c me past old (Sent p bytes) new s d = subst IsDistinct (sym s.mov
 distinct_step c me past old (Invoke x y z) new s d = absurd s.may
 distinct_step c me past old (Accepted x y z) new s d = absurd s.may
 
-distinct : (c : Configuration) (me : ℕ) (history : List Entry) (point : Point) → Leaves c me history point → IsDistinct point
+pub distinct : (c : Configuration) (me : ℕ) (history : List Entry) (point : Point) → Leaves c me history point → IsDistinct point
 distinct c me [] point is = subst IsDistinct (sym is) (record { below = below; one = one })
   where
     below : (x : State) → (opening ≡ x) ⊎ ⊥ → x.number ≤ 0

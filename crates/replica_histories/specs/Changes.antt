@@ -2,21 +2,21 @@
 -- changes).
 use Rattle.std.specs.Prelude.{◌≡◌, ◌≢◌, ℕ, suc, ◌+◌, ◌≤◌, ◌<◌, ◌⊎◌, true, false, List, [], ◌∷◌, length, replicate, if◌then◌else◌, Option, Some, None, ⊤}
 use Rattle.std.specs.Option.{ForSome}
-use Rattle.wire.specs.Messages.{BodyData as Body, MessageData as Message, BatchEntryData as Claim, ViewChangeData, NewViewData, pre_prepare as PrePrepare, commit as Commit, view_change as ViewChange, new_view as NewView}
+use Rattle.wire.specs.Messages.{BodyData as Body, MessageData as Message, BatchEntryData as Claim, ViewChangeData, NewViewData, CheckpointEntryData as CheckpointEntry, pre_prepare as PrePrepare, commit as Commit, checkpoint as Checkpoint, view_change as ViewChange, new_view as NewView}
 use Rattle.wire.specs.Spelling.{is_signed}
 use Rattle.wire.specs.Words.{said}
 use Rattle.wire.specs.Lists.{Each}
 use Rattle.signing.specs.Heard.{heard}
 use Rattle.ordering.specs.Log as logs
 use Rattle.ordering.specs.Log.{LogData}
-use Rattle.protocol.specs.System.Configuration.{Configuration, primary, replicas, members, span}
+use Rattle.protocol.specs.System.Configuration.{Configuration, primary, replicas, is_number, members, span}
 use Rattle.protocol.specs.System.Frames.{IsPosted, leaf_of}
 use Rattle.protocol.specs.System.Trace.{Entry, Once}
 use Rattle.protocol.specs.System.Trace.Entry.{Got, Sent, Executed, Installed, Tick}
 use Rattle.protocol.specs.Replica.Selection.{signed_change}
 use Rattle.protocol.specs.Replica.Certificates.{brought, view, target, taken, logged, commit_of, latest_change}
-use Rattle.protocol.specs.Replica.RightReplica.{Point, Leaves, SendsBytes, SentBefore, HasOwnLeaf}
-use Rattle.protocol.specs.Replica.Owed.{AreKeysSpent}
+use Rattle.protocol.specs.Replica.RightReplica.{Point, Leaves, SendsBytes, SentBefore, HasOwnLeaf, MayCheckpoint}
+use Rattle.protocol.specs.Replica.Owed.{AreKeysSpent, latest_checkpoint}
 use Rattle.view_change.specs.ClaimsView.{ClaimsData, no_claims, claim_of, IsAmong}
 use Rattle.view_change.specs.Recording.{with_prepared, with_logged, with_all, above_mark}
 use Rattle.view_change.specs.ReceivedData.{HeldData, held_of, refusal_of, with_held}
@@ -27,20 +27,28 @@ use Rattle.replica_histories.specs.Claims.{FitsClaims}
 use Rattle.replica_histories.specs.Received.{FitsReceived}
 use Rattle.replica_histories.specs.Views.{begun_log}
 
--- the greatest view that a view change was sent for; the number up to which the new view of the own view has batches;
--- the frame of that new view, where it is the replica's own; what it claims; the view changes that it has, one place
--- for each replica; and how many leaves have signed
+-- the greatest view that a view change was sent for; the number up to which the new view of the own view has batches,
+-- 0 if there is none; the frame of that new view, where it is the replica's own; what it claims; the view changes that
+-- it has, one place for each replica; the last checkpoint that it sent; and how many leaves have signed
 pub record Changes : Type 0 where
   pub target : ℕ
   pub begun : ℕ
   pub new_view : Option (List ℕ)
   pub claims : ClaimsData
   pub held : List (Option HeldData)
+  pub last_checkpoint : Option CheckpointEntry
   pub spent : ℕ
 
 abbrev pub first_changes : Configuration → Changes
-first_changes c =
-    record { target = 0; begun = 0; new_view = None; claims = no_claims; held = replicate (replicas c) None; spent = 0 }
+first_changes c = record {
+  target = 0;
+  begun = 0;
+  new_view = None;
+  claims = no_claims;
+  held = replicate (replicas c) None;
+  last_checkpoint = None;
+  spent = 0;
+}
 
 -- ---- leaves
 
@@ -79,9 +87,16 @@ pub record IsOwnView (c : Configuration) (me v : ℕ) (history : List Entry) (fr
   pub sent : SentBefore frame history
   pub posted : IsPosted c me (NewView new) [] frame
 
+-- a new view began the view, with batches up to the number
+abbrev pub IsBegunUpTo : Configuration → ℕ → ℕ → List Entry → Type 0
+IsBegunUpTo c v i history =
+    (new : NewViewData) × Once (λ past e. taken c past e ≡ Some new) history × (new.view ≡ v)
+    × (i ≡ new.start + length new.batches)
+
 -- What is held is what the history says: the target; the claims; the view changes of others; how far the new view of
 -- the log's view goes; where the replica is active no more, its own view change, which is never for a view above the
--- target; its own new view; and how many leaves are spent.
+-- target; its own new view, by which it began the view as its primary; its latest checkpoint; and how many leaves are
+-- spent.
 pub record FitsChanges (c : Configuration) (me : ℕ) (log : LogData) (x : Changes) (history : List Entry) : Type 0 where
   pub target : target history ≡ x.target
   pub claims : FitsClaims c me history x.claims
@@ -89,9 +104,12 @@ pub record FitsChanges (c : Configuration) (me : ℕ) (log : LogData) (x : Chang
   pub places : length x.held ≡ replicas c
   pub begun : (new : NewViewData) → Once (λ past e. taken c past e ≡ Some new) history → new.view ≡ log.view
       → new.start + length new.batches ≤ x.begun
+  pub begun_by : (x.begun ≡ 0) ⊎ IsBegunUpTo c log.view x.begun history
   pub own_change : log.active ≡ false → HasOwnChange c me x history
   pub own_latest : (own : HeldData) → held_of x.held me ≡ Some own → own.change.view ≤ x.target
   pub own_view : ForSome x.new_view (IsOwnView c me log.view history)
+  pub own_begins : primary c log.view ≡ me → (log.view ≡ 0) ⊎ ((frame : List ℕ) × (x.new_view ≡ Some frame))
+  pub latest : latest_checkpoint c me history ≡ x.last_checkpoint
   pub leaves : AreLeavesBelow x.spent history
   pub signed : AreLeavesSent x.spent history
 
@@ -129,7 +147,7 @@ pub record IsSameView (old new : LogData) : Type 0 where
 
 -- It takes no view and sends no later view change, logs nothing, is no new own commit, and brings no view change of
 -- others that is newer. A signed frame goes again.
-pub record KeepsChanges (c : Configuration) (me : ℕ) (past : List Entry) (e : Entry) : Type 0 where
+pub record KeepsViews (c : Configuration) (me : ℕ) (past : List Entry) (e : Entry) : Type 0 where
   pub none : taken c past e ≡ None
   pub target : target (e ∷ past) ≡ target past
   pub logged : (v i : ℕ) → logged c me (e ∷ past) v i ≡ logged c me past v i
@@ -137,11 +155,17 @@ pub record KeepsChanges (c : Configuration) (me : ℕ) (past : List Entry) (e : 
   pub changes : (s : ℕ) → s ≢ me → latest_change c (e ∷ past) s ≡ latest_change c past s
   pub leaves : (sent : List ℕ) (leaf : ℕ) → leaf_of sent ≡ Some leaf → SendsBytes sent past e → SentBefore sent past
 
+-- And the own latest checkpoint stays.
+pub record KeepsChanges (c : Configuration) (me : ℕ) (past : List Entry) (e : Entry) : Type 0 where
+  pub views : KeepsViews c me past e
+  pub checkpoint : latest_checkpoint c me (e ∷ past) ≡ latest_checkpoint c me past
+
 -- what is said brings nothing about that it hadn't before
 abbrev pub IsNoNews : Configuration → ℕ → List Entry → Message → Type 0
 IsNoNews c me past message = elim message [
   | PrePrepare v i batch ↦ (text : List ℕ) × (logged c me past v i ≡ Some text)
   | Commit v i digest ↦ (other : List ℕ) × (commit_of c me past v i me ≡ Some other)
+  | Checkpoint k root ↦ latest_checkpoint c me past ≡ Some (record { number = k; digest = root })
   | ViewChange vc ↦ vc.view ≤ target past
   | NewView new ↦ new.view ≤ view c past
   | _ ↦ ⊤
@@ -266,6 +290,26 @@ ChangesStay =
     → CutsClaims after.low x.claims claims → FitsChanges c me log x past
     → FitsChanges c me after (record x { claims = claims }) (e ∷ past)
 
+-- An own checkpoint that is sent, and is the latest then, is noted.
+abbrev pub CheckpointsAreNoted : Type 0
+CheckpointsAreNoted =
+    (c : Configuration) (me : ℕ) (past : List Entry) (log after : LogData) (x : Changes) (claims : ClaimsData)
+    (entry : CheckpointEntry) (bytes : List ℕ)
+    → Passes c me past (Sent me bytes) log after → IsSameView log after
+    → said bytes ≡ Some (record { sender = me; message = Checkpoint entry.number entry.digest })
+    → latest_checkpoint c me (Sent me bytes ∷ past) ≡ Some entry
+    → CutsClaims after.low x.claims claims → FitsChanges c me log x past
+    → FitsChanges c me after (record x { claims = claims; last_checkpoint = Some entry }) (Sent me bytes ∷ past)
+
+-- The checkpoint of the executed state is the latest once it is sent.
+abbrev pub CheckpointsAreLatest : Type 0
+CheckpointsAreLatest =
+    (c : Configuration) (me : ℕ) (past : List Entry) (point : Point) (entry : CheckpointEntry) (bytes : List ℕ)
+    → Leaves c me past point → MayCheckpoint c past point entry.number entry.digest
+    → entry.number ≡ point.state.number → is_number entry.number ≡ true
+    → said bytes ≡ Some (record { sender = me; message = Checkpoint entry.number entry.digest })
+    → latest_checkpoint c me (Sent me bytes ∷ past) ≡ Some entry
+
 -- The commit that the log asks for is claimed.
 abbrev pub CommitsAreClaimed : Type 0
 CommitsAreClaimed =
@@ -313,9 +357,9 @@ ChangesAreTaken =
       held = with_held (record { sender = s; change = vc; frame = bytes }) x.held;
     }) (Got me bytes ∷ past)
 
--- whether the frame of the new view is kept, which is the replica's own where it is
+-- the frame of the new view, where it is the replica's own; else the view is another primary's
 abbrev pub IsOwnFrame : Configuration → ℕ → Entry → NewViewData → Option (List ℕ) → Type 0
-IsOwnFrame c me e new None = ⊤
+IsOwnFrame c me e new None = primary c new.view ≢ me
 IsOwnFrame c me e new (Some frame) =
     (e ≡ Sent me frame) × (primary c new.view ≡ me) × IsPosted c me (NewView new) [] frame
 

@@ -17,3 +17,4 @@ pub mod Views
 pub mod Claims
 pub mod Received
 pub mod Changes
+pub mod Resending

@@ -1,8 +1,8 @@
 -- What each output does to what a replica holds, and when it may be given (Castro and Liskov, TOCS 2002, on
 -- normal-case operation, garbage collection and state transfer). What asks for an output is an answer of the log.
-use Rattle.std.specs.Prelude.{◌≡◌, ℕ, suc, ◌+◌, ◌%◌, ◌^◌, ◌≤◌, ◌<◌, true, List, [], ◌∷◌, ◌++◌, length, map, ◌==◌, if◌then◌else◌, Some, None, AllPairs}
+use Rattle.std.specs.Prelude.{◌≡◌, ℕ, suc, ◌+◌, ◌%◌, ◌^◌, ◌≤◌, ◌<◌, true, List, [], ◌∷◌, ◌++◌, map, ◌==◌, if◌then◌else◌, Some, None, AllPairs}
 use Rattle.partition_tree.specs.Digests.{root_of as root_of_pages}
-use Rattle.wire.specs.Messages.{MessageData as Message, NewViewData, CheckpointEntryData as CheckpointEntry, pre_prepare as PrePrepare, prepare as Prepare, commit as Commit, checkpoint as Checkpoint}
+use Rattle.wire.specs.Messages.{MessageData as Message, CheckpointEntryData as CheckpointEntry, pre_prepare as PrePrepare, prepare as Prepare, commit as Commit, checkpoint as Checkpoint}
 use Rattle.wire.specs.Words.{requests_of}
 use Rattle.wire.specs.Lists.{Each}
 use Rattle.reply_cache.specs.Replies.{Kept}
@@ -13,10 +13,9 @@ use Rattle.protocol.specs.System.Configuration.{Configuration}
 use Rattle.protocol.specs.System.Frames.{IsPosted}
 use Rattle.protocol.specs.System.Trace.{Entry, Once, Has}
 use Rattle.protocol.specs.System.Trace.Entry.{Executed, Installed, Sent}
-use Rattle.protocol.specs.Replica.Certificates.{taken}
 use Rattle.protocol.specs.Replica.State.{State, IsState, Ran, last_time, execute, ran_in, root_of, pages_of}
 use Rattle.protocol.specs.Replica.RightReplica.{others, IsFree, reply_of, still_waiting}
-use Rattle.protocol.specs.Replica.Owed.{IsSaying, Gives, HasRequest, IsNumbered, AreDifferent}
+use Rattle.protocol.specs.Replica.Owed.{IsSaying, Gives, HasRequest, IsNumbered, AreDifferent, IsBegunBelow}
 use Rattle.state_transfer.specs.Transfer.{TransferData}
 use Rattle.replica_histories.specs.Desk.{Desk, Snapshot, snapshot_of, kept_from, desk_from}
 use Rattle.replica_histories.specs.Marks.{checked_log}
@@ -177,12 +176,6 @@ CommitsGoAgain =
     → (Gives me (Commit log.view i digest) outputs → ⊥)
     → IsPosted c me (Commit log.view i digest) (others c me) bytes
     → Fits c me s desk log due outputs → Fits c me s desk log due (Sent me bytes ∷ outputs)
-
--- a new view that began the view has batches up to below the number
-abbrev pub IsBegunBelow : Configuration → ℕ → ℕ → List Entry → Type 0
-IsBegunBelow c v i history =
-    (new : NewViewData) → Once (λ past e. taken c past e ≡ Some new) history → new.view ≡ v
-    → new.start + length new.batches < i
 
 abbrev pub BatchesGoAgain : Type 0
 BatchesGoAgain =

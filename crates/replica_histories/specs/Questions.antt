@@ -1,7 +1,7 @@
--- What an input may want of a replica: a part of a state that it keeps, or a read; that it goes on with a part that
--- comes; or that it moves to another view. What an event owes to it (Castro and Liskov, TOCS 2002, on state transfer,
--- on read-only operations, and on view changes).
-use Rattle.std.specs.Prelude.{◌≡◌, ℕ, ◌≤◌, ◌⊎◌, Bool, true, false, List, ◌∷◌, ◌++◌, Option, Some}
+-- What an input may want of a replica: a part of a state that it keeps, or a read; what it sent for a request that
+-- waits; that it goes on with a part that comes; or that it moves to another view. What an event owes to it (Castro and
+-- Liskov, TOCS 2002, on state transfer, on read-only operations, and on view changes).
+use Rattle.std.specs.Prelude.{◌≡◌, ℕ, ◌+◌, ◌≤◌, ◌⊎◌, Bool, true, false, List, ◌∷◌, ◌++◌, Option, Some}
 use Rattle.std.specs.Option.{option_map_or}
 use Rattle.tuple_codec.specs.Operations.{Operation}
 use Rattle.space.specs.Applying.{outcome, is_read_only}
@@ -14,14 +14,13 @@ use Rattle.wire.specs.Messages.{BodyData as Body, MessageData as Message, reques
 use Rattle.wire.specs.Words.{said}
 use Rattle.signing.specs.Heard.{heard}
 use Rattle.protocol.specs.System.Configuration.{Configuration, members}
-use Rattle.protocol.specs.System.Frames.{same_mode}
-use Rattle.protocol.specs.System.Trace.{Entry, Hears}
+use Rattle.protocol.specs.System.Trace.{Entry, Has, Hears}
 use Rattle.protocol.specs.System.Trace.Entry.{Got}
 use Rattle.protocol.specs.Replica.Selection.{is_within}
 use Rattle.protocol.specs.Replica.Certificates.{target}
-use Rattle.protocol.specs.Replica.State.{State, tuples}
+use Rattle.protocol.specs.Replica.State.{State, Call, tuples}
 use Rattle.protocol.specs.Replica.RightReplica.{Point, IsNewViewChange}
-use Rattle.protocol.specs.Replica.Owed.{Gives, IsAwaitedAlone, TransferGoesOn, HasToMove, AreKeysSpent}
+use Rattle.protocol.specs.Replica.Owed.{Gives, IsAwaitedAlone, TransferGoesOn, HasToMove, AreKeysSpent, WaitsAlready, SendsAgain}
 use Rattle.replica_histories.specs.TransfersAnswers.{AnswersFetches}
 
 -- the reply to a read: the outcome in a state, with that state's number
@@ -31,6 +30,11 @@ read_reply st client timestamp op = Reply client timestamp modes.ReadOnly st.num
 -- the read-only request of a client
 abbrev pub read_from : ℕ → ℕ → Operation → Body
 read_from client timestamp op = record { sender = client; message = Request timestamp modes.ReadOnly op }
+
+-- the ordered request of a client
+abbrev pub ordered_from : Call → Body
+ordered_from call =
+    record { sender = 256 + call.client; message = Request call.timestamp modes.Ordered call.op }
 
 -- What an event owes to a read, as its input: the reply from the executed state.
 abbrev pub AnswersReads : Configuration → ℕ → List Entry → Entry → List Entry → Point → Type 0
@@ -53,6 +57,11 @@ AnswersPages c me before input outputs old executed =
     → IsAwaitedAlone c me before old k levels.Page index (sha256 text)
     → TransferGoesOn c me (input ∷ before) old outputs executed k
 
+-- What it owes to a request that waits already: what the replica sent goes again.
+abbrev pub AnswersWaiting : Configuration → ℕ → List Entry → Entry → List Entry → Point → Type 0
+AnswersWaiting c me before input outputs old =
+    WaitsAlready c me before input old → SendsAgain c me before old.state.number outputs
+
 -- What an event owes where the replica has to move to a view: it has sent a view change for that view, or for a later
 -- one. Its keys may be spent, or no frame may say what it has to say.
 abbrev pub MovesOn : Configuration → ℕ → List Entry → Entry → List Entry → Point → Type 0
@@ -67,15 +76,15 @@ abbrev pub AnswersInput : Configuration → ℕ → List Entry → Entry → Lis
 AnswersInput c me before input outputs old executed =
     AnswersFetches c me before input outputs old × AnswersReads c me before input outputs old
     × AnswersDigests c me before input outputs old executed × AnswersPages c me before input outputs old executed
-    × MovesOn c me before input outputs old
+    × AnswersWaiting c me before input outputs old × MovesOn c me before input outputs old
 
--- a message asks for a part, or for a read, or is a part
+-- a message asks for a part, is a request, or is a part
 abbrev pub asks_part : Body → Bool
 asks_part body = elim body.message [
   | Fetch k level index ↦ true
   | Meta k level index digests ↦ true
   | Page k index text ↦ true
-  | Request t mode op ↦ same_mode mode modes.ReadOnly
+  | Request t mode op ↦ true
   | _ ↦ false
 ]
 
@@ -85,7 +94,7 @@ is_question body = elim body.message [
   | Fetch k level index ↦ true
   | Meta k level index digests ↦ true
   | Page k index text ↦ true
-  | Request t mode op ↦ same_mode mode modes.ReadOnly
+  | Request t mode op ↦ true
   | ViewChange vc ↦ true
   | _ ↦ false
 ]
@@ -111,16 +120,24 @@ brings_question c me _ = true
 
 -- ---- laws
 
--- An input that is heard to ask for no part and no read, and to be no part, owes none of these.
+-- An input that is heard to ask for no part, and to be no request and no part, owes none of these.
 abbrev pub OthersOweNoPart : Type 0
 OthersOweNoPart =
     (c : Configuration) (me : ℕ) (before : List Entry) (input : Entry) (outputs : List Entry) (old : Point)
     (executed : ℕ) → brings_part c me input ≡ false
     → AnswersFetches c me before input outputs old × AnswersReads c me before input outputs old
     × AnswersDigests c me before input outputs old executed × AnswersPages c me before input outputs old executed
+    × AnswersWaiting c me before input outputs old
 
 -- An input that is heard to ask nothing owes no answer.
 abbrev pub OthersOweNone : Type 0
 OthersOweNone =
     (c : Configuration) (me : ℕ) (before : List Entry) (input : Entry) (outputs : List Entry) (old : Point)
     (executed : ℕ) → brings_question c me input ≡ false → AnswersInput c me before input outputs old executed
+
+-- Nor does an ordered request that doesn't wait.
+abbrev pub NewRequestsOweNone : Type 0
+NewRequestsOweNone =
+    (c : Configuration) (me : ℕ) (before : List Entry) (input : Entry) (outputs : List Entry) (old : Point)
+    (executed : ℕ) (call : Call) → Hears c me (ordered_from call) before input
+    → (Has (λ x. x ≡ call) old.waiting → ⊥) → AnswersInput c me before input outputs old executed

@@ -1,6 +1,6 @@
 //! Laws of what a replica holds for changes of its view.
 
-ghost use Rattle.replica_histories.specs.Changes.{ChangesBegin, ChangesStay, CommitsAreClaimed, BatchesAreClaimed, ChangesAreSent, ChangesAreTaken, ViewsAreBegun, SentKeep, SilentKeep, GotKeep, HeardKeep, OthersBringNone, HeardAreSigned, OwnAreSigned, ClaimsAreAbove, OutputsPass, InputsEnter, AllAreSpent, NextLeafIsOwn};
+ghost use Rattle.replica_histories.specs.Changes.{ChangesBegin, ChangesStay, CheckpointsAreNoted, CheckpointsAreLatest, CommitsAreClaimed, BatchesAreClaimed, ChangesAreSent, ChangesAreTaken, ViewsAreBegun, SentKeep, SilentKeep, GotKeep, HeardKeep, OthersBringNone, HeardAreSigned, OwnAreSigned, ClaimsAreAbove, OutputsPass, InputsEnter, AllAreSpent, NextLeafIsOwn};
 
 /// The logs fit the histories before each entry and behind it.
 pub fn entries_pass()
@@ -29,6 +29,12 @@ pub fn changes_stay()
     ensures above { ClaimsAreAbove }
     ensures commits { CommitsAreClaimed }
     ensures batches { BatchesAreClaimed }
+{}
+
+/// The checkpoint of the executed state is the latest of the own once it is sent, and is noted as that.
+pub fn checkpoints_are_noted()
+    ensures noted { CheckpointsAreNoted }
+    ensures latest { CheckpointsAreLatest }
 {}
 
 /// So are the view changes that it sends and takes, and the new view that begins its view.

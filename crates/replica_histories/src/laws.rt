@@ -7,7 +7,8 @@ ghost use Rattle.replica_histories.specs.Marks.{MarksMove, InstallationsMove, Cu
 ghost use Rattle.replica_histories.specs.Histories.{FirstHold, HeldAreReplicas};
 ghost use Rattle.replica_histories.specs.Transfers.{WantedByHistory, DigestsCount, PagesCount, AimsStay, AskedStays, OpenStays, OpenExecutes, DigestsTaken, DigestsOpen, DigestsMayAsk, PagesMayAsk, TicksMayAsk, PagesGiveBack, PagesRested, QuorumsWant, TransfersStart, TransfersMove, QuorumsOpen, LowerAreFetched, MayAskAny, NextsAreFirst, TransfersMayFetch, TransfersAsk, StartedRests, DigestsRest, PagesRest, RestedRests, TransfersInstall};
 ghost use Rattle.replica_histories.specs.TransfersAnswers.{KeptAreOne, SnapshotsAreKept, KeptHaveSnapshots, FetchesCount, AnswersMayGo, PostedToOne, AnswersSuffice, NoneIsOwed, AnswersStay, AnswersTurn, AnswersInParts};
-ghost use Rattle.replica_histories.specs.Questions.{OthersOweNoPart, OthersOweNone};
+ghost use Rattle.replica_histories.specs.Questions.{OthersOweNoPart, OthersOweNone, NewRequestsOweNone};
+ghost use Rattle.replica_histories.specs.Resending.{ResendingSuffices, WaitingAreNew};
 ghost use Rattle.replica_histories.specs.TransfersQuorums.{QuorumsGrow, CountsStay, UnchangedBringNone, QuorumsFirst, QuorumsStay, QuorumsBegin, QuorumsGoOn, QuorumsEnd};
 ghost use Rattle.replica_histories.specs.Fetching.{FetchesFit, DueFetchesFit, QuorumsMayAsk, HeldOweNoFetch, DigestsEnter, PagesEnter, AskedDigestsCount, AskedPagesCount, OtherDigestsOweNone, OtherPagesOweNone, FetchesSuffice, FetchedSuffice, TransfersChange};
 ghost use Rattle.replica_histories.specs.Answering.{PartsFit, KeptFetchesCount, PartsSuffice, OtherNumbersOweNone, ReadsFit, ReadsSuffice, OtherOperationsOweNone};
@@ -236,6 +237,15 @@ pub fn reads_fit()
     ensures operations { OtherOperationsOweNone }
     ensures parts { OthersOweNoPart }
     ensures others { OthersOweNone }
+{}
+
+/// Where a request comes again that waits, the own new view, the own batches, votes and latest checkpoint, or the own
+/// view change, are all that is owed to it. To one that doesn't wait nothing goes again. What waits is newer than what
+/// ran.
+pub fn requests_come_again()
+    ensures suffice { ResendingSuffices }
+    ensures others { NewRequestsOweNone }
+    ensures new { WaitingAreNew }
 {}
 
 /// Which of the requests that wait have a number is known from the start, and from each new view on that begins a view:

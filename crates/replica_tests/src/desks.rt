@@ -1,9 +1,9 @@
-//! A desk that reads beside the order.
+//! A desk that reads beside the order, and one that an orderer of another replica steps with.
 
 use crate::frames::{Sent, frame_of};
-use crate::replicas::{Given, are_given, config, new_replica};
+use crate::replicas::{Given, are_given, config, config_of_period, new_replica};
 use bumpalo::Bump;
-use replica::Desk;
+use replica::{Desk, Event, Orderer, Replica};
 use std::alloc::Global;
 use std::test::Fail;
 
@@ -73,5 +73,58 @@ fn stops_for_nothing(alloc: Global) -> Result<bool, Fail> {
 #[test]
 fn what_is_not_heard_stops_no_desk(rt: HostRuntime) -> Result<(), Fail> {
     assert!(rt; stops_for_nothing(rt.alloc())?);
+    Ok(())
+}
+
+// ---- a desk that isn't the orderer's
+
+fn gives_with(
+    orderer: &mut Orderer,
+    desk: &mut Desk,
+    alloc: Global,
+    event: Event<'_>,
+    all: &[Given],
+) -> Result<bool, Fail> {
+    let outputs = orderer.step(alloc, desk, event)?;
+    Ok(are_given(alloc, &outputs, all)?)
+}
+
+// A request comes to the primary's orderer and the other's desk, and is lost. Nothing has changed then: the request gets
+// the first number with the primary's own desk, and none waits at the other.
+fn loses_request(alloc: Global, primary: Replica, other: Replica) -> Result<bool, Fail> {
+    let frame = frame_of(alloc, Sent::Request(1))?;
+    let numbered = [Given::Sends(Sent::PrePrepare(1))];
+    let (mut orderer, mut desk) = primary.split();
+    let (mut others, mut foreign) = other.split();
+    Ok(
+        gives_with(&mut orderer, &mut foreign, alloc, Event::Got(&frame), &[])?
+            && gives_with(
+                &mut orderer,
+                &mut desk,
+                alloc,
+                Event::Got(&frame),
+                &numbered,
+            )?
+            && gives_with(&mut others, &mut foreign, alloc, Event::Timeout, &[])?,
+    )
+}
+
+fn loses_with_another_replica(alloc: Global) -> Result<bool, Fail> {
+    let config = config(alloc)?;
+    let primary = new_replica(alloc, &config, 0)?;
+    let other = new_replica(alloc, &config, 1)?;
+    loses_request(alloc, primary, other)
+}
+
+fn loses_with_another_period(alloc: Global) -> Result<bool, Fail> {
+    let primary = new_replica(alloc, &config(alloc)?, 0)?;
+    let other = new_replica(alloc, &config_of_period(alloc, 4)?, 0)?;
+    loses_request(alloc, primary, other)
+}
+
+#[test]
+fn a_desk_of_another_replica_gives_nothing(rt: HostRuntime) -> Result<(), Fail> {
+    assert!(rt; loses_with_another_replica(rt.alloc())?);
+    assert!(rt; loses_with_another_period(rt.alloc())?);
     Ok(())
 }

@@ -1,17 +1,16 @@
 -- A client that has not stopped sends its request.
-use Rattle.std.proofs.Common.{◌≡◌, ℕ, ◌+◌, ◌≤◌, ◌⊎◌, inl, inr, Bool, true, false, cond, List, [], ◌∷◌, length, refl, sym, ap, ◌∙◌, subst, arith, eq-eqb}
+use Rattle.std.proofs.Common.{◌≡◌, ℕ, ◌+◌, ◌≤◌, ◌<◌, ◌⊎◌, inl, inr, Bool, true, false, cond, List, [], ◌∷◌, length, refl, sym, ap, ◌∙◌, subst, arith, eq-eqb}
 use Rattle.std.specs.Prelude.{filter, ◌==◌, reverse}
 use Rattle.tuple_codec.specs.Operations.{Operation}
 use Rattle.protocol.specs.System.Configuration.{Configuration, is_correct, is_correct_client}
 use Rattle.protocol.specs.System.Trace.{Entry, party_of, history_of, Has}
 use Rattle.protocol.specs.System.Trace.Entry.{Invoke, Got, Tick, Executed, Installed, Sent, Accepted}
 use Rattle.protocol.specs.System.Schedule as schedules
-use Rattle.protocol.specs.System.Schedule.{StopsAt}
 use Rattle.protocol.specs.System.Schedule.Step.{calls, deliver}
 use Rattle.protocol.specs.System.Run.{OnlyTheseStopped}
 use Rattle.protocol.specs.Client.RightClient.{Reacts, reaction}
 use Rattle.protocol.specs.Evidence.RefusedRuns.{IsInputOf, is_sent}
-use Rattle.protocol.proofs.Evidence.RefusingRunsSchedules.{feeds_each_step, stops_at_no_sent}
+use Rattle.protocol.proofs.Evidence.RefusingRunsSchedules.{feeds_each_step, allows_sent}
 use Rattle.protocol.proofs.Words.Options.{some_injective}
 use Rattle.protocol.proofs.Words.Elements.{has_filter, has_filtered}
 use Rattle.schedule_text.specs.StepView.{step_of}
@@ -73,14 +72,14 @@ counted (e ∷ trace) h = go (is_sent e) refl h (counted trace)
 
 -- a delivery of the first frame after a call is refused only if a party has stopped
 pub first_frame : (c : Configuration) (k p : ℕ) (op : Operation) (trace : List Entry) → is_correct_client c (256 + k) ≡ true → is_correct c p ≡ true
-    → StopsAt c (calls k op ∷ deliver 0 p ∷ []) 1 trace → OnlyTheseStopped c [] trace → ⊥
-first_frame c k p op trace correct to stops only =
-    let called : Has (IsInputOf (calls k op)) trace = feeds_each_step c (calls k op ∷ []) (calls k op) trace (inl refl) refl (stops.1.0, stops.1.2) in
+    → (feeds : schedules.Feeds c (calls k op ∷ []) trace) → (schedules.IsAllowed c feeds.0 (deliver 0 p) → ⊥) → OnlyTheseStopped c [] trace → ⊥
+first_frame c k p op trace correct to feeds refused only =
+    let called : Has (IsInputOf (calls k op)) trace = feeds_each_step c (calls k op ∷ []) (calls k op) trace (inl refl) refl feeds in
     let own = has_filtered (IsInputOf (calls k op)) (λ e. party_of e == (256 + k)) (calls_own k op) trace called in
-    let few : length (filter is_sent trace) ≤ 0 = stops_at_no_sent c (calls k op ∷ deliver 0 p ∷ []) 1 0 p trace stops refl to in
     let some = counted trace (has_filter IsSent (λ e. party_of e == (256 + k)) trace
     (sent (sends c (256 + k) k op [] (history_of (256 + k) trace) (only.clients (256 + k) correct refl) own))) in
-    omega (arith, few, some)
+    let one : 0 < length (filter is_sent trace) = omega (arith, some) in
+    refused (allows_sent c (calls k op ∷ []) 0 p trace feeds one to)
   where
     sent : Has IsSent [] ⊎ Has IsSent (history_of (256 + k) trace) → Has IsSent (history_of (256 + k) trace)
     sent (inl h) = absurd h
@@ -100,7 +99,7 @@ pub first_frame_may_come : FirstFrameMayCome
 first_frame_may_come c [] k p op before correct to same none stops = absurd cc
 first_frame_may_come c (first ∷ []) k p op before correct to same none stops = absurd cc
 first_frame_may_come c (first ∷ second ∷ rest) k p op before correct to same none stops =
-    first_frame c k p op (trace_of before) correct to (stops.tells.run, (stops.world, deliver 0 p, goes, refl, refused)) only
+    first_frame c k p op (trace_of before) correct to (stops.world, goes) refused only
   where
     goes : schedules.Goes c schedules.new_world (calls k op ∷ []) (reverse (trace_of before)) stops.world
     goes = subst (λ x. schedules.Goes c schedules.new_world (x ∷ []) (reverse (trace_of before)) stops.world) (ap (first_of (deliver 0 p)) same) stops.goes

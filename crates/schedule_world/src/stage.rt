@@ -128,7 +128,7 @@ impl Stage {
     {
         match self.pool.bytes(frame) {
             Some(bytes) => Ok(Vec::from_slice(alloc, bytes)?),
-            None => Err(NoMemory),
+            None => unreachable!(),
         }
     }
 
@@ -348,6 +348,7 @@ impl Stage {
         ensures kept { KeepsRecords self.old self.new }
     {
         let seat = &mut self.seats[usize::from(client.number)];
+        // Each call lengthens the trace, and no memory holds so many entries.
         seat.calls = match seat.calls.checked_add(1) {
             Some(calls) => calls,
             None => return Err(NoMemory),

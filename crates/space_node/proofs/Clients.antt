@@ -16,7 +16,7 @@ use Rattle.client_cert.specs.State.{ClientState, IsSpent}
 use Rattle.client_cert.specs.Fits.{Fits}
 use Rattle.client_cert.specs.Steps.{Leads}
 use Rattle.tuple_codec.specs.OperationView.{outcome_of}
-use Rattle.space_node.specs.Calls.{AcceptNothing, Begins, Comes, IsQuiet, TurnsTo}
+use Rattle.space_node.specs.Calls.{AcceptNothing, Begins, Comes, IsQuiet, MakesTurn, TurnsTo}
 use Rattle.space_node.specs.declared.turn.Turn.{Turn}
 use Rattle.space_node.specs.declared.turn.Turn.TheVariants as turns
 use Rattle.space_node.specs.declared.input.Input.{Input}
@@ -24,6 +24,7 @@ use Rattle.space_node.specs.declared.input.Input.TheVariants as inputs
 use Rattle.space_node.specs.Seats.{ClientLeads, IsInputOf, Seated, SeatsClient, input_of}
 use Rattle.space_node.proofs.Calling.{begins, ends, goes_on}
 use Rattle.space_node.proofs.Events.{right_client}
+use Rattle.space_node.proofs.Turning.{call_waits, event_turns}
 
 -- ---- inputs and outputs
 
@@ -88,6 +89,10 @@ module _ (c : Configuration) (id calls : ℕ) (client later : ClientState) (shar
       right_client c share.party (behind es share.history) seats.no_replica
       (subst (λ (p : ℕ). IsClient c p (behind es share.history)) (ap (λ (k : ℕ). 256 + k) (same ∙ seats.number_is) ∙ sym seats.party_is) after.right)
 
+  prompt_after : (es : List Entry) → Fits c later (behind es share.history) → later.stopped ≡ false → IsPromptClient c (256 + id) (behind es share.history)
+  prompt_after es after on =
+      subst (λ (p : ℕ). IsPromptClient c p (behind es share.history)) (ap (λ (k : ℕ). 256 + k) (same ∙ seats.number_is)) (after.running on).gave
+
   pub client_after : (es : List Entry) (timestamp : ℕ) → last_call (behind es share.history) ≡ timestamp → Fits c later (behind es share.history) → later.stopped ≡ false → SeatsClient c id later timestamp false (longer_part share es)
   client_after es timestamp last after on = record {
     party_is = seats.party_is;
@@ -111,6 +116,11 @@ module _ (c : Configuration) (id calls : ℕ) (client later : ClientState) (shar
         (subst (λ (t : ℕ). Fits c later (behind (Invoke client.number t op ∷ map (entry_of (256 + client.number)) outs) share.history)) when
         (leads c share.history fits)))
 
+    pub waits : Fits c later (behind es share.history) → later.stopped ≡ false → AcceptNothing outs
+    waits after on =
+        call_waits c (256 + id) id timestamp op outs share.history
+        (subst (λ (xs : List Entry). IsPromptClient c (256 + id) (behind xs share.history)) are (prompt_after es after on))
+
     pub last_invoke : last_call (behind es share.history) ≡ timestamp
     last_invoke =
         ap (λ (xs : List Entry). last_call (behind xs share.history)) are ∙ last_outputs (256 + id) outs (Invoke id timestamp op ∷ share.history)
@@ -123,6 +133,12 @@ module _ (c : Configuration) (id calls : ℕ) (client later : ClientState) (shar
         subst (λ (xs : List Entry). Fits c later (behind xs share.history)) (sym are)
         (subst (λ (k : ℕ). Fits c later (behind (input_of (256 + k) input ∷ map (entry_of (256 + k)) outs) share.history)) seats.number_is
         (leads c share.history fits))
+
+    pub turns_on : Fits c later (behind es share.history) → later.stopped ≡ false → MakesTurn calls outs
+    turns_on after on =
+        subst (λ (t : ℕ). MakesTurn t outs) (last_input (256 + id) input share.history ∙ seats.calls_are)
+        (event_turns c (256 + id) outs (input_of (256 + id) input) share.history (is_input (256 + id) input).1
+        (subst (λ (xs : List Entry). IsPromptClient c (256 + id) (behind xs share.history)) are (prompt_after es after on)))
 
     pub last_after : last_call (behind es share.history) ≡ calls
     last_after =

@@ -1,6 +1,5 @@
 -- What a finished cluster comes to.
-use Rattle.std.proofs.Common.{◌≡◌, ℕ, ◌+◌, ◌<◌, ◌≤◌, false, List, [], ◌∷◌, ◌++◌, length, get_or, take, map, refl, sym, ap, ◌∙◌, subst}
-use Rattle.std.specs.Prelude.{Result, Ok, Err, OnOk, is_err}
+use Rattle.std.proofs.Common.{◌≡◌, ℕ, ◌+◌, ◌<◌, ◌≤◌, List, [], ◌∷◌, ◌++◌, length, get_or, take, map, refl, sym, ap, ◌∙◌, subst}
 use Rattle.std.proofs.lemmas.List.{map-append, take_all, take_more}
 use Rattle.std.proofs.lemmas.List.Elements.{All-push, All-same}
 use Rattle.terms.specs.declared.parties.ReplicaId.{ReplicaId}
@@ -12,13 +11,12 @@ use Rattle.protocol.specs.Replica.Owed.{IsPromptReplica}
 use Rattle.journal.specs.Carrying.{Carried}
 use Rattle.journal.specs.Histories.{correct_replicas}
 use Rattle.journal.specs.Laws.{CarriedIsUnforged}
-use Rattle.journal.specs.Parts.{Part}
-use Rattle.space_node.specs.Runs.{ClientsArePrompt, HasClients, HasShares, IsFinished, ReplicasArePrompt, Serves, StoppedAreNamed}
+use Rattle.space_node.specs.Runs.{AreNamed, ClientsArePrompt, HasHistories, IsFinished, ReplicasArePrompt, Serves}
 use Rattle.space_node.specs.Seats.{Seated}
 
 -- ---- the shares of correct replicas, one after another
 
-parties_more : (shares : List Part) (share : Part) → map (λ (s : Part). s.party) (shares ++ share ∷ []) ≡ map (λ (s : Part). s.party) shares ++ share.party ∷ []
+parties_more : (shares : List Seated) (share : Seated) → map (λ (s : Seated). s.party) (shares ++ share ∷ []) ≡ map (λ (s : Seated). s.party) shares ++ share.party ∷ []
 parties_more [] share = refl
 parties_more (s ∷ shares) share = ap (λ (ps : List ℕ). s.party ∷ ps) (parties_more shares share)
 
@@ -27,38 +25,34 @@ numbers_more : (replicas : List ReplicaId) (i : ℕ) (d : ReplicaId) → i < len
 numbers_more replicas i d low =
     ap (map (λ (r : ReplicaId). r.0)) (take_more replicas i d low) ∙ map-append (λ (r : ReplicaId). r.0) (take i replicas) (get_or replicas i d ∷ [])
 
-pub shares_more : (replicas : List ReplicaId) (i : ℕ) (d : ReplicaId) (shares more : List Part) (share : Part) → i < length replicas
-    → share.party ≡ (get_or replicas i d).0 → more ≡ shares ++ share ∷ [] → map (λ (s : Part). s.party) shares ≡ map (λ (r : ReplicaId). r.0) (take i replicas)
-    → map (λ (s : Part). s.party) more ≡ map (λ (r : ReplicaId). r.0) (take (i + 1) replicas)
+pub shares_more : (replicas : List ReplicaId) (i : ℕ) (d : ReplicaId) (shares more : List Seated) (share : Seated) → i < length replicas
+    → share.party ≡ (get_or replicas i d).0 → more ≡ shares ++ share ∷ [] → map (λ (s : Seated). s.party) shares ≡ map (λ (r : ReplicaId). r.0) (take i replicas)
+    → map (λ (s : Seated). s.party) more ≡ map (λ (r : ReplicaId). r.0) (take (i + 1) replicas)
 shares_more replicas i d shares more share low who grown are =
-    ap (map (λ (s : Part). s.party)) grown ∙ (parties_more shares share
+    ap (map (λ (s : Seated). s.party)) grown ∙ (parties_more shares share
     ∙ (ap (λ (ps : List ℕ). ps ++ share.party ∷ []) are
     ∙ (ap (λ (p : ℕ). map (λ (r : ReplicaId). r.0) (take i replicas) ++ p ∷ []) who ∙ sym (numbers_more replicas i d low))))
 
-pub shares_are : (c : Configuration) (replicas : List ReplicaId) (i : ℕ) (shares : List Part) → Serves c replicas → length replicas ≤ i
-    → map (λ (s : Part). s.party) shares ≡ map (λ (r : ReplicaId). r.0) (take i replicas) → map (λ (s : Part). s.party) shares ≡ correct_replicas c
+pub shares_are : (c : Configuration) (replicas : List ReplicaId) (i : ℕ) (shares : List Seated) → Serves c replicas → length replicas ≤ i
+    → map (λ (s : Seated). s.party) shares ≡ map (λ (r : ReplicaId). r.0) (take i replicas) → map (λ (s : Seated). s.party) shares ≡ correct_replicas c
 shares_are c replicas i shares serves all are =
     are ∙ (ap (map (λ (r : ReplicaId). r.0)) (take_all i replicas all) ∙ serves.correct_are)
 
-pub ok_holds : {T E : Type 0} (r : Result T E) (P : Type 0) → is_err r ≡ false → OnOk r P → P
-ok_holds (Ok x) P h p = p
-ok_holds (Err e) P h p = absurd cc
-
-pub prompt_more : (c : Configuration) (shares more : List Part) (share : Part) → more ≡ shares ++ share ∷ [] → ReplicasArePrompt c shares → IsPromptReplica c share.party share.history
+pub prompt_more : (c : Configuration) (shares more : List Seated) (share : Seated) → more ≡ shares ++ share ∷ [] → ReplicasArePrompt c shares → IsPromptReplica c share.party share.history
     → ReplicasArePrompt c more
 prompt_more c shares more share is old new =
-    All-same (λ (s : Part). IsPromptReplica c s.party s.history) more (shares ++ share ∷ []) is
-    (All-push (λ (s : Part). IsPromptReplica c s.party s.history) shares share old new)
+    All-same (λ (s : Seated). IsPromptReplica c s.party s.history) more (shares ++ share ∷ []) is
+    (All-push (λ (s : Seated). IsPromptReplica c s.party s.history) shares share old new)
 
-pub finished : (c : Configuration) (old trace : List Entry) (shares : List Part) (stopped : List ℕ) (clients : List Seated) → CarriedIsUnforged → PointsAreLinear → IsConfiguration c
-    → map (λ (s : Part). s.party) shares ≡ correct_replicas c → trace ≡ old → IsRun c trace → Carried c trace → HasShares old shares → HasClients old clients
-    → ReplicasArePrompt c shares → ClientsArePrompt c clients → StoppedAreNamed stopped clients → IsFinished c trace shares stopped clients
+pub finished : (c : Configuration) (old trace : List Entry) (shares : List Seated) (stopped : List ℕ) (clients : List Seated) → CarriedIsUnforged → PointsAreLinear → IsConfiguration c
+    → map (λ (s : Seated). s.party) shares ≡ correct_replicas c → trace ≡ old → IsRun c trace → Carried c trace → HasHistories old shares → HasHistories old clients
+    → ReplicasArePrompt c shares → ClientsArePrompt c clients → AreNamed stopped shares clients → IsFinished c trace shares stopped clients
 finished c old trace shares stopped clients unforge linear valid are is run carried has has_clients replicas_prompt clients_prompt named = record {
   whole = record {
     run = run;
     carried = carried;
-    shares_are = subst (λ (t : List Entry). HasShares t shares) (sym is) has;
-    clients_are = subst (λ (t : List Entry). HasClients t clients) (sym is) has_clients;
+    shares_are = subst (λ (t : List Entry). HasHistories t shares) (sym is) has;
+    clients_are = subst (λ (t : List Entry). HasHistories t clients) (sym is) has_clients;
   };
   replicas_prompt = replicas_prompt;
   clients_prompt = clients_prompt;

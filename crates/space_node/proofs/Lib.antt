@@ -11,9 +11,11 @@ pub mod HandleSends
 pub mod JournalSends
 pub mod NewHandles
 pub mod NewSeats
+pub mod Orders
 pub mod Parts
 pub mod SeatSends
 pub mod Sends
 pub mod StateSends
 pub mod Stale
 pub mod Stopped
+pub mod Turning

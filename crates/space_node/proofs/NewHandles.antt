@@ -1,14 +1,14 @@
 -- The handles of a new cluster: one of each client.
 use Rattle.std.proofs.Common.{◌≡◌, ℕ, zero, suc, ◌+◌, ◌<◌, ◌≤◌, Bool, true, false, cond, ◌||◌, List, [], ◌∷◌, ◌++◌, map, refl, sym, ap, ◌∙◌, arith}
-use Rattle.std.specs.Prelude.{filter, nat_le}
+use Rattle.std.specs.Prelude.{filter, nat_le, nat_lt}
 use Rattle.std.specs.List.{range_with_len}
 use Rattle.std.proofs.lemmas.Bool.Decides.{nat_tests}
-use Rattle.std.proofs.lemmas.List.{map-append}
+use Rattle.std.proofs.lemmas.List.{append-nil, map-append}
 use Rattle.std.proofs.lemmas.List.Elements.{filter-append}
 use Rattle.protocol.specs.System.Configuration.{Configuration, IsConfiguration, replicas as replicas_of, is_correct, is_correct_replica, is_correct_client}
 use Rattle.journal.specs.Histories.{correct_of, correct_parties, correct_replicas}
 use Rattle.journal.specs.Parts.{Part, fresh}
-use Rattle.space_node.specs.Places.{clients_among, clients_of, parties_of}
+use Rattle.space_node.specs.Places.{clients_among, clients_of, parties_of, replicas_among}
 use Rattle.space_node.specs.Seats.{Seated}
 use Rattle.space_node.proofs.NewSeats.{correct_client}
 
@@ -64,6 +64,39 @@ all_clients c valid none =
     filter-append (nat_le 256) (correct_replicas c) (correct_of c (range_with_len 256 c.clients))
     ∙ (ap (λ ps. ps ++ clients_among (correct_of c (range_with_len 256 c.clients))) (low_ones (is_correct c) 0 (replicas_of c) few)
     ∙ (ap clients_among high ∙ kept))
+
+-- ---- replicas among parties
+
+low_pass : (t : ℕ → Bool) (a n : ℕ) → a + n ≤ 256 → replicas_among (filter t (range_with_len a n)) ≡ filter t (range_with_len a n)
+low_pass t a zero low = refl
+low_pass t a (suc n) low = one (t a) (low_pass t (a + 1) n (omega arith))
+  where
+    one : (b : Bool) → replicas_among (filter t (range_with_len (a + 1) n)) ≡ filter t (range_with_len (a + 1) n)
+        → replicas_among (step b a (filter t (range_with_len (a + 1) n))) ≡ step b a (filter t (range_with_len (a + 1) n))
+    one true same =
+        let here : nat_lt a 256 ≡ true = grind (arith, nat_tests) in
+        ap (λ b. step b a (replicas_among (filter t (range_with_len (a + 1) n)))) here ∙ ap (λ ps. a ∷ ps) same
+    one false same = same
+
+high_none : (t : ℕ → Bool) (a n : ℕ) → 256 ≤ a → replicas_among (filter t (range_with_len a n)) ≡ []
+high_none t a zero high = refl
+high_none t a (suc n) high = one (t a) (high_none t (a + 1) n (omega arith))
+  where
+    one : (b : Bool) → replicas_among (filter t (range_with_len (a + 1) n)) ≡ [] → replicas_among (step b a (filter t (range_with_len (a + 1) n))) ≡ []
+    one true none =
+        let there : nat_lt a 256 ≡ false = grind (arith, nat_tests) in
+        ap (λ b. step b a (replicas_among (filter t (range_with_len (a + 1) n)))) there ∙ none
+    one false none = none
+
+-- the replicas among the correct parties are the correct replicas
+pub all_replicas : (c : Configuration) → IsConfiguration c → replicas_among (correct_parties c) ≡ correct_replicas c
+all_replicas c valid =
+    let most = valid.most in
+    let few : 0 + replicas_of c ≤ 256 = omega arith in
+    let high : 256 ≤ 256 = omega arith in
+    filter-append (λ p. nat_lt p 256) (correct_replicas c) (correct_of c (range_with_len 256 c.clients))
+    ∙ (ap (λ ps. ps ++ replicas_among (correct_of c (range_with_len 256 c.clients))) (low_pass (is_correct c) 0 (replicas_of c) few)
+    ∙ (ap (λ ps. correct_replicas c ++ ps) (high_none (is_correct c) 256 c.clients high) ∙ append-nil (correct_replicas c)))
 
 -- ---- shares
 

@@ -1,6 +1,8 @@
 -- What a call leaves in its client's history, whose newest entry stands first.
 use Rattle.std.specs.Prelude.{◌≡◌, ℕ, suc, ◌-◌, ◌^◌, ◌≤◌, ◌⊎◌, true, false, List, [], ◌∷◌, ◌++◌, ⊤}
+use Rattle.std.specs.declared.alloc.Global.{Global}
 use Rattle.tuple_codec.specs.OperationView.{outcome_of}
+use Rattle.tuple_codec.specs.declared.operations.Answer.{Answer}
 use Rattle.tuple_codec.specs.Operations.{Operation, Outcome}
 use Rattle.wire.specs.Lists.{Each}
 use Rattle.protocol.specs.System.Trace.{Entry}
@@ -55,6 +57,17 @@ Accepts _ = ⊥
 
 abbrev pub AcceptNothing : List Output → Type 0
 AcceptNothing outs = Each (λ output. ¬ Accepts output) outs
+
+-- the output accepts this answer
+abbrev pub AcceptsAnswer : Output → Answer Global → Type 0
+AcceptsAnswer (outputs.Accepted timestamp answer) given = answer ≡ given
+AcceptsAnswer _ given = ⊥
+
+-- the outputs make a turn of a call of this timestamp: none of them accepts, or there is one, which accepts
+abbrev pub MakesTurn : ℕ → List Output → Type 0
+MakesTurn timestamp outs =
+    AcceptNothing outs
+    ⊎ ((answer : Answer Global) × (outs ≡ outputs.Accepted (record { 0 = timestamp }) answer ∷ []))
 
 -- the call begins
 pub record Begins (old : Seated) (op : Operation) (new : Seated) : Type 0 where

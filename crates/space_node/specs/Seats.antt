@@ -1,6 +1,6 @@
 -- The seats of parties: what contracts see of them, what they keep, and what an event does to them. The newest entry of
 -- a history stands first.
-use Rattle.std.specs.Prelude.{◌≡◌, ℕ, ◌+◌, ◌<◌, Bool, true, false, List, [], ◌∷◌, map, is_some}
+use Rattle.std.specs.Prelude.{◌≡◌, ℕ, ◌+◌, ◌<◌, Bool, true, false, ◌||◌, List, [], ◌∷◌, map, is_some}
 use Rattle.protocol.specs.System.Configuration.{Configuration, is_correct_replica}
 use Rattle.protocol.specs.System.Reads.{without_reads}
 use Rattle.protocol.specs.System.Trace.{Entry, party_of, is_output}
@@ -33,6 +33,14 @@ IsNew s = s ≡ new_seat s.party
 -- it stopped, with the history as it is
 abbrev pub stopped_at : Seated → Seated
 stopped_at s = record s { stopped = true }
+
+-- what the replica of these two seats leaves, the orderer's and the desk's: it has stopped if one of them has
+abbrev pub left_by : Seated → Seated → Seated
+left_by order shelf = record shelf { stopped = order.stopped || shelf.stopped }
+
+-- what a replica without seats leaves
+abbrev pub absent : ℕ → Seated
+absent p = stopped_at (new_seat p)
 
 -- no call is open, unless it stopped
 abbrev pub IsIdle : Seated → Type 0

@@ -132,9 +132,6 @@ impl<N: Naming> ClientSeat<N> {
         let timestamp = Timestamp(self.calls + 1);
         let input = Entry::new(EntryKind::Invoke(self.id, timestamp, told));
         let entries = entries_of(alloc, Party::Client(self.id), input, outputs.as_slice())?;
-        let Some(Turn::Waits(outputs)) = turn_of(outputs, timestamp) else {
-            return Err(AppendFault::NotInJournal);
-        };
         let first = record(rt, alloc, journal, &mut self.share, None, entries)?;
         self.calls = timestamp.0;
         self.stopped = false;
@@ -168,9 +165,7 @@ impl<N: Naming> ClientSeat<N> {
         let party = Party::Client(self.id);
         let (entry, from) = input.into_entry(party);
         let entries = entries_of(alloc, party, entry, outputs.as_slice())?;
-        let Some(turn) = turn_of(outputs, Timestamp(self.calls)) else {
-            return Err(AppendFault::NotInJournal);
-        };
+        let turn = turn_of(outputs, Timestamp(self.calls));
         let first = record(rt, alloc, journal, &mut self.share, from, entries)?;
         self.stopped = false;
         Ok((turn, first))

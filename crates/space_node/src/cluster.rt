@@ -10,7 +10,7 @@ ghost use Rattle.space_node.specs.Seats.{IsNew};
 
 use crate::drill::{Drill, drill_of, may_start};
 use crate::drilling::start_drill;
-use crate::fault::StartFault;
+use crate::fault::{StartFault, ThreadFault};
 use crate::faultless::correct_replicas;
 use crate::finishing::{settle, shares_of};
 use crate::gate::Gate;
@@ -21,7 +21,7 @@ use crate::serving::{serve_orders, serve_reads};
 use crate::shared::Shared;
 use events::Config;
 use journal::{Naming, Opened};
-use std::alloc::{AllocError, Global};
+use std::alloc::Global;
 use std::marker::Model;
 use std::sync::{Arc, Wait};
 use std::thread;
@@ -55,7 +55,8 @@ impl<N: Naming + Send + Sync + 'static> Cluster<N> {
     ///
     /// # Errors
     ///
-    /// BadConfig exactly where the configuration names a faulty party, and NoMemory. No thread is left then.
+    /// BadConfig exactly where the configuration names a faulty party, NoThread where a thread could not be started, and
+    /// NoMemory. No thread is left then.
     pub fn start<G: Gate + Send + Sync + Drop + 'static, R: Threads + Wait + Copy + Send + 'static>(
         rt: &R,
         alloc: Global,
@@ -78,7 +79,7 @@ impl<N: Naming + Send + Sync + 'static> Cluster<N> {
     /// # Errors
     ///
     /// BadConfig exactly where the drills are not those of the configuration's faulty replicas, each once and in any
-    /// order, or a client is faulty; and NoMemory. No thread is left then.
+    /// order, or a client is faulty; NoThread where a thread could not be started; and NoMemory. No thread is left then.
     pub fn start_with_drills<
         G: Gate + Send + Sync + Drop + 'static,
         R: Threads + Wait + Copy + Send + 'static,
@@ -117,16 +118,22 @@ impl<N: Naming + Send + Sync + 'static> Cluster<N> {
             ends,
             &mut threads,
         );
-        if started.is_err() {
-            stop(rt, &shared, threads);
-            return Err(StartFault::NoMemory);
+        match started {
+            Ok(()) => Ok(Cluster {
+                replicas,
+                shared,
+                threads,
+                handles,
+            }),
+            Err(ThreadFault::NoThread) => {
+                stop(rt, &shared, threads);
+                Err(StartFault::NoThread)
+            }
+            Err(ThreadFault::NoMemory) => {
+                stop(rt, &shared, threads);
+                Err(StartFault::NoMemory)
+            }
         }
-        Ok(Cluster {
-            replicas,
-            shared,
-            threads,
-            handles,
-        })
     }
 
     /// The handle of the client of this number, the first time that it is asked for. It made no call.
@@ -155,7 +162,8 @@ impl<N: Naming + Send + Sync + 'static> Cluster<N> {
 
     /// Ends the nodes and joins them, takes out the journal, and compares it with the replicas' shares and with the
     /// clients that are handed in. A call that is waiting on another handle is refused. In the trace each of these
-    /// parties does all that it owes; the run names those that stopped, of which the trace has no later event.
+    /// parties does all that it owes. The run names exactly those that had stopped: the replicas by their shares, by
+    /// number, and then the clients by their handles, in order. The trace has no later event of them.
     ///
     /// # Errors
     ///
@@ -180,13 +188,11 @@ impl<N: Naming + Send + Sync + 'static> Cluster<N> {
         } = self;
         stop(rt, &shared, threads);
         drop(handles);
-        let mut stopped = Vec::new(alloc);
-        let replicas = replicas.as_slice();
-        let Ok(shares) = shares_of(rt, alloc, &shared, replicas, &mut stopped) else {
+        let Ok(shares) = shares_of(rt, alloc, &shared, replicas.as_slice()) else {
             return Err(FinishFault::NoMemory);
         };
         let mut journal = shared.journal.lock(rt);
-        settle(alloc, &mut journal, shares, stopped, clients.as_slice())
+        settle(alloc, &mut journal, shares, clients.as_slice())
     }
 }
 
@@ -235,7 +241,7 @@ fn start_replicas<
     drills: &[(u16, Drill)],
     ends: Vec<NodeEnd>,
     threads: &mut Vec<JoinHandle<()>>,
-) -> Result<(), AllocError> {
+) -> Result<(), ThreadFault> {
     for end in ends {
         match drill_of(drills, end.replica) {
             None => start_node(rt, alloc, shared, gate, end, threads)?,
@@ -256,7 +262,7 @@ fn start_node<
     gate: &Arc<G, Global>,
     end: NodeEnd,
     threads: &mut Vec<JoinHandle<()>>,
-) -> Result<(), AllocError> {
+) -> Result<(), ThreadFault> {
     let NodeEnd {
         replica,
         orders,

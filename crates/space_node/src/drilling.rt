@@ -4,6 +4,7 @@ ghost use Rattle.std.specs.Prelude.{◌≡◌, ◌<◌, IfSome};
 ghost use Rattle.space_node.specs.Drills.{IsStale};
 
 use crate::drill::Drill;
+use crate::fault::ThreadFault;
 use crate::note::Note;
 use crate::seating::NodeEnd;
 use crate::shared::Shared;
@@ -15,7 +16,7 @@ use journal::Naming;
 use posting::{reply_message, seal_for_one};
 use read_only::{Shelf, answer, asks_read, hear_read};
 use space::Space;
-use std::alloc::{AllocError, Global};
+use std::alloc::Global;
 use std::sync::{Arc, Wait};
 use std::thread;
 use std::thread::{JoinHandle, Threads};
@@ -42,7 +43,7 @@ pub(crate) fn start_drill<
     drill: Drill,
     end: NodeEnd,
     threads: &mut Vec<JoinHandle<()>>,
-) -> Result<(), AllocError> {
+) -> Result<(), ThreadFault> {
     let NodeEnd {
         replica,
         orders,
@@ -63,7 +64,7 @@ fn start_silent<R: Threads + Wait + Copy + Send + 'static>(
     rt: R,
     inbox: Receiver<Note>,
     threads: &mut Vec<JoinHandle<()>>,
-) -> Result<(), AllocError> {
+) -> Result<(), ThreadFault> {
     threads.reserve(1)?;
     let taking = thread::spawn(&rt, move || take_all(&rt, &inbox))?;
     threads.push_reserved(taking);
@@ -77,7 +78,7 @@ fn start_stale<N: Naming + Send + Sync + 'static, R: Threads + Wait + Copy + Sen
     stale: Stale,
     inbox: Receiver<Note>,
     threads: &mut Vec<JoinHandle<()>>,
-) -> Result<(), AllocError> {
+) -> Result<(), ThreadFault> {
     let shared = Arc::try_clone(shared)?;
     threads.reserve(1)?;
     let reading = thread::spawn(

@@ -2,6 +2,7 @@
 
 use journal::AppendFault;
 use std::alloc::{AllocError, AllocFailed};
+use std::thread::SpawnError;
 use terms::NoMemory;
 use thiserror::Error;
 
@@ -11,8 +12,30 @@ pub enum StartFault {
     /// The configuration names a faulty party.
     #[error("the configuration names a faulty party")]
     BadConfig,
+    /// A thread of a replica could not be started.
+    #[error("no thread could be started")]
+    NoThread,
     #[error("out of memory")]
     NoMemory,
+}
+
+/// Why the threads of a replica were not started.
+#[derive(Clone, Copy)]
+pub(crate) enum ThreadFault {
+    NoThread,
+    NoMemory,
+}
+
+impl<F: Drop> From<SpawnError<F>> for ThreadFault {
+    fn from(_refused: SpawnError<F>) -> ThreadFault {
+        ThreadFault::NoThread
+    }
+}
+
+impl From<AllocError> for ThreadFault {
+    fn from(_failed: AllocError) -> ThreadFault {
+        ThreadFault::NoMemory
+    }
 }
 
 impl From<NoMemory> for StartFault {

@@ -1,31 +1,30 @@
 //! A cluster's end: what its journal has is compared with what its parties kept.
 
-ghost use Rattle.std.specs.Prelude.{◌≡◌, true, map, reverse, IfOk, IfErr, OnOk, MatchOption};
+ghost use Rattle.std.specs.Prelude.{◌≡◌, ◌++◌, true, map, reverse, IfOk, IfErr, OnOk, MatchOption};
 ghost use Rattle.terms.specs.Parties.{party_number};
 ghost use Rattle.journal.specs.Histories.{correct_replicas};
 ghost use Rattle.protocol.specs.System.Configuration.{IsConfiguration, is_correct};
 ghost use Rattle.protocol.specs.Replica.Owed.{IsPromptReplica};
-ghost use Rattle.space_node.specs.Runs.{ClientsArePrompt, HasClients, HasShares, IsFinished, LacksClient};
-ghost use Rattle.space_node.specs.Runs.{LacksShare, ReplicasArePrompt, Serves, StoppedAreNamed, TellsFault};
+ghost use Rattle.space_node.specs.Runs.{AreNamed, ClientsArePrompt, HasHistories, IsFinished, LacksHistory};
+ghost use Rattle.space_node.specs.Runs.{ReplicasArePrompt, Serves, TellsFault, stopped_of};
 
 use crate::handle::ClientHandle;
+use crate::replica_share::ReplicaShare;
 use crate::run::{FinishFault, Run};
 use crate::shared::Shared;
-use journal::{Journal, Naming, Share, carried_is_unforged};
+use journal::{Journal, Naming, carried_is_unforged};
 use protocol::points_are_linear;
 use std::alloc::Global;
 use std::sync::Wait;
 use terms::{NoMemory, Party, ReplicaId};
 
-/// The share of each of the correct replicas, whose desk stops then. Those whose desk had stopped are added to the
-/// stopped parties.
+/// The share of each of the correct replicas, whose desk stops then.
 pub(crate) fn shares_of<N: Naming, R: Wait>(
     rt: &R,
     alloc: Global,
     shared: &Shared<N>,
     replicas: &[ReplicaId],
-    stopped: &mut Vec<Party>,
-) -> Result<Vec<Share<N>>, NoMemory>
+) -> Result<Vec<ReplicaShare<N>>, NoMemory>
     requires serves { Serves N.config replicas.now }
     ensures valid { IsConfiguration N.config }
     ensures parties { IfOk result
@@ -35,43 +34,39 @@ pub(crate) fn shares_of<N: Naming, R: Wait>(
 {
     let mut shares = Vec::new(alloc);
     for replica in replicas {
-        let (share, has_stopped) = share_of(rt, alloc, shared, *replica);
-        if has_stopped {
-            stopped.push(Party::Replica(*replica))?;
-        }
+        let share = share_of(rt, alloc, shared, *replica);
         shares.push(share)?;
     }
     Ok(shares)
 }
 
-// The share that lies in the replica's seat, and whether the replica has stopped.
+// What lies in the replica's seats.
 fn share_of<N: Naming, R: Wait>(
     rt: &R,
     alloc: Global,
     shared: &Shared<N>,
     replica: ReplicaId,
-) -> (Share<N>, bool)
+) -> ReplicaShare<N>
     requires correct { is_correct N.config replica.0 ≡ true }
-    ensures party { result.0.party ≡ replica.0 }
-    ensures prompt { IsPromptReplica N.config result.0.party result.0.history }
+    ensures party { result.party ≡ replica.0 }
+    ensures prompt { IsPromptReplica N.config result.party result.history }
 {
     if let Some(node) = shared.node(replica) {
+        let order = node.order.lock(rt);
         let mut shelf = node.shelf.lock(rt);
-        let stopped = shelf.is_stopped();
-        let share = shelf.give_up(alloc);
+        let share = ReplicaShare::take(alloc, &order, &mut shelf);
         if share.party().number() == u16::from(replica.0) {
-            return (share, stopped);
+            return share;
         }
     }
-    (Share::empty(alloc, Party::Replica(replica)), false)
+    ReplicaShare::none(alloc, replica)
 }
 
 /// Compares the journal with the shares, one of each correct replica, and with the clients, and takes its trace.
 pub(crate) fn settle<N: Naming>(
     alloc: Global,
     journal: &mut Journal<N>,
-    shares: Vec<Share<N>>,
-    mut stopped: Vec<Party>,
+    shares: Vec<ReplicaShare<N>>,
     clients: &[ClientHandle<N>],
 ) -> Result<Run<N>, FinishFault<N>>
     requires valid { IsConfiguration N.config }
@@ -84,9 +79,9 @@ pub(crate) fn settle<N: Naming>(
 {
     let share_off = first_share_off(journal, shares.as_slice());
     let client_off = first_client_off(journal, clients);
-    if add_stopped(clients, &mut stopped).is_err() {
+    let Ok(stopped) = name_stopped(alloc, shares.as_slice(), clients) else {
         return Err(FinishFault::NoMemory);
-    }
+    };
     carried_is_unforged();
     points_are_linear();
     let run = Run {
@@ -102,12 +97,12 @@ pub(crate) fn settle<N: Naming>(
 }
 
 // The first party of which the journal has another history than its share.
-fn first_share_off<N: Naming>(journal: &Journal<N>, shares: &[Share<N>]) -> Option<Party>
-    ensures { MatchOption result (HasShares journal.now.trace shares.now)
-        (λ party. LacksShare journal.now.trace shares.now (party_number party)) }
+fn first_share_off<N: Naming>(journal: &Journal<N>, shares: &[ReplicaShare<N>]) -> Option<Party>
+    ensures { MatchOption result (HasHistories journal.now.trace shares.now)
+        (λ party. LacksHistory journal.now.trace shares.now (party_number party)) }
 {
     for share in shares {
-        if !journal.agrees(share) {
+        if !journal.agrees(share.share()) {
             return Some(share.party());
         }
     }
@@ -116,8 +111,8 @@ fn first_share_off<N: Naming>(journal: &Journal<N>, shares: &[Share<N>]) -> Opti
 
 // The same of clients.
 fn first_client_off<N: Naming>(journal: &Journal<N>, clients: &[ClientHandle<N>]) -> Option<Party>
-    ensures { MatchOption result (HasClients journal.now.trace clients.now)
-        (λ party. LacksClient journal.now.trace clients.now (party_number party)) }
+    ensures { MatchOption result (HasHistories journal.now.trace clients.now)
+        (λ party. LacksHistory journal.now.trace clients.now (party_number party)) }
 {
     for client in clients {
         if !journal.agrees(client.share()) {
@@ -127,13 +122,47 @@ fn first_client_off<N: Naming>(journal: &Journal<N>, clients: &[ClientHandle<N>]
     None
 }
 
-// Adds the clients that have stopped. Each does all that it owes to the end of its history.
-fn add_stopped<N: Naming>(
+// The parties that have stopped: the replicas, and then the clients. Each client does all that it owes to the end of its
+// history.
+fn name_stopped<N: Naming>(
+    alloc: Global,
+    shares: &[ReplicaShare<N>],
+    clients: &[ClientHandle<N>],
+) -> Result<Vec<Party>, NoMemory>
+    ensures named { IfOk result
+        (λ stopped. AreNamed (map party_number stopped.items) shares.now clients.now) }
+    ensures prompt { OnOk result (ClientsArePrompt N.config clients.now) }
+{
+    let mut stopped = Vec::new(alloc);
+    add_replicas(shares, &mut stopped)?;
+    add_clients(clients, &mut stopped)?;
+    Ok(stopped)
+}
+
+// Adds the replicas that have stopped.
+fn add_replicas<N: Naming>(
+    shares: &[ReplicaShare<N>],
+    stopped: &mut Vec<Party>,
+) -> Result<(), NoMemory>
+    ensures { OnOk result
+        (map party_number stopped.new.items ≡ map party_number stopped.old.items ++ stopped_of shares.now) }
+{
+    for share in shares {
+        if share.is_stopped() {
+            stopped.push(share.party())?;
+        }
+    }
+    Ok(())
+}
+
+// Adds the clients that have stopped.
+fn add_clients<N: Naming>(
     clients: &[ClientHandle<N>],
     stopped: &mut Vec<Party>,
 ) -> Result<(), NoMemory>
     ensures prompt { OnOk result (ClientsArePrompt N.config clients.now) }
-    ensures named { OnOk result (StoppedAreNamed (map party_number stopped.new.items) clients.now) }
+    ensures named { OnOk result
+        (map party_number stopped.new.items ≡ map party_number stopped.old.items ++ stopped_of clients.now) }
 {
     for client in clients {
         if client.is_stopped() {

@@ -49,6 +49,13 @@ impl<N: Naming> OrderSeat<N> {
         OrderSeat { orderer, order }
     }
 
+    /// Whether the orderer has stopped.
+    pub(crate) fn is_stopped(&self) -> bool
+        ensures { result ≡ self.now.stopped }
+    {
+        self.orderer.is_stopped()
+    }
+
     /// Stops both parts of the replica.
     pub(crate) fn stop(&mut self, shelf: &mut DeskSeat<N>)
         ensures stopped { self.new.stopped ≡ true }

@@ -1,7 +1,8 @@
 //! What a cluster comes to.
 
+use crate::replica_share::ReplicaShare;
 use events::Entry;
-use journal::{Naming, Share};
+use journal::Naming;
 use terms::Party;
 
 /// What the parties of a cluster did.
@@ -9,11 +10,11 @@ use terms::Party;
 pub struct Run<N: Naming> {
     /// The entries of all, the oldest first.
     pub trace: Vec<Entry>,
-    /// The share of each correct replica, in the order of their numbers.
-    pub shares: Vec<Share<N>>,
-    /// The replicas that stopped, by number, and then those of the handed clients, in the order of their handles. A
-    /// party stops where memory runs out or the journal refuses its event, and a client also if the cluster ends in its
-    /// call. The trace has nothing of that event, nor of later ones.
+    /// The share of each correct replica, in the order of their numbers, which tells whether the replica had stopped.
+    pub shares: Vec<ReplicaShare<N>>,
+    /// The replicas that had stopped, by number, and then those of the handed clients, in the order of their handles,
+    /// and nobody else. A party stops where memory runs out or the journal refuses its event, and a client also if the
+    /// cluster ends in its call. The trace has nothing of that event, nor of later ones.
     pub stopped: Vec<Party>,
 }
 

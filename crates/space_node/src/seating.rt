@@ -1,8 +1,8 @@
 //! The seats of a new cluster.
 
-ghost use Rattle.std.specs.Prelude.{◌≡◌, ◌+◌, ◌++◌, ◌<◌, [], ◌∷◌, All, IfOk, IfSome, map};
+ghost use Rattle.std.specs.Prelude.{◌≡◌, ◌+◌, ◌++◌, ◌<◌, [], ◌∷◌, All, IfOk, OnOk, map};
 ghost use Rattle.protocol.specs.System.Configuration.{IsConfiguration};
-ghost use Rattle.space_node.specs.Places.{clients_among, clients_of};
+ghost use Rattle.space_node.specs.Places.{IsFirst, clients_among, clients_of, later_of, left_after, replicas_among};
 ghost use Rattle.space_node.specs.Seats.{IsNew};
 
 use crate::client_seat::ClientSeat;
@@ -107,6 +107,7 @@ fn seat_parties<N: Naming>(
     requires config { config.now ≡ N.config }
     requires new { All (λ s. s.history ≡ []) shares.items }
     requires new_orders { All (λ o. o.history ≡ []) orders.items }
+    requires orders_are { map (λ o. o.party) orders.items ≡ replicas_among (map (λ s. s.party) shares.items) }
     ensures { IfOk result (λ parties. map (λ e. e.seat.party) parties.client_ends.items
         ≡ clients_among (map (λ s. s.party) shares.items)) }
 {
@@ -134,47 +135,39 @@ fn seat_party<N: Naming>(
     requires keys { publics.now ≡ config.now.seed }
     requires new { share.history ≡ [] }
     requires new_orders { All (λ o. o.history ≡ []) orders.old.items }
+    requires first { IsFirst share.party orders.old.items }
     ensures new_orders { All (λ o. o.history ≡ []) orders.new.items }
+    ensures left { OnOk result (orders.new.items ≡ left_after share.party orders.old.items) }
     ensures clients { IfOk result (λ _. map (λ e. e.seat.party) parties.new.client_ends.items
         ≡ map (λ e. e.seat.party) parties.old.client_ends.items ++ clients_among (share.party ∷ [])) }
 {
     match share.party() {
         Party::Replica(replica) => {
-            let Some(order) = take_order(orders, replica) else {
-                return Err(NoMemory);
-            };
-            parties
-                .nodes
-                .push(new_node(alloc, config, publics, replica, share, order)?)?;
+            let order = take_order(orders, replica);
+            let node = new_node(alloc, config, publics, replica, share, order)?;
+            parties.nodes.push(node)?;
+            Ok(())
         }
         Party::Client(client) => {
             let (inbox, end) = new_client(alloc, config, publics, client, share)?;
             parties.clients.push(inbox)?;
             parties.client_ends.push(end)?;
+            Ok(())
         }
     }
-    Ok(())
 }
 
 // The first share of ordering, which is the replica's.
-fn take_order<N: Naming>(
-    orders: &mut Vec<OrderShare<N>>,
-    replica: ReplicaId,
-) -> Option<OrderShare<N>>
+fn take_order<N: Naming>(orders: &mut Vec<OrderShare<N>>, replica: ReplicaId) -> OrderShare<N>
     requires new { All (λ o. o.history ≡ []) orders.old.items }
-    ensures party { IfSome result (λ order. order.party ≡ replica.0) }
-    ensures new { IfSome result (λ order. order.history ≡ []) }
+    requires first { IsFirst replica.0 orders.old.items }
+    ensures party { result.party ≡ replica.0 }
+    ensures new { result.history ≡ [] }
+    ensures left { orders.new.items ≡ later_of orders.old.items }
     ensures others { All (λ o. o.history ≡ []) orders.new.items }
 {
-    if orders.is_empty() {
-        return None;
-    }
     let order = orders.remove(0);
-    if order.party().number() == u16::from(replica.0) {
-        Some(order)
-    } else {
-        None
-    }
+    order
 }
 
 fn new_node<N: Naming>(

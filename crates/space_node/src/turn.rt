@@ -1,7 +1,7 @@
 //! What an event of a client comes to.
 
-ghost use Rattle.std.specs.Prelude.{◌≡◌, ◌↔◌, IfSome, IsTrue};
-ghost use Rattle.space_node.specs.Calls.{AcceptNothing, Accepts, TurnsTo};
+ghost use Rattle.std.specs.Prelude.{◌≡◌, ◌↔◌, IsTrue};
+ghost use Rattle.space_node.specs.Calls.{AcceptNothing, Accepts, AcceptsAnswer, MakesTurn, TurnsTo};
 
 use events::{Output, Outputs};
 use std::alloc::Global;
@@ -17,26 +17,33 @@ pub(crate) enum Turn {
     Answered(Answer<Global>),
 }
 
-/// What outputs come to in a call of this timestamp. No client gives others.
-pub(crate) fn turn_of(mut outputs: Outputs, timestamp: Timestamp) -> Option<Turn>
-    ensures { IfSome result (TurnsTo timestamp.0 outputs.items) }
+/// What outputs come to in a call of this timestamp.
+pub(crate) fn turn_of(mut outputs: Outputs, timestamp: Timestamp) -> Turn
+    requires { MakesTurn timestamp.0 outputs.items }
+    ensures { TurnsTo timestamp.0 outputs.items result }
 {
     if accept_nothing(outputs.as_slice()) {
-        return Some(Turn::Waits(outputs));
+        return Turn::Waits(outputs);
     }
-    if outputs.len() != 1 {
-        return None;
-    }
-    match outputs.pop() {
-        Some(Output::Accepted(time, answer)) if time.0 == timestamp.0 => {
-            Some(Turn::Answered(answer))
-        }
-        _ => None,
+    let Some(output) = outputs.pop() else {
+        unreachable!();
+    };
+    Turn::Answered(answer_in(output))
+}
+
+// The answer that the output accepts.
+fn answer_in(output: Output) -> Answer<Global>
+    requires { Accepts output }
+    ensures { AcceptsAnswer output result }
+{
+    match output {
+        Output::Accepted(_, answer) => answer,
+        Output::Executed(_, _) | Output::Installed(_, _) | Output::Send(_, _) => unreachable!(),
     }
 }
 
 fn accept_nothing(outputs: &[Output]) -> bool
-    ensures { IsTrue result → AcceptNothing outputs.now }
+    ensures { IsTrue result ↔ AcceptNothing outputs.now }
 {
     for output in outputs {
         if accepts(output) {

@@ -56,7 +56,9 @@ fn came_of<N: Naming>(finished: Result<Run<N>, FinishFault<N>>) -> Came {
 fn nothing_is_called(rt: HostRuntime) -> Result<(), Fail> {
     let config = new_config(rt.alloc(), Vec::new(rt.alloc()))?;
     let came = starts_and_ends::<Brand, _>(&rt, rt.alloc(), Opened::new(), &config);
-    let out_of_memory = came == Came::NoMemory || came == Came::Refused(StartFault::NoMemory);
+    let out_of_memory = came == Came::NoMemory
+        || came == Came::Refused(StartFault::NoMemory)
+        || came == Came::Refused(StartFault::NoThread);
     assert!(rt; came == Came::Empty || out_of_memory);
     Ok(())
 }

@@ -144,6 +144,7 @@ module _ (o : Part) where
       replies = λ ran h. absurd h;
       checkpoints = λ n h multiple. absurd (events.none_executed o (w.reply me) n h);
       again = λ n t other kept asks there same. sends_again n kept (is_ordered (record { sender = 256 + n; message = Request t modes.Ordered other }) asks).0 there;
+      says_again = λ r. absurd r.1;
       reads = λ s t other asks read_only. absurd (let bad : modes.ReadOnly ≡ modes.Ordered = (is_ordered (record { sender = s; message = Request t modes.ReadOnly other }) asks).1 in cc);
       fetched_digests = λ s n index level children asks state kept. absurd (is_ordered (record { sender = s; message = Fetch n level index }) asks);
       fetched_page = λ s n index asks state kept. absurd (is_ordered (record { sender = s; message = Fetch n levels.Page index }) asks);

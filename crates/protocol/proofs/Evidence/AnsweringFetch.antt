@@ -109,6 +109,7 @@ module _ (clients : ℕ) (seed : List ℕ) (me other : ℕ) (fetch digests : Lis
       replies = λ ran h. absurd h;
       checkpoints = λ k h multiple. absurd (none_executed k h);
       again = λ k t o kept asks there same. absurd (only_fetch (record { sender = 256 + k; message = Request t modes.Ordered o }) asks);
+      says_again = λ r. absurd r.1;
       reads = λ s t o asks read_only. absurd (only_fetch (record { sender = s; message = Request t modes.ReadOnly o }) asks);
       fetched_digests = λ s k index level children asks st kept. gives s k index level st (only_fetch (record { sender = s; message = Fetch k level index }) asks) (kept_is k st kept);
       fetched_page = λ s k index asks st kept. absurd (root_page (only_fetch (record { sender = s; message = Fetch k levels.Page index }) asks).2);

@@ -83,6 +83,7 @@ module _ (clients : ℕ) (seed : List ℕ) (me client timestamp : ℕ) (op : Ope
       replies = λ ran h. absurd h;
       checkpoints = λ k h multiple. absurd (none_executed k h);
       again = λ k t o kept asks there same. absurd (let bad : modes.Ordered ≡ modes.ReadOnly = only_read (record { sender = 256 + k; message = Request t modes.Ordered o }) asks in cc);
+      says_again = λ r. absurd r.1;
       reads = λ s t o asks read_only. inl (a.says ∙ ap (λ (x : Body). let y : Body = record { sender = me; message = answered x } in Some y) (heard_is (record { sender = s; message = Request t modes.ReadOnly o }) asks));
       fetched_digests = λ s k index level children asks st kept. absurd (only_read (record { sender = s; message = Fetch k level index }) asks);
       fetched_page = λ s k index asks st kept. absurd (only_read (record { sender = s; message = Fetch k levels.Page index }) asks);

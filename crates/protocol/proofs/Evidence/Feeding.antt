@@ -6,13 +6,11 @@ use Rattle.std.proofs.lemmas.Option.{slice_get_within}
 use Rattle.protocol.specs.System.Configuration.{Configuration}
 use Rattle.protocol.specs.System.Trace.{Entry, is_output, AreOutputs}
 use Rattle.protocol.specs.System.Trace.Entry.{Invoke, Got, Tick}
-use Rattle.protocol.specs.System.Schedule.{Step, World, Goes, AtInput, new_world, with_entry, with_frame, sealed_bytes, signed_bytes, IsAllowed, Feeds}
+use Rattle.protocol.specs.System.Schedule.{Step, World, Goes, AtInput, new_world, with_entry, with_frame, sealed_bytes, signed_bytes, Feeds}
 use Rattle.protocol.specs.System.Schedule.Step.{calls, deliver, feed, seal, sign, ticks}
 use Rattle.protocol.specs.System.Schedule.Goes.{ends, gives, called, delivers, gets, ticked, seals, signs, flushes, flushed}
-use Rattle.protocol.specs.Evidence.RefusedSteps.{MayCome}
 use Rattle.protocol.specs.Evidence.Fed.{CallsAreFed, DeliveriesAreFed, BytesAreFed, TicksAreFed, SealedAreMade, SignedAreMade}
-use Rattle.protocol.proofs.Evidence.RefusingRunsSchedules.{past_of}
-use Rattle.protocol.proofs.Evidence.RefusingStepsAllowed.{allowed}
+use Rattle.protocol.proofs.Evidence.RefusingStepsAllowed.{allows_what_may_come}
 use Rattle.protocol.proofs.Words.Elements.{each_append}
 use Rattle.wire.specs.Lists.{Each}
 
@@ -62,14 +60,9 @@ one_more c steps step input outputs trace feeds next takes i are =
     let g = joins c new_world feeds.0 r.0 steps (reverse trace) feeds.1 (step ∷ []) (input ∷ reverse outputs) i (takes (reverse outputs) r.0 r.1) in
     (r.0, subst (λ (entries : List Entry). Goes c new_world (steps ++ step ∷ []) entries r.0) (sym (oldest_first outputs input trace)) g)
 
--- what may come is allowed
-may : (c : Configuration) (steps : List Step) (step : Step) (trace : List Entry) (feeds : Feeds c steps trace) → MayCome c feeds.0.frames trace step → IsAllowed c feeds.0 step
-may c steps step trace feeds h =
-    allowed c feeds.0 step (subst (λ (xs : List Entry). MayCome c feeds.0.frames xs step) (sym (past_of c feeds.0 steps trace feeds.1)) h)
-
 pub calls_are_fed : CallsAreFed
 calls_are_fed c steps k timestamp op outputs trace feeds correct none is are =
-    let a = may c steps (calls k op) trace feeds (correct, none, is) in
+    let a = allows_what_may_come c steps (calls k op) trace feeds (correct, none, is) in
     one_more c steps (calls k op) (Invoke k timestamp op) outputs trace feeds (with_entry c feeds.0 (Invoke k timestamp op)) (λ entries v g. called a g) refl are
 
 pub deliveries_are_fed : DeliveriesAreFed
@@ -97,12 +90,12 @@ no_input c steps step trace feeds v g =
 
 pub sealed_are_made : SealedAreMade
 sealed_are_made c steps sender receivers body trace feeds h =
-    let a = may c steps (seal sender receivers body) trace feeds h in
+    let a = allows_what_may_come c steps (seal sender receivers body) trace feeds h in
     let v = with_frame feeds.0 (sealed_bytes c sender receivers body) receivers in
     ((v, no_input c steps (seal sender receivers body) trace feeds v (seals a tt ends)), refl)
 
 pub signed_are_made : SignedAreMade
 signed_are_made c steps replica leaf receivers body trace feeds h =
-    let a = may c steps (sign replica leaf receivers body) trace feeds h in
+    let a = allows_what_may_come c steps (sign replica leaf receivers body) trace feeds h in
     let v = with_frame feeds.0 (signed_bytes c replica leaf body) receivers in
     ((v, no_input c steps (sign replica leaf receivers body) trace feeds v (signs a tt ends)), refl)

@@ -74,7 +74,7 @@ is_batch request carried = record { requests = request ∷ []; whole = refl; eno
 its_request : (request : List ℕ) → IsCarried is_ordered_request request → requests_of (pieces_spelling (request ∷ [])) ≡ request ∷ []
 its_request request carried = reads_requests (request ∷ []) (omega arith) (carried, tt)
 
--- ---- short messages
+-- ---- messages that fit a frame
 
 -- 1 to 10 receivers
 pub record AreFew (receivers : List ℕ) : Type 0 where
@@ -83,8 +83,8 @@ pub record AreFew (receivers : List ℕ) : Type 0 where
   pub ascend : ascends nat_lt receivers ≡ true
   pub parties : Each (λ p. p < 2 ^ 16) receivers
 
-may_seal : (c : Configuration) (sender : ℕ) (message : Message) (receivers : List ℕ) → sender < 2 ^ 16 → sends (members c) sender message ≡ true → IsMessage message
-    → is_signed message ≡ false → AreFew receivers → (Has (λ r. r ≡ sender) receivers → ⊥) → frame_limit message ≡ 4194304 → length (fields_spelling message) ≤ 3000
+pub may_seal : (c : Configuration) (sender : ℕ) (message : Message) (receivers : List ℕ) → sender < 2 ^ 16 → sends (members c) sender message ≡ true → IsMessage message
+    → is_signed message ≡ false → AreFew receivers → (Has (λ r. r ≡ sender) receivers → ⊥) → frame_limit message ≡ 4194304 → length (fields_spelling message) ≤ 4193900
     → MaySeal c (record { sender = sender; message = message }) receivers
 may_seal c sender message receivers small known right unsigned are others limit short =
     let n = sealed_length c sender receivers (body_spelling (record { sender = sender; message = message })) in
@@ -101,7 +101,7 @@ may_seal c sender message receivers small known right unsigned are others limit 
 all_few : (clients : ℕ) (seed : List ℕ) → AreFew (range_with_len 0 (replicas (four clients seed)))
 all_few clients seed = record { some = omega arith; few = omega arith; ascend = refl; parties = (omega arith, (omega arith, (omega arith, (omega arith, tt)))) }
 
-others_few : (clients : ℕ) (seed : List ℕ) (r : ℕ) → r < 4 → AreFew (others (four clients seed) r)
+pub others_few : (clients : ℕ) (seed : List ℕ) (r : ℕ) → r < 4 → AreFew (others (four clients seed) r)
 others_few clients seed zero l = record { some = omega arith; few = omega arith; ascend = refl; parties = (omega arith, (omega arith, (omega arith, tt))) }
 others_few clients seed (suc zero) l = record { some = omega arith; few = omega arith; ascend = refl; parties = (omega arith, (omega arith, (omega arith, tt))) }
 others_few clients seed (suc (suc zero)) l = record { some = omega arith; few = omega arith; ascend = refl; parties = (omega arith, (omega arith, (omega arith, tt))) }
@@ -109,7 +109,7 @@ others_few clients seed (suc (suc (suc zero))) l = record { some = omega arith; 
 others_few clients seed (suc (suc (suc (suc r)))) l = absurd (omega arith)
 
 -- nobody is among the others
-never_own : (me : ℕ) (xs : List ℕ) → Has (λ r. r ≡ me) (filter (λ r. not (r == me)) xs) → ⊥
+pub never_own : (me : ℕ) (xs : List ℕ) → Has (λ r. r ≡ me) (filter (λ r. not (r == me)) xs) → ⊥
 never_own me [] h = h
 never_own me (x ∷ xs) h = go (x == me) refl h (never_own me xs)
   where

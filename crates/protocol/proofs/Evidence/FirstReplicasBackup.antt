@@ -178,7 +178,7 @@ module _ (clients : ℕ) (seed : List ℕ) (op : Operation) (batch : List ℕ) (
   due_request = record {
     body = asks op;
     hears = hears_request;
-    unanswered = (refl, refl);
+    unanswered = (refl, refl, refl);
     numbers = λ own call waiting. absurd (not_primary own);
     numbers_once = tt;
     prepares = λ was is other. absurd (both_ways false refl is);

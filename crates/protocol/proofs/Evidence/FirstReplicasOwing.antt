@@ -40,7 +40,7 @@ full k = nat_le 3 (count_below k 4)
 
 -- messages to which nothing is answered: no read, no fetch, and a request only before anything is executed
 abbrev pub IsUnanswered : Point → Message → Type 0
-IsUnanswered old message = elim message [ Request t mode op ↦ (mode ≡ modes.Ordered) × (old.state ≡ opening) | PrePrepare v i b ↦ ⊤ | Prepare v i digest ↦ ⊤ | Commit v i digest ↦ ⊤ | _ ↦ ⊥ ]
+IsUnanswered old message = elim message [ Request t mode op ↦ (mode ≡ modes.Ordered) × (old.state ≡ opening) × (old.waiting ≡ []) | PrePrepare v i b ↦ ⊤ | Prepare v i digest ↦ ⊤ | Commit v i digest ↦ ⊤ | _ ↦ ⊥ ]
 
 module _ (clients : ℕ) (seed batch : List ℕ) (me : ℕ) where
   abbrev c : Configuration
@@ -173,6 +173,9 @@ module _ (clients : ℕ) (seed batch : List ℕ) (me : ℕ) where
     again = λ n t op kept asks is same.
         let u = subst (λ (x : Body). IsUnanswered old x.message) (heard_is bytes due.body (record { sender = 256 + n; message = Request t modes.Ordered op }) due.hears asks) due.unanswered in
         absurd (let none : None ≡ Some kept = sym (none_kept n) ∙ subst (λ (s : State). kept_of s n ≡ Some kept) u.1 is in cc);
+    says_again = λ r.
+        let u = subst (λ (x : Body). IsUnanswered old x.message) (heard_is bytes due.body (record { sender = 256 + r.0.client; message = Request r.0.timestamp modes.Ordered r.0.op }) due.hears r.2) due.unanswered in
+        absurd (subst (λ (calls : List Call). Has (λ x. x ≡ r.0) calls) u.2 r.1);
     reads = λ n t op asks is.
         let u = subst (λ (x : Body). IsUnanswered old x.message) (heard_is bytes due.body (record { sender = n; message = Request t modes.ReadOnly op }) due.hears asks) due.unanswered in
         absurd (is_ordered u.0);

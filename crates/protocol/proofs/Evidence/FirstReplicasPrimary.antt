@@ -204,7 +204,7 @@ module _ (clients : ℕ) (seed : List ℕ) (op : Operation) (batch : List ℕ) (
   due_request = record {
     body = asks op;
     hears = hears_request;
-    unanswered = (refl, refl);
+    unanswered = (refl, refl, refl);
     numbers = is_numbered h2 none none s2;
     numbers_once = (numbers_once, tt);
     prepares = λ was is other. absurd (other refl);

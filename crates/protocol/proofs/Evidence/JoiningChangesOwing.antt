@@ -140,6 +140,7 @@ module _ (clients : ℕ) (seed : List ℕ) (me : ℕ) where
     replies = λ ran h. absurd h;
     checkpoints = λ k h multiple. absurd (due.none_executed k h);
     again = λ k t op kept asks there same. absurd (only (record { sender = 256 + k; message = Request t modes.Ordered op }) asks);
+    says_again = λ r. absurd r.1;
     reads = λ s t op asks is. absurd (only (record { sender = s; message = Request t modes.ReadOnly op }) asks);
     fetched_digests = λ s k index level children asks st kept. absurd (only (record { sender = s; message = Fetch k level index }) asks);
     fetched_page = λ s k index asks st kept. absurd (only (record { sender = s; message = Fetch k levels.Page index }) asks);

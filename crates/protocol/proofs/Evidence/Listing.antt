@@ -1,5 +1,5 @@
 -- The texts whose digests must differ stand in a short list.
-use Rattle.std.proofs.Common.{◌≡◌, ℕ, zero, suc, ◌+◌, ◌-◌, ◌*◌, ◌≤◌, ◌<◌, inl, inr, true, List, [], ◌∷◌, ◌++◌, length, map, refl, sym, ap, ap₂, subst, arith, Option, Some, None}
+use Rattle.std.proofs.Common.{◌≡◌, ℕ, zero, suc, ◌+◌, ◌-◌, ◌*◌, ◌≤◌, ◌<◌, inl, inr, List, [], ◌∷◌, length, map, refl, sym, ap, ap₂, subst, arith, Option, Some, None}
 use Rattle.std.specs.List.{concat, range_with_len}
 use Rattle.std.specs.Option.{option_map_or}
 use Rattle.std.proofs.lemmas.List.{length-append}
@@ -9,22 +9,20 @@ use Rattle.wire.specs.Messages.{BodyData as Body, MessageData as Message, reques
 use Rattle.wire.specs.Spelling.{IsMessage}
 use Rattle.wire.specs.Words.{said}
 use Rattle.wire.proofs.Saying.{says_what_is_spelled}
-use Rattle.protocol.specs.System.Configuration.{Configuration, is_correct}
-use Rattle.protocol.specs.System.Trace.{Entry, party_of, history_of, Once, Always, Has}
+use Rattle.protocol.specs.System.Configuration.{Configuration}
+use Rattle.protocol.specs.System.Trace.{Entry, history_of, Once, Has}
 use Rattle.protocol.specs.System.Trace.Entry.{Invoke, Got, Tick, Executed, Installed, Sent, Accepted}
 use Rattle.protocol.specs.Replica.Selection.{null_batch}
 use Rattle.protocol.specs.Replica.State.{State, opening, after_batches, page_text, all_pages, pages_of}
 use Rattle.protocol.specs.Replica.Transfers.{in_place}
 use Rattle.protocol.specs.Space.Linear.{reached}
-use Rattle.protocol.specs.System.Run.{IsRun}
 use Rattle.protocol.specs.System.Texts.{IsUnder, HasBatch, HasPart, InstallsOver, batches_of, parts_of, first_batch, AreFirst}
 use Rattle.protocol.specs.System.Texts.IsText.{null, batch, part, page_of, under, installed}
 use Rattle.protocol.specs.System.Texts.IsUnder.{inner, top}
 use Rattle.protocol.specs.Laws.Histories.{ExecutesBatch}
-use Rattle.protocol.specs.Evidence.Listed.{unders, texts_of, state_at, said_texts, texts_at, texts_from, TextsAreListed, ListsAreShort, IsPageGot, PagesAddThemselves, PagesAreRun}
+use Rattle.protocol.specs.Evidence.Listed.{unders, texts_of, state_at, said_texts, texts_at, texts_from, TextsAreListed, ListsAreShort}
 use Rattle.protocol.proofs.Words.Elements.{has_left, has_right, has_mapped}
 use Rattle.protocol.proofs.Agreement.Firsts.{first_executes}
-use Rattle.protocol.proofs.Evidence.Presuming.{runs_go_on}
 
 -- ---- lists of numbers
 
@@ -161,7 +159,7 @@ texts_are_listed c trace text (installed batches _ h u) =
 
 -- ---- the list is short
 
-unders_count : (page : ℕ → List ℕ) → length (unders page) ≡ 33
+pub unders_count : (page : ℕ → List ℕ) → length (unders page) ≡ 33
 unders_count page = ap suc (length-map-range_with_len (λ j. concat (page_digests (all_pages page) j)) 0 32)
 
 pages_count : (page : ℕ → List ℕ) → length (all_pages page) ≡ 1024
@@ -208,7 +206,7 @@ entry_count c trace past (Tick x) = omega arith
 entry_count c trace past (Invoke x y z) = omega arith
 entry_count c trace past (Accepted x y z) = omega arith
 
-first_count : (c : Configuration) (trace : List Entry) → length (texts_from c trace []) ≡ 1058
+pub first_count : (c : Configuration) (trace : List Entry) → length (texts_from c trace []) ≡ 1058
 first_count c trace = ap suc (state_count opening)
 
 from_count : (c : Configuration) (trace xs : List Entry) → length (texts_from c trace xs) ≤ 1057 * length xs + 1058
@@ -221,39 +219,3 @@ from_count c trace (e ∷ past) =
 
 pub lists_are_short : ListsAreShort
 lists_are_short c trace = from_count c trace trace
-
-page_count : (c : Configuration) (trace past : List Entry) (e : Entry) → IsPageGot past e → length (texts_at c trace past e) ≡ 1
-page_count c trace past (Got p bytes) (s, k, i, text, says) = ap (λ (o : Option Body). length (option_map_or (λ body. batches_of body.message) o [] ++ option_map_or (λ body. parts_of body.message) o [])) says
-page_count c trace past (Sent x y) h = absurd h
-page_count c trace past (Executed x y z) h = absurd h
-page_count c trace past (Installed x y z) h = absurd h
-page_count c trace past (Tick x) h = absurd h
-page_count c trace past (Invoke x y z) h = absurd h
-page_count c trace past (Accepted x y z) h = absurd h
-
-pages_add : (c : Configuration) (trace xs : List Entry) → Always IsPageGot xs → length (texts_from c trace xs) ≤ length xs + 1058
-pages_add c trace [] h = let n = first_count c trace in omega arith
-pages_add c trace (e ∷ past) h =
-    let a = length-append (texts_at c trace past e) (texts_from c trace past) in
-    let one = page_count c trace past e h.0 in
-    let below = pages_add c trace past h.1 in
-    omega arith
-
-pub pages_add_themselves : PagesAddThemselves
-pages_add_themselves c trace h = pages_add c trace trace h
-
--- ---- a trace of pages is a run
-
--- a page that is got goes on from a run
-page_goes_on : (c : Configuration) (past : List Entry) (e : Entry) → IsPageGot past e → is_correct c (party_of e) ≡ true → IsRun c past → IsRun c (e ∷ past)
-page_goes_on c past (Got p bytes) h correct run = (runs_go_on c past run p correct).1 bytes
-page_goes_on c past (Sent x y) h correct run = absurd h
-page_goes_on c past (Executed x y z) h correct run = absurd h
-page_goes_on c past (Installed x y z) h correct run = absurd h
-page_goes_on c past (Tick x) h correct run = absurd h
-page_goes_on c past (Invoke x y z) h correct run = absurd h
-page_goes_on c past (Accepted x y z) h correct run = absurd h
-
-pub pages_are_run : PagesAreRun
-pages_are_run c [] h = record { replicas = λ p correct. tt; clients = λ p correct. tt; parties = tt; events = tt }
-pages_are_run c (e ∷ past) h = page_goes_on c past e h.0.0 h.0.1 (pages_are_run c past h.1)

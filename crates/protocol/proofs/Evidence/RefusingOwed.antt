@@ -34,12 +34,12 @@ at_input true is X Y h = absurd cc
 at_input false is X Y h = h
 
 -- what is owed in an event, and the points before and behind it
-record Event (c : Configuration) (me : ℕ) (outputs : List Entry) (input : Entry) (past : List Entry) : Type 0 where
-  old : Point
-  new : Point
-  before : Leaves c me past old
-  behind : Leaves c me (outputs ++ input ∷ past) new
-  owes : Owes c me past input (reverse outputs) (outputs ++ input ∷ past) old new
+pub record Event (c : Configuration) (me : ℕ) (outputs : List Entry) (input : Entry) (past : List Entry) : Type 0 where
+  pub old : Point
+  pub new : Point
+  pub before : Leaves c me past old
+  pub behind : Leaves c me (outputs ++ input ∷ past) new
+  pub owes : Owes c me past input (reverse outputs) (outputs ++ input ∷ past) old new
 
 -- the part of a history behind later entries
 record Part (c : Configuration) (me : ℕ) (xs : List Entry) : Type 0 where
@@ -64,7 +64,7 @@ input_of c me (e ∷ outputs) input past said new point are is h =
     (at_output (is_output e) are.0 (Proceeds c me (outputs ++ input ∷ past) (e ∷ said) new h.0)
     (Owes c me (outputs ++ input ∷ past) e said (reverse said ++ e ∷ (outputs ++ input ∷ past)) h.0 new × Proceeds c me (outputs ++ input ∷ past) [] h.0 h.0) h.2)
 
-event_of : (c : Configuration) (me : ℕ) (outputs : List Entry) (input : Entry) (past : List Entry) → GoesOn c me outputs input past → Event c me outputs input past
+pub event_of : (c : Configuration) (me : ℕ) (outputs : List Entry) (input : Entry) (past : List Entry) → GoesOn c me outputs input past → Event c me outputs input past
 event_of c me outputs input past g = go g.is_replica
   where
     rest : List Entry

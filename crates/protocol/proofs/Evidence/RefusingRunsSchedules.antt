@@ -1,8 +1,8 @@
--- The definition of schedules refuses steps that are skipped, stops where nothing stops, and a flush that leaves a
+-- The definition of schedules refuses steps that are skipped, deliveries that are refused, and a flush that leaves a
 -- frame undelivered.
 use Rattle.std.proofs.Common.{◌≡◌, ℕ, zero, suc, ◌+◌, ◌≤◌, ◌<◌, ◌⊎◌, inl, inr, Bool, true, false, not, cond, List, [], ◌∷◌, ◌++◌, length, filter, slice_get, refl, sym, ap, ◌∙◌, subst, arith, ◌&&◌, Option, Some, None, eqb-true, reverse}
 use Rattle.std.specs.Prelude.{◌==◌}
-use Rattle.std.proofs.lemmas.Bool.{and_parts, cases_lt}
+use Rattle.std.proofs.lemmas.Bool.{and_parts}
 use Rattle.std.proofs.lemmas.List.{length-append, reverse-reverse}
 use mathlib.Core.List.{reverse_aux}
 use Rattle.tuple_codec.specs.Operations.{Operation}
@@ -13,10 +13,10 @@ use Rattle.wire.specs.Messages.{FrameData as Frame}
 use Rattle.std.specs.Option.{option_map_or}
 use Rattle.protocol.specs.System.Trace.{Entry, is_output, Has}
 use Rattle.protocol.specs.System.Trace.Entry.{Invoke, Got, Tick, Executed, Installed, Sent, Accepted}
-use Rattle.protocol.specs.System.Schedule.{Step, Made, World, Goes, AtInput, new_world, made_by, meant_for, is_delivered, next_receiver, next_pair, pending, IsAllowed, Feeds}
+use Rattle.protocol.specs.System.Schedule.{Step, Made, World, Goes, AtInput, new_world, made_by, meant_for, is_delivered, next_receiver, next_pair, pending, Feeds}
 use Rattle.protocol.specs.System.Schedule.Step.{calls, deliver, feed, seal, sign, ticks, flush}
 use Rattle.protocol.specs.System.Schedule.Goes.{ends, gives, called, delivers, gets, ticked, seals, signs, flushes, flushed}
-use Rattle.protocol.specs.Evidence.RefusedRuns.{IsInputOf, feeds_input, FeedsEachStep, calls_for, invokes_for, FeedsEachCall, ticks_for, is_tick_of, FeedsEachTick, StopsInRuns, is_sent, StopsAtNoSent, Gets, FlushDeliversAll, FlushDeliversSent}
+use Rattle.protocol.specs.Evidence.RefusedRuns.{IsInputOf, feeds_input, FeedsEachStep, calls_for, invokes_for, FeedsEachCall, ticks_for, is_tick_of, FeedsEachTick, is_sent, AllowsSent, Gets, FlushDeliversAll, FlushDeliversSent}
 use Rattle.protocol.proofs.Words.Options.{some_injective}
 use Rattle.protocol.proofs.Words.Elements.{some_of_has, has_reverse, each_has}
 use Rattle.wire.specs.Lists.{Each}
@@ -191,10 +191,7 @@ feeds_each_tick c steps p trace feeds = counted_feeds c (ticks_for p) (is_tick_o
     outputs (Sent x y) h = refl
     outputs (Accepted x y z) h = refl
 
--- ---- where a schedule stops
-
-pub stops_in_runs : StopsInRuns
-stops_in_runs c steps n trace stops = stops.0
+-- ---- what is sent may be delivered
 
 -- each frame that was sent was made
 made_there : (c : Configuration) (w : World) (e : Entry) → length (filter is_sent w.past) ≤ length w.frames → length (filter is_sent (e ∷ w.past)) ≤ length (w.frames ++ made_by c e)
@@ -224,19 +221,16 @@ sent_made c w v _ _ (signs a i g) h = sent_made c _ _ _ _ g (more_there w.frames
 sent_made c w v _ _ (flushes p g) h = sent_made c _ _ _ _ g h
 sent_made c w v _ _ (flushed i p g) h = sent_made c _ _ _ _ g h
 
-pub stops_at_no_sent : StopsAtNoSent
-stops_at_no_sent c steps n frame party trace stops is correct =
-    let world = stops.1.0 in
-    let goes = stops.1.2 in
-    let step : stops.1.1 ≡ deliver frame party = some_injective stops.1.1 (deliver frame party) (sym stops.1.3 ∙ is) in
-    let sent : length (filter is_sent world.past) ≤ length world.frames = sent_made c new_world world _ _ goes (omega arith) in
-    let past : world.past ≡ trace = past_of c world _ trace goes in
-    let few : length (filter is_sent trace) ≤ length world.frames = subst (λ (xs : List Entry). length (filter is_sent xs) ≤ length world.frames) past sent in
-    go world few (subst (λ (x : Step). IsAllowed c world x → ⊥) step stops.1.4) (cases_lt frame (length world.frames))
+pub allows_sent : AllowsSent
+allows_sent c steps frame party trace feeds sent correct = (there, correct)
   where
-    go : (w : World) → length (filter is_sent trace) ≤ length w.frames → (IsAllowed c w (deliver frame party) → ⊥) → (frame < length w.frames) ⊎ (length w.frames ≤ frame) → length (filter is_sent trace) ≤ frame
-    go w few never (inl l) = absurd (never (l, correct))
-    go w few never (inr l) = omega arith
+    made : length (filter is_sent feeds.0.past) ≤ length feeds.0.frames
+    made = sent_made c new_world feeds.0 _ _ feeds.1 (omega arith)
+
+    there : frame < length feeds.0.frames
+    there =
+        let all = subst (λ (xs : List Entry). length (filter is_sent xs) ≤ length feeds.0.frames) (past_of c feeds.0 steps trace feeds.1) made in
+        omega (arith, all, sent)
 
 -- ---- what a flush leaves
 

@@ -1,14 +1,13 @@
 -- The definition of schedules refuses inputs of faulty parties, frames of correct ones and for none, and a flush
 -- that leaves such a frame undelivered.
-use Rattle.std.proofs.Common.{◌≡◌, ℕ, zero, suc, ◌⊎◌, inl, inr, Bool, true, false, List, [], ◌∷◌, ◌++◌, length, take, slice_get, refl, sym, ap, ◌∙◌, subst, ◌||◌, Some, reverse}
+use Rattle.std.proofs.Common.{◌≡◌, ℕ, zero, suc, ◌⊎◌, inl, inr, Bool, true, false, List, [], ◌∷◌, ◌++◌, length, slice_get, refl, sym, ap, ◌∙◌, subst, ◌||◌, Some, reverse}
 use Rattle.protocol.specs.System.Configuration.{Configuration, is_replica, is_client}
 use Rattle.protocol.specs.System.Trace.{Entry, Always, Has, is_output}
 use Rattle.protocol.specs.System.Trace.Entry.{Invoke, Got, Tick, Executed, Installed, Sent, Accepted}
 use Rattle.protocol.specs.System.Schedule.{Step, Made, World, Goes, AtInput, new_world, made_by, sealed_bytes, signed_bytes, AreReceivers, IsAllowed}
 use Rattle.protocol.specs.System.Schedule.Step.{calls, deliver, feed, seal, sign, ticks, flush}
 use Rattle.protocol.specs.System.Schedule.Goes.{ends, gives, called, delivers, gets, ticked, seals, signs, flushes, flushed}
-use Rattle.protocol.specs.Evidence.RefusedSteps.{MayBeFed, FeedsWhatMayBeFed, ArePartiesInOrder, MayMake, FeedsWhatMayBeMade, FlushDeliversSealed, FlushDeliversSigned, SealedIsNewest, SignedIsNewest, MayCome, StopsAtNone, StopsAtEach}
-use Rattle.protocol.proofs.Words.Options.{some_injective}
+use Rattle.protocol.specs.Evidence.RefusedSteps.{MayBeFed, FeedsWhatMayBeFed, ArePartiesInOrder, MayMake, FeedsWhatMayBeMade, FlushDeliversSealed, FlushDeliversSigned, SealedIsNewest, SignedIsNewest, MayCome, AllowsWhatMayCome, AllowsNoOther}
 use Rattle.protocol.proofs.Evidence.RefusingRunsSchedules.{past_of, flush_delivers_all}
 use Rattle.wire.specs.Lists.{Each}
 
@@ -71,9 +70,9 @@ made c w v _ _ (flushed i p g) = (tt, made c _ _ _ _ g)
 pub feeds_what_may_be_made : FeedsWhatMayBeMade
 feeds_what_may_be_made c steps trace feeds = made c new_world feeds.0 steps (reverse trace) feeds.1
 
--- ---- where a schedule stops
+-- ---- which steps are allowed
 
-pub allowed : (c : Configuration) (w : World) (step : Step) → MayCome c w.frames w.past step → IsAllowed c w step
+allowed : (c : Configuration) (w : World) (step : Step) → MayCome c w.frames w.past step → IsAllowed c w step
 allowed c w (calls k op) h = h
 allowed c w (deliver frame party) h = h
 allowed c w (feed party text) h = h
@@ -91,18 +90,15 @@ may_come c w (sign replica leaf rs body) h = (h.0, h.1, h.2, in_order c rs h.3)
 may_come c w (ticks party) h = h
 may_come c w flush h = tt
 
-pub stops_at_none : StopsAtNone
-stops_at_none c steps n step trace stops is may =
-    let world = stops.1.0 in
-    let same : stops.1.1 ≡ step = some_injective stops.1.1 step (sym stops.1.3 ∙ is) in
-    let past : world.past ≡ trace = past_of c world _ trace stops.1.2 in
-    let may_here : MayCome c world.frames world.past step = subst (λ (xs : List Entry). MayCome c world.frames xs step) (sym past) may in
-    stops.1.4 (subst (λ (x : Step). IsAllowed c world x) (sym same) (allowed c world step may_here))
+pub allows_what_may_come : AllowsWhatMayCome
+allows_what_may_come c steps step trace feeds may =
+    let past : feeds.0.past ≡ trace = past_of c feeds.0 steps trace feeds.1 in
+    allowed c feeds.0 step (subst (λ (xs : List Entry). MayCome c feeds.0.frames xs step) (sym past) may)
 
-pub stops_at_each : StopsAtEach
-stops_at_each c steps n step trace feeds run is none =
-    let past : feeds.0.past ≡ trace = past_of c feeds.0 (take n steps) trace feeds.1 in
-    (run, (feeds.0, step, feeds.1, is, λ h. none (subst (λ (xs : List Entry). MayCome c feeds.0.frames xs step) past (may_come c feeds.0 step h))))
+pub allows_no_other : AllowsNoOther
+allows_no_other c steps step trace feeds is =
+    let past : feeds.0.past ≡ trace = past_of c feeds.0 steps trace feeds.1 in
+    subst (λ (xs : List Entry). MayCome c feeds.0.frames xs step) past (may_come c feeds.0 step is)
 
 -- ---- a frame that a step made is one of the world's
 

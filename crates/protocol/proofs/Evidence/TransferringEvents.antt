@@ -75,6 +75,7 @@ module _ (clients : ℕ) (seed root : List ℕ) where
     replies = λ ran h. absurd h;
     checkpoints = λ n h multiple. absurd (due.none_executed n h);
     again = λ n t op kept asks there same. absurd (given_is (record { sender = 256 + n; message = Request t modes.Ordered op }) asks);
+    says_again = λ r. absurd r.1;
     reads = λ s t op asks is. absurd (given_is (record { sender = s; message = Request t modes.ReadOnly op }) asks);
     fetched_digests = λ s n index level children asks state kept. absurd (given_is (record { sender = s; message = Fetch n level index }) asks);
     fetched_page = λ s n index asks state kept. absurd (given_is (record { sender = s; message = Fetch n levels.Page index }) asks);

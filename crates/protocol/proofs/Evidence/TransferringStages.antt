@@ -47,7 +47,7 @@ nothing_if : (b : Bool) (o : Option (List ℕ)) → o ≡ None → cond b o None
 nothing_if true o h = h
 nothing_if false o h = refl
 
-or_nothing : (o later : Option (List ℕ)) → o ≡ None → later ≡ None → or_else o later ≡ None
+pub or_nothing : (o later : Option (List ℕ)) → o ≡ None → later ≡ None → or_else o later ≡ None
 or_nothing None later h k = k
 or_nothing (Some x) later h k = absurd cc
 

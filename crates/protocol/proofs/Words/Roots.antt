@@ -68,7 +68,7 @@ pub pages_part : (g : ℕ → List ℕ) (j : ℕ) → j < 32 → page_digests (a
 unfolding page_digests all_pages
 pages_part g j l = let m : 32 * j + 32 ≤ 1024 = omega arith in part_at g 1024 (32 * j) 32 m
 
-inner_is : (pages : List (List ℕ)) → inner_digests pages ≡ map (λ j. sha256 (concat (page_digests pages j))) (range_with_len 0 32)
+pub inner_is : (pages : List (List ℕ)) → inner_digests pages ≡ map (λ j. sha256 (concat (page_digests pages j))) (range_with_len 0 32)
 unfolding inner_digests
 inner_is pages = refl
 

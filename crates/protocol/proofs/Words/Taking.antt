@@ -68,7 +68,7 @@ is_own_or_got c me k i past st text is = go (took c me (Some k) past i) refl is
 
 -- ---- texts under pages
 
-same_on_range : (g h : ℕ → List ℕ) (a n : ℕ) → ((i : ℕ) → a ≤ i → i < a + n → g i ≡ h i) → map g (range_with_len a n) ≡ map h (range_with_len a n)
+pub same_on_range : (g h : ℕ → List ℕ) (a n : ℕ) → ((i : ℕ) → a ≤ i → i < a + n → g i ≡ h i) → map g (range_with_len a n) ≡ map h (range_with_len a n)
 same_on_range g h a zero same = refl
 same_on_range g h a (suc n) same =
     let l : a ≤ a = omega arith in

@@ -1,18 +1,17 @@
 -- The texts whose digests must differ are few: they stand in a list that grows by a fixed number for each entry.
-use Rattle.std.specs.Prelude.{◌≡◌, ℕ, ◌+◌, ◌*◌, ◌≤◌, true, List, [], ◌∷◌, ◌++◌, length, map, Some}
+use Rattle.std.specs.Prelude.{◌≡◌, ℕ, ◌+◌, ◌*◌, ◌≤◌, List, [], ◌∷◌, ◌++◌, length, map}
 use Rattle.std.specs.List.{concat, range_with_len}
 use Rattle.std.specs.Option.{option_map_or}
 use Rattle.partition_tree.specs.Digests.{inner_digests, page_digests}
-use Rattle.wire.specs.Messages.{MessageData as Message, page as Page}
+use Rattle.wire.specs.Messages.{MessageData as Message}
 use Rattle.wire.specs.Words.{said}
-use Rattle.protocol.specs.System.Configuration.{Configuration, is_correct}
-use Rattle.protocol.specs.System.Trace.{Entry, party_of, history_of, Always, Has}
+use Rattle.protocol.specs.System.Configuration.{Configuration}
+use Rattle.protocol.specs.System.Trace.{Entry, history_of, Has}
 use Rattle.protocol.specs.System.Trace.Entry.{Got, Executed, Installed, Sent}
 use Rattle.protocol.specs.Replica.Selection.{null_batch}
 use Rattle.protocol.specs.Replica.State.{State, opening, after_batches, page_text, all_pages, pages_of}
 use Rattle.protocol.specs.Replica.Transfers.{in_place}
 use Rattle.protocol.specs.Space.Linear.{reached}
-use Rattle.protocol.specs.System.Run.{IsRun}
 use Rattle.protocol.specs.System.Texts.{IsText, batches_of, parts_of, first_batch}
 
 -- the 33 texts of digests under pages
@@ -59,23 +58,3 @@ TextsAreListed =
 abbrev pub ListsAreShort : Type 0
 ListsAreShort =
     (c : Configuration) (trace : List Entry) → length (texts_from c trace trace) ≤ 1057 * length trace + 1058
-
--- a page is got here
-abbrev pub IsPageGot : List Entry → Entry → Type 0
-IsPageGot past (Got p bytes) =
-    (sender k i : ℕ) × (text : List ℕ)
-    × (said bytes ≡ Some (record { sender = sender; message = Page k i text }))
-IsPageGot past _ = ⊥
-
--- Of pages that are got, however many and of whatever places, each adds itself alone: 257 of them 257 texts, and not the
--- texts of all their mixtures.
-abbrev pub PagesAddThemselves : Type 0
-PagesAddThemselves =
-    (c : Configuration) (trace : List Entry) → Always IsPageGot trace
-    → length (texts_from c trace trace) ≤ length trace + 1058
-
--- Such a trace is a run, if each page is got by a correct party.
-abbrev pub PagesAreRun : Type 0
-PagesAreRun =
-    (c : Configuration) (trace : List Entry)
-    → Always (λ past e. IsPageGot past e × (is_correct c (party_of e) ≡ true)) trace → IsRun c trace

@@ -16,7 +16,7 @@ use Rattle.protocol.specs.Replica.State.{root_of}
 use Rattle.protocol.specs.Replica.RightReplica.{SafeReplica, SentBefore}
 use Rattle.protocol.specs.Client.RightClient.{OpenCall, open_call, latest, count_alike, IsClient}
 use Rattle.protocol.specs.System.Run.{IsRun}
-use Rattle.protocol.specs.System.Schedule.{Step, calls, deliver, feed, ticks, flush, Made, meant_for, Feeds, StopsAt}
+use Rattle.protocol.specs.System.Schedule.{Step, calls, deliver, feed, ticks, flush, Made, meant_for, IsAllowed, Feeds}
 
 -- ---- a client
 
@@ -141,21 +141,15 @@ FeedsEachTick =
     (c : Configuration) (steps : List Step) (p : ℕ) (trace : List Entry)
     → Feeds c steps trace → length (filter (is_tick_of p) trace) ≡ length (filter (ticks_for p) steps)
 
--- A trace that is no run, at which a schedule stops.
-abbrev pub StopsInRuns : Type 0
-StopsInRuns =
-    (c : Configuration) (steps : List Step) (n : ℕ) (trace : List Entry) → StopsAt c steps n trace → IsRun c trace
-
 -- a frame is sent here
 abbrev pub is_sent : Entry → Bool
 is_sent e = elim e [ Sent p bytes ↦ true | _ ↦ false ]
 
--- A delivery of a frame that was sent, to a correct party, at which a schedule stops.
-abbrev pub StopsAtNoSent : Type 0
-StopsAtNoSent =
-    (c : Configuration) (steps : List Step) (n frame party : ℕ) (trace : List Entry)
-    → StopsAt c steps n trace → slice_get steps n ≡ Some (deliver frame party) → is_correct c party ≡ true
-    → length (filter is_sent trace) ≤ frame
+-- A step that delivers a frame that was sent, to a correct party, and is not allowed.
+abbrev pub AllowsSent : Type 0
+AllowsSent =
+    (c : Configuration) (steps : List Step) (frame party : ℕ) (trace : List Entry) (feeds : Feeds c steps trace)
+    → frame < length (filter is_sent trace) → is_correct c party ≡ true → IsAllowed c feeds.0 (deliver frame party)
 
 -- the party gets the frame
 abbrev pub Gets : ℕ → List ℕ → Entry → Type 0

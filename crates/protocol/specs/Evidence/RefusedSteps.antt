@@ -1,5 +1,5 @@
 -- What the definitions of reports and of a schedule's steps refuse, and what a signed frame is.
-use Rattle.std.specs.Prelude.{◌≡◌, ◌≢◌, ℕ, ◌+◌, ◌≤◌, ◌<◌, ◌⊎◌, true, false, List, [], ◌∷◌, ◌++◌, length, take, slice_get, Some, None, All, AllPairs, ⊤}
+use Rattle.std.specs.Prelude.{◌≡◌, ◌≢◌, ℕ, ◌+◌, ◌≤◌, ◌<◌, ◌⊎◌, true, false, List, [], ◌∷◌, ◌++◌, length, Some, None, All, AllPairs, ⊤}
 use Rattle.tuple_codec.specs.Operations.{Operation, IsOperation}
 use Rattle.wire.specs.Messages.{BodyData as Body, MessageData as Message, FrameData as Frame, signature}
 use Rattle.wire.specs.Spelling.{IsMessage, is_signed, frame_limit, body_spelling}
@@ -13,7 +13,7 @@ use Rattle.protocol.specs.Client.RightClient.{open_call}
 use Rattle.protocol.specs.System.Texts.{NoCollision}
 use Rattle.protocol.specs.Space.Linear.{Item, IsLinear}
 use Rattle.protocol.specs.System.Run.{IsRun}
-use Rattle.protocol.specs.System.Schedule.{Step, calls, deliver, feed, seal, sign, ticks, flush, Made, meant_for, sealed_bytes, signed_bytes, Feeds, StopsAt, Acceptance, IsReport}
+use Rattle.protocol.specs.System.Schedule.{Step, calls, deliver, feed, seal, sign, ticks, flush, Made, meant_for, sealed_bytes, signed_bytes, IsAllowed, Feeds, Acceptance, IsReport}
 use Rattle.protocol.specs.Replica.RightReplica.{others}
 use Rattle.protocol.specs.Evidence.RefusedRuns.{Gets}
 use Rattle.protocol.specs.Evidence.Examples.{four}
@@ -154,19 +154,17 @@ MayCome c frames trace (feed party text) = is_correct c party ≡ true
 MayCome c frames trace (ticks party) = is_correct c party ≡ true
 MayCome c frames trace step = MayMake c step
 
--- A step that may come, at which a schedule stops.
-abbrev pub StopsAtNone : Type 0
-StopsAtNone =
-    (c : Configuration) (steps : List Step) (n : ℕ) (step : Step) (trace : List Entry) (stops : StopsAt c steps n trace)
-    → slice_get steps n ≡ Some step → MayCome c stops.1.0.frames trace step → ⊥
+-- A step that may come behind the trace that the steps before it feed, and is not allowed.
+abbrev pub AllowsWhatMayCome : Type 0
+AllowsWhatMayCome =
+    (c : Configuration) (steps : List Step) (step : Step) (trace : List Entry) (feeds : Feeds c steps trace)
+    → MayCome c feeds.0.frames trace step → IsAllowed c feeds.0 step
 
--- A step that may not come, at which a schedule does not stop, though the steps before it feed a run.
-abbrev pub StopsAtEach : Type 0
-StopsAtEach =
-    (c : Configuration) (steps : List Step) (n : ℕ) (step : Step) (trace : List Entry)
-    (feeds : Feeds c (take n steps) trace)
-    → IsRun c trace → slice_get steps n ≡ Some step → (MayCome c feeds.0.frames trace step → ⊥)
-    → StopsAt c steps n trace
+-- A step that may not come there, and is allowed.
+abbrev pub AllowsNoOther : Type 0
+AllowsNoOther =
+    (c : Configuration) (steps : List Step) (step : Step) (trace : List Entry) (feeds : Feeds c steps trace)
+    → IsAllowed c feeds.0 step → MayCome c feeds.0.frames trace step
 
 -- ---- signed frames
 

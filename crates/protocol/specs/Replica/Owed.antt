@@ -1,7 +1,7 @@
 -- What a correct replica owes in an event: all that the event's input brings about, until nothing more is due, and
 -- nothing where the input is dropped (Castro and Liskov, TOCS 2002, on normal-case operation, garbage collection, view
 -- changes and state transfer). No law of agreement uses it. It speaks of the same states as what the replica may do.
-use Rattle.std.specs.Prelude.{◌≡◌, ◌≢◌, ℕ, suc, ◌+◌, ◌/◌, ◌%◌, ◌≤◌, ◌<◌, ◌⊎◌, Bool, true, false, List, [], ◌∷◌, ◌++◌, reverse, ◌==◌, Some, None, slice_get, AllPairs, ⊤}
+use Rattle.std.specs.Prelude.{◌≡◌, ◌≢◌, ℕ, suc, ◌+◌, ◌/◌, ◌%◌, ◌≤◌, ◌<◌, ◌⊎◌, Bool, true, false, List, [], ◌∷◌, ◌++◌, length, reverse, ◌==◌, Option, Some, None, slice_get, AllPairs, ⊤}
 use Rattle.std.specs.List.{list_any}
 use Rattle.std.specs.Option.{option_map_or}
 use Rattle.sha2.specs.Sha256.{sha256}
@@ -20,7 +20,7 @@ use Rattle.protocol.specs.System.Frames.{leaf_of}
 use Rattle.protocol.specs.System.Trace.{Entry, party_of, is_output, Once, Has, either, Hears}
 use Rattle.protocol.specs.System.Trace.Entry.{Got, Tick, Sent}
 use Rattle.protocol.specs.Replica.Selection.{is_quorum, is_within}
-use Rattle.protocol.specs.Replica.Certificates.{view, target, is_active_in, taken, latest_change, checkpoints_of, count_checkpoints, low, entry_proposal, logged, prepare_from, commit_from, vote_in, prepare_of, commit_of, Prepared, Committed}
+use Rattle.protocol.specs.Replica.Certificates.{view, target, is_active_in, taken, latest_change, checkpoints_of, count_checkpoints, low, is_in_marks, entry_proposal, logged, prepare_from, commit_from, vote_in, prepare_of, commit_of, Prepared, Committed}
 use Rattle.reply_cache.specs.Replies.{Kept}
 use Rattle.protocol.specs.Replica.State.{State, Call, call_of, Ran, kept_of, last_time, tuples, root_of, page_text, all_pages}
 use Rattle.protocol.specs.Replica.Transfers.{fetch_sent, fetching, asked_last, in_place, GotBelow}
@@ -206,6 +206,49 @@ HasToMove c me before input waiting v =
 abbrev pub AreKeysSpent : List Entry → Type 0
 AreKeysSpent past = (leaf : ℕ) → leaf < 64 → (bytes : List ℕ) × (leaf_of bytes ≡ Some leaf) × SentBefore bytes past
 
+-- ---- what goes again once a request that waits comes again: what was sent may be lost (own)
+
+-- the input is an ordered request that waits already
+abbrev pub WaitsAlready : Configuration → ℕ → List Entry → Entry → Point → Type 0
+WaitsAlready c me before input old =
+    (call : Call) × Has (λ x. x ≡ call) old.waiting
+    × Hears c me (record { sender = 256 + call.client; message = Request call.timestamp modes.Ordered call.op }) before
+    input
+
+-- the new view that began the view, if one did, has batches only below the number
+abbrev pub IsBegunBelow : Configuration → ℕ → ℕ → List Entry → Type 0
+IsBegunBelow c v i history =
+    (new : NewViewData) → Once (λ past e. taken c past e ≡ Some new) history → new.view ≡ v
+    → new.start + length new.batches < i
+
+-- the latest checkpoint that the replica sent
+abbrev pub latest_checkpoint : Configuration → ℕ → List Entry → Option CheckpointEntry
+latest_checkpoint c me past = slice_get (checkpoints_of c past me) 0
+
+-- The replica sends again what it sent in the view v for the number i: its prepare, its commit, and as the primary its
+-- batch, unless the new view has that.
+pub record SendsRow (c : Configuration) (me : ℕ) (past : List Entry) (v i : ℕ) (outputs : List Entry) : Type 0 where
+  pub batch : (batch : List ℕ) → primary c v ≡ me → IsBegunBelow c v i past → logged c me past v i ≡ Some batch
+      → Gives me (PrePrepare v i batch) outputs
+  pub prepare : (digest : List ℕ) → prepare_of c me past v i me ≡ Some digest → Gives me (Prepare v i digest) outputs
+  pub commit : (digest : List ℕ) → commit_of c me past v i me ≡ Some digest → Gives me (Commit v i digest) outputs
+
+-- A replica that is active in the view v sends again what it sent for the numbers in the marks above the executed one,
+-- with its own new view, by which it began the view, and its latest checkpoint.
+pub record SendsView (c : Configuration) (me : ℕ) (past : List Entry) (executed v : ℕ) (outputs : List Entry) : Type 0
+  where
+    pub new_view : primary c v ≡ me → 0 < v → (new : NewViewData) × (new.view ≡ v) × Gives me (NewView new) outputs
+    pub rows : (i : ℕ) → executed < i → is_in_marks c (low c me past) i ≡ true → SendsRow c me past v i outputs
+    pub checkpoint : (m : CheckpointEntry) → latest_checkpoint c me past ≡ Some m
+        → Gives me (Checkpoint m.number m.digest) outputs
+
+-- So does an active replica, and an inactive one sends its last view change again.
+pub record SendsAgain (c : Configuration) (me : ℕ) (past : List Entry) (executed : ℕ) (outputs : List Entry) : Type 0
+  where
+    pub active : (v : ℕ) → is_active_in c past v ≡ true → SendsView c me past executed v outputs
+    pub inactive : view c past < target past
+        → (vc : ViewChangeData) × (vc.view ≡ target past) × Gives me (ViewChange vc) outputs
+
 -- ---- what is owed
 
 -- What a correct replica owes in an event. before: the past at the input; now: the past behind the event; outputs: what
@@ -235,6 +278,8 @@ pub record Owes (c : Configuration) (me : ℕ) (before : List Entry) (input : En
   pub again : (k timestamp : ℕ) (op : Operation) (kept : Kept)
       → Hears c me (record { sender = 256 + k; message = Request timestamp modes.Ordered op }) before input
       → kept_of old.state k ≡ Some kept → kept.timestamp ≡ timestamp → Gives me (reply_of k kept) outputs
+  -- a request that waits already makes the replica send again what others may lack
+  pub says_again : WaitsAlready c me before input old → SendsAgain c me before old.state.number outputs
   pub reads : (client timestamp : ℕ) (op : Operation)
       → Hears c me (record { sender = client; message = Request timestamp modes.ReadOnly op }) before input
       → is_read_only op ≡ true

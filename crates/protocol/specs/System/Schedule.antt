@@ -1,6 +1,6 @@
 -- Which inputs a schedule feeds, over the real bytes of sealed and signed frames, and which of its steps are allowed.
 -- Here the entries that are to come stand oldest first.
-use Rattle.std.specs.Prelude.{◌≡◌, ℕ, suc, ◌-◌, ◌+◌, ◌≤◌, ◌<◌, Bool, true, false, ◌&&◌, ◌||◌, not, List, [], ◌∷◌, ◌++◌, length, map, take, reverse, ◌==◌, if◌then◌else◌, Option, Some, None, slice_get, All, AllPairs, ⊤}
+use Rattle.std.specs.Prelude.{◌≡◌, ℕ, suc, ◌-◌, ◌+◌, ◌≤◌, ◌<◌, Bool, true, false, ◌&&◌, ◌||◌, not, List, [], ◌∷◌, ◌++◌, length, map, reverse, ◌==◌, if◌then◌else◌, Option, Some, None, slice_get, All, AllPairs, ⊤}
 use Rattle.std.specs.List.{list_any, range_with_len}
 use Rattle.std.specs.Option.{option_map_or}
 use Rattle.tuple_codec.specs.Operations.{Operation, Outcome, IsOperation}
@@ -16,7 +16,6 @@ use Rattle.protocol.specs.System.Trace.{Entry, is_output, history_of}
 use Rattle.protocol.specs.System.Trace.Entry.{Invoke, Got, Tick, Sent, Accepted}
 use Rattle.protocol.specs.Client.RightClient.{open_call}
 use Rattle.protocol.specs.Space.Linear.{Item, points}
-use Rattle.protocol.specs.System.Run.{IsRun}
 
 -- A step of a schedule: a call; a frame that was made, to a party; bytes to a party; a frame of a faulty party, with
 -- MACs or signed; a tick; or the delivery of all that is left. A client stands with its number in a call, all others
@@ -172,13 +171,6 @@ pub data Goes (c : Configuration) : World → List Step → List Entry → World
 -- the trace, the newest first, has the inputs that the steps feed, each of them allowed
 abbrev pub Feeds : Configuration → List Step → List Entry → Type 0
 Feeds c steps trace = (w : World) × Goes c new_world steps (reverse trace) w
-
--- In the world that the run has made, the step of this index is the first that is not allowed.
-abbrev pub StopsAt : Configuration → List Step → ℕ → List Entry → Type 0
-StopsAt c steps n trace =
-    IsRun c trace
-    × ((w : World) × (step : Step) × Goes c new_world (take n steps) (reverse trace) w
-    × (slice_get steps n ≡ Some step) × (IsAllowed c w step → ⊥))
 
 -- ---- the report
 

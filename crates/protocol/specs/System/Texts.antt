@@ -79,7 +79,7 @@ pub data IsText (c : Configuration) (trace : List Entry) : List ℕ → Type 0 w
   installed : (batches : List (List ℕ)) (text : List ℕ) → AreFirst c trace 1 batches
       → Once (InstallsOver c batches text) trace → IsText c trace text
 
--- SHA-256 (FIPS 180-4) differs on different ones of them. They are no more than a few for each entry
+-- SHA-256 (FIPS 180-4) differs on different ones of them. They are at most 1,057 for each entry and 1,058 more
 -- (texts_are_listed); of all texts it would be false.
 abbrev pub NoCollision : Configuration → List Entry → Type 0
 NoCollision c trace = (x y : List ℕ) → IsText c trace x → IsText c trace y → sha256 x ≡ sha256 y → x ≡ y

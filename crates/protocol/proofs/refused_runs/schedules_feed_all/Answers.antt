@@ -2,4 +2,4 @@ use Rattle.protocol.proofs.Evidence.RefusingRunsSchedules
 use Rattle.protocol.proofs.refused_runs.schedules_feed_all.Goals as goal
 
 pub returns : goal.returns
-returns c = record { inputs = RefusingRunsSchedules.feeds_each_step; calls = RefusingRunsSchedules.feeds_each_call; ticks = RefusingRunsSchedules.feeds_each_tick; runs = RefusingRunsSchedules.stops_in_runs; stops = RefusingRunsSchedules.stops_at_no_sent; flushes = RefusingRunsSchedules.flush_delivers_all; sent = RefusingRunsSchedules.flush_delivers_sent }
+returns c = record { inputs = RefusingRunsSchedules.feeds_each_step; calls = RefusingRunsSchedules.feeds_each_call; ticks = RefusingRunsSchedules.feeds_each_tick; deliveries = RefusingRunsSchedules.allows_sent; flushes = RefusingRunsSchedules.flush_delivers_all; sent = RefusingRunsSchedules.flush_delivers_sent }

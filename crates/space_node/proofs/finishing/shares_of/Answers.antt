@@ -10,9 +10,9 @@ share_of-share-requires g c = record {
 
 pub loop-replica-preserved : goal.loop-replica-preserved
 loop-replica-preserved g c = (
-  shares_more c.args.replicas.now c.loop-replica.replica-index (record { 0 = 0 }) c.loop-replica.shares.items _ c.share_of-share.result.0 c.loop-replica-test.true c.share_of-share.ensures.party
+  shares_more c.args.replicas.now c.loop-replica.replica-index (record { 0 = 0 }) c.loop-replica.shares.items _ c.share_of-share.result c.loop-replica-test.true c.share_of-share.ensures.party
       (search rules) c.loop-replica.invariant.0,
-  prompt_more g.N.Naming.config c.loop-replica.shares.items _ c.share_of-share.result.0 (search rules) c.loop-replica.invariant.1 c.share_of-share.ensures.prompt,
+  prompt_more g.N.Naming.config c.loop-replica.shares.items _ c.share_of-share.result (search rules) c.loop-replica.invariant.1 c.share_of-share.ensures.prompt,
 )
 
 pub returns-clause-parties : goal.returns-clause-parties

@@ -1,9 +1,9 @@
-use Rattle.std.proofs.Common.{◌≡◌, ◌∙◌, [], List, ap, map}
+use Rattle.std.proofs.Common.{◌≡◌, ◌∙◌, [], List, ap, map, sym}
 use Rattle.std.proofs.lemmas.List.Elements.{All-same}
-use Rattle.journal.specs.Histories.{correct_parties}
+use Rattle.journal.specs.Histories.{correct_parties, correct_replicas}
 use Rattle.journal.specs.Parts.{Part}
-use Rattle.space_node.specs.Places.{clients_among}
-use Rattle.space_node.proofs.NewHandles.{all_clients, parties_fresh}
+use Rattle.space_node.specs.Places.{clients_among, replicas_among}
+use Rattle.space_node.proofs.NewHandles.{all_clients, all_replicas, parties_fresh}
 use Rattle.space_node.proofs.NewSeats.{all_fresh}
 use Rattle.space_node.proofs.seating.seat_all.Goals as goal
 
@@ -14,6 +14,14 @@ seat_parties-requires-clause-new g c =
 pub seat_parties-requires-clause-new_orders : goal.seat_parties-requires-clause-new_orders
 seat_parties-requires-clause-new_orders g c =
     All-same (λ (s : Part). s.history ≡ []) c.in_ok-journal.orders.items _ c.in_ok-journal.ensures.opens.orders_are (all_fresh _)
+
+pub seat_parties-requires-clause-orders_are : goal.seat_parties-requires-clause-orders_are
+seat_parties-requires-clause-orders_are g c =
+    let config = c.args.config.now in
+    ap (map (λ (o : Part). o.party)) c.in_ok-journal.ensures.opens.orders_are
+    ∙ (parties_fresh (correct_replicas config)
+    ∙ (sym (all_replicas config c.requires.valid)
+    ∙ ap replicas_among (sym (parties_fresh (correct_parties config)) ∙ ap (map (λ (s : Part). s.party)) (sym c.in_ok-journal.ensures.opens.shares_are))))
 
 pub returns : goal.returns
 returns g c =

@@ -1,7 +1,7 @@
 use Rattle.std.proofs.Common.{rules}
 use Rattle.replica.proofs.Answering.{fetch_within}
 use Rattle.replica.proofs.Beginning.{other_dropped}
-use Rattle.replica.proofs.Batches.{heard_batch, heard_batches}
+use Rattle.replica.proofs.Batches.{heard_batch, heard_batches, heard_digests}
 use Rattle.replica.proofs.joined.Joined.on_replica.Goals as goal
 
 pub on_fetch-requires-clause-place : goal.on_fetch-requires-clause-place
@@ -33,3 +33,7 @@ on_pre_prepare-requires c = record {
 pub on_new_view-requires-clause-batches : goal.on_new_view-requires-clause-batches
 on_new_view-requires-clause-batches c =
     heard_batches c.args.self.now.desk.membership c.args.self.now.desk.me c.args.sender.0 c.args.frame.now c.args.message c.in-NewView.message c.requires.heard c.in-NewView.is
+
+pub on_meta-requires-clause-said : goal.on_meta-requires-clause-said
+on_meta-requires-clause-said c =
+    heard_digests c.args.self.now.desk.membership c.args.self.now.desk.me c.args.sender.0 c.args.frame.now c.args.message c.in-Meta.message c.requires.heard c.in-Meta.is

@@ -56,7 +56,9 @@ returns-in_ok-say_all_again-in-Waiting-clause-ok c =
     (subst (HasReply d client time) c.if-branch.false c.in_ok-reply_again.ensures.has)
     (subst (λ (x : DeskData). IsArrival x client time frame arrivals.Waiting) c.in_ok-reply_again.ensures.same
     c.in-Waiting.ensures)
-    (all_again mid new c.reply_again.new.outputs.items outs c.in_ok-say_all_again-in-Waiting.ensures.ok
+    (all_again mid (joined_data c.self.inside) new c.reply_again.new.outputs.items outs
+    (ap (λ (x : DeskData). joined_data (record c.self.inside { desk = x })) c.in_ok-reply_again.ensures.same)
+    c.in_ok-say_all_again-in-Waiting.ensures.ok
     (ap (λ o. o.items) (c.in_ok-reply_again.ensures.silent c.if-branch.false) ∙ c.requires.first)))
 
 pub returns-in_ok-wait-in-New-clause-ok : goal.returns-in_ok-wait-in-New-clause-ok

@@ -1,9 +1,9 @@
-use Rattle.std.proofs.Common.{true, false, refl, sym, ap, ◌∙◌, subst}
+use Rattle.std.proofs.Common.{ℕ, true, refl, sym, ap, ◌∙◌, subst}
 use Rattle.replica.specs.State.{JoinedData}
 use Rattle.replica.specs.JoinedView.{joined_data}
-use Rattle.replica.specs.Saying.{AllAgain}
+use Rattle.replica.specs.Saying.{AllAgain, PostsAll, SaysLastAlso}
 use Rattle.replica.proofs.Results.{on_ok}
-use Rattle.replica.proofs.Again.{all_again}
+use Rattle.replica.proofs.Again.{all_again, change_only}
 use Rattle.replica.proofs.joined.Joined.say_all_again.Goals as goal
 
 pub returns-then-not-is_active-clause-ok : goal.returns-then-not-is_active-clause-ok
@@ -14,7 +14,7 @@ returns-then-not-is_active-clause-ok c =
     let new : JoinedData = joined_data (record c.self.inside { orderer = o }) in
     on_ok c.say_change_again.result
     (λ says. subst (λ (r : JoinedData). AllAgain r before new after) c.self.view_is
-    (all_again false (joined_data c.self.inside) new o before after
+    (change_only (joined_data c.self.inside) new o before after
     (ap (λ r. r.orderer.log.active) (sym c.self-inside.view_is) ∙ sym c.if-not-is_active.ensures) says refl))
     c.say_change_again.ensures.ok
 
@@ -26,6 +26,8 @@ returns-clause-ok c =
     let new : JoinedData = joined_data (record c.self.inside { orderer = o }) in
     on_ok c.say_again.result
     (λ says. subst (λ (r : JoinedData). AllAgain r before new after) c.self.view_is
-    (all_again true (joined_data c.self.inside) new o before after
-    (ap (λ r. r.orderer.log.active) (sym c.self-inside.view_is) ∙ sym c.if-not-is_active.ensures) says refl))
+    (all_again (joined_data c.self.inside) new o before after
+    (ap (λ r. r.orderer.log.active) (sym c.self-inside.view_is) ∙ sym c.if-not-is_active.ensures)
+    (subst (λ (n : ℕ). SaysLastAlso true 0 (PostsAll n) (joined_data c.self.inside).orderer before o after)
+    (c.number-executed.ensures.value ∙ ap (λ r. r.desk.executed.state.number) c.self-inside.view_is) says) refl))
     c.say_again.ensures.ok

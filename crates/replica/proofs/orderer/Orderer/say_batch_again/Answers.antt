@@ -1,16 +1,23 @@
 use Rattle.std.proofs.Common.{rules, ◌≡◌, ◌<◌, true, Some, sym, ◌∙◌, ap, eqb-true}
+use Rattle.std.proofs.lemmas.Bool.{eq-eqb}
 use Rattle.ordering.specs.Log as logs
 use Rattle.ordering.specs.RowView.{batch_lent}
 use Rattle.replica.specs.State.{OrdererData}
 use Rattle.replica.proofs.Results.{on_ok}
-use Rattle.replica.proofs.Again.{batch_again, no_batch_again}
+use Rattle.replica.proofs.Again.{batch_again, no_batch_again, other_batch_again}
 use Rattle.replica.proofs.orderer.Orderer.say_batch_again.Goals as goal
 
 pub returns-then-not-is_primary-clause-ok : goal.returns-then-not-is_primary-clause-ok
-returns-then-not-is_primary-clause-ok c = no_batch_again c.args.number.0 c.args.self.now c.args.outputs.now.items
+returns-then-not-is_primary-clause-ok c =
+    other_batch_again c.args.number.0 c.args.self.now c.args.outputs.now.items
+    (λ own above.
+    let primary : c.is_primary.result ≡ true = c.is_primary.ensures ∙ eq-eqb c.args.self.now.log.me (logs.primary c.args.self.now.log c.args.self.now.log.view) own in
+    search rules)
 
 pub returns-in_default-clause-ok : goal.returns-in_default-clause-ok
-returns-in_default-clause-ok c = no_batch_again c.args.number.0 c.args.self.now c.args.outputs.now.items
+returns-in_default-clause-ok c =
+    no_batch_again c.args.number.0 c.args.self.now c.args.outputs.now.items
+    (ap (λ (o : OrdererData). logs.logged_batch o.log c.args.number.0) (sym c.self.view_is) ∙ sym c.logged_batch.ensures ∙ ap batch_lent c.in_default.is)
 
 pub returns-clause-ok : goal.returns-clause-ok
 returns-clause-ok c =

@@ -2,8 +2,15 @@ use Rattle.std.proofs.Common.{Bor, ℕ, List, option_map, sym, ap, ◌∙◌, su
 use Rattle.view_change.specs.ReceivedData.{HeldData, held_of}
 use Rattle.replica.specs.State.{OrdererData, IsOrderer}
 use Rattle.replica.proofs.Results.{on_ok}
-use Rattle.replica.proofs.ChangingViews.{change_again}
+use Rattle.replica.proofs.ChangingViews.{change_again, no_change_again}
 use Rattle.replica.proofs.orderer.Orderer.say_change_again.Goals as goal
+
+pub returns-in-None-clause-ok : goal.returns-in-None-clause-ok
+returns-in-None-clause-ok c =
+    no_change_again c.args.self.now c.args.outputs.now.items
+    (ap (λ (o : OrdererData). option_map (λ (h : HeldData). h.frame) (held_of o.received.held o.log.me)) (sym c.this.view_is)
+    ∙ ap (λ (m : ℕ). option_map (λ (h : HeldData). h.frame) (held_of c.this.inside.received.held m)) (sym c.me.ensures)
+    ∙ sym c.frame_of.ensures ∙ ap (option_map (λ (b : Bor (List ℕ)). b.now)) c.in-None.is)
 
 pub returns-in-Some-clause-ok : goal.returns-in-Some-clause-ok
 returns-in-Some-clause-ok c =

@@ -2,8 +2,12 @@ use Rattle.std.proofs.Common.{sym, ap, ◌∙◌, option_map}
 use Rattle.wire.specs.Views.{checkpoint_entry_data}
 use Rattle.replica.specs.State.{OrdererData}
 use Rattle.replica.proofs.Results.{on_ok}
-use Rattle.replica.proofs.Again.{checkpoint_again}
+use Rattle.replica.proofs.Again.{checkpoint_again, no_checkpoint_again}
 use Rattle.replica.proofs.orderer.Orderer.say_checkpoint_again.Goals as goal
+
+pub returns-in-None-clause-ok : goal.returns-in-None-clause-ok
+returns-in-None-clause-ok c =
+    no_checkpoint_again c.args.self.now c.args.outputs.now.items (ap (λ (o : OrdererData). o.last_checkpoint) (sym c.self.view_is) ∙ ap (option_map checkpoint_entry_data) c.in-None.is)
 
 pub returns-in-Some-clause-ok : goal.returns-in-Some-clause-ok
 returns-in-Some-clause-ok c =

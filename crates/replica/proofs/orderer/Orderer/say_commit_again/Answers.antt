@@ -6,7 +6,9 @@ use Rattle.replica.proofs.Again.{commit_again, no_commit_again}
 use Rattle.replica.proofs.orderer.Orderer.say_commit_again.Goals as goal
 
 pub returns-in-None-clause-ok : goal.returns-in-None-clause-ok
-returns-in-None-clause-ok c = no_commit_again c.args.number.0 c.args.self.now c.args.outputs.now.items
+returns-in-None-clause-ok c =
+    no_commit_again c.args.number.0 c.args.self.now c.args.outputs.now.items
+    (ap (λ (o : OrdererData). logs.commit_of o.log c.args.number.0 o.log.me) (sym c.self.view_is) ∙ ap (logs.commit_of c.self.inside.log c.args.number.0) (sym c.me-me.ensures) ∙ sym c.commit_of.ensures ∙ c.in-None.is)
 
 pub returns-in-Some-clause-ok : goal.returns-in-Some-clause-ok
 returns-in-Some-clause-ok c =

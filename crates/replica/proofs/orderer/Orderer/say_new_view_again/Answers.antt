@@ -5,7 +5,7 @@ use Rattle.replica.proofs.NewViews.{view_again, no_view_again}
 use Rattle.replica.proofs.orderer.Orderer.say_new_view_again.Goals as goal
 
 pub returns-in-None-clause-ok : goal.returns-in-None-clause-ok
-returns-in-None-clause-ok c = no_view_again c.args.self.now c.args.outputs.now.items
+returns-in-None-clause-ok c = no_view_again c.args.self.now c.args.outputs.now.items (ap (λ (o : OrdererData). o.new_view) (sym c.own.view_is) ∙ ap (option_map (λ f. f.items)) c.in-None.is)
 
 pub returns-in-Some-clause-ok : goal.returns-in-Some-clause-ok
 returns-in-Some-clause-ok c =

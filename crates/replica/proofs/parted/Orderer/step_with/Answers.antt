@@ -18,8 +18,8 @@ returns-clause-leads c =
     (ap (λ (p : OrdererPart). orders p.member c.in_ok-orderer.orderer) c.self.view_is)
     (ap (λ (p : DeskPart). answers p.member c.in_ok-orderer.state) c.desk.view_is)
 
-pub returns-clause-meant : goal.returns-clause-meant
-returns-clause-meant c =
+pub returns-clause-sends : goal.returns-clause-sends
+returns-clause-sends c =
     let o = c.args.self.now in
     let d = c.args.desk.now in
     let x = c.take_orderer-orderer.result in

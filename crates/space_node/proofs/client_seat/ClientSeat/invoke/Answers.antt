@@ -7,7 +7,7 @@ use Rattle.events.specs.Outputs.{entry_of}
 use Rattle.journal.specs.Parts.{Part, longer_part}
 use Rattle.space_node.specs.Calls.{AcceptNothing}
 use Rattle.space_node.specs.Seats.{Seated, SeatsClient}
-use Rattle.space_node.proofs.Clients.{begins_with, client_after, client_right, client_stops, fits_invoke, last_invoke, never_busy, spent_calls}
+use Rattle.space_node.proofs.Clients.{begins_with, client_after, client_right, client_stops, fits_invoke, last_invoke, never_busy, spent_calls, waits}
 use Rattle.space_node.proofs.client_seat.ClientSeat.invoke.Goals as goal
 
 pub unreachable-requires : goal.unreachable-requires
@@ -70,7 +70,13 @@ returns-clause-begins g c =
     let outs = c.in-Ok.outputs.items in
     let are : es ≡ Invoke s.id.number (s.calls + 1) (operation_of c.args.op) ∷ map (entry_of (256 + s.id.number)) outs = search rules in
     let kept : c.record.new.share ≡ longer_part s.share es = search rules in
-    let none : AcceptNothing outs = search rules in
+    let later = c.invoke.new.self in
+    let off : s.stopped ≡ false = search rules in
+    let seats : SeatsClient g.N.Naming.config s.id.number s.client s.calls false s.share =
+    subst (λ (b : Bool). SeatsClient g.N.Naming.config s.id.number s.client s.calls b s.share) off c.self.invariant in
+    let none : AcceptNothing outs =
+    waits g.N.Naming.config s.id.number s.calls s.client later s.share seats c.in-Ok.ensures.number (s.calls + 1) (operation_of c.args.op) outs es refl are
+    (fits_invoke g.N.Naming.config s.id.number s.calls s.client later s.share seats c.in-Ok.ensures.number (s.calls + 1) (operation_of c.args.op) outs es refl are c.in-Ok.ensures.leads) c.in-Ok.ensures.runs in
     let was : c.args.self.now ≡ record { party = s.share.party; history = s.share.history; stopped = s.stopped } = search rules in
     begins_with c.args.self.now _ s.id.number s.calls (s.calls + 1) (operation_of c.args.op) outs es
     (ap (λ (x : Seated). x.party) was ∙ c.self.invariant.party_is)
