@@ -118,6 +118,9 @@ class Batch:
         self.edits[edit] = place
         return True
 
+    def functions(self):
+        return [it.function for it in self.edits.values()]
+
     def refused(self, crate, said):
         """Returns, of each edit whose function has no proof by what a check with all of them said, a line that says so."""
         # A check that takes long says these words before what it found.
