@@ -178,14 +178,16 @@ fn sets_first(tree: &mut Tree) -> Result<bool, NoMemory> {
     Ok(is_as_before)
 }
 
-fn new_tree(alloc: Global) -> Result<Tree, NoMemory> {
+/// At the second try where memory ran out at the first one.
+pub fn new_tree(alloc: Global) -> Result<Tree, NoMemory> {
     match Tree::new(alloc) {
         Ok(tree) => Ok(tree),
         Err(NoMemory) => Tree::new(alloc),
     }
 }
 
-fn snapshot_of(tree: &Tree) -> Result<Snapshot, NoMemory> {
+/// At the second try where memory ran out at the first one.
+pub fn snapshot_of(tree: &Tree) -> Result<Snapshot, NoMemory> {
     match tree.snapshot() {
         Ok(snapshot) => Ok(snapshot),
         Err(NoMemory) => tree.snapshot(),

@@ -2,7 +2,8 @@
 
 ghost use Rattle.std.specs.Prelude.{◌<◌};
 
-use partition_tree::{Page, Tree};
+use crate::partitions::{new_tree, snapshot_of};
+use partition_tree::{Page, Snapshot, Tree};
 use std::alloc::{AllocError, Global};
 use std::test::Fail;
 use terms::{Digest, Level, NoMemory};
@@ -62,66 +63,128 @@ fn later(alloc: Global) -> Result<Vec<Page>, AllocError> {
     Ok(pages)
 }
 
+// Each sets pages, and answers whether the tree then has the root that these give.
+fn sets_several(tree: &mut Tree, alloc: Global) -> Result<bool, NoMemory> {
+    tree.set_pages(several(alloc)?)?;
+    Ok(tree.root() == SEVERAL_ROOT)
+}
+
+fn sets_later(tree: &mut Tree, alloc: Global) -> Result<bool, NoMemory> {
+    tree.set_pages(later(alloc)?)?;
+    Ok(tree.root() == LATER_ROOT)
+}
+
+// Over several pages.
+fn sets_other(tree: &mut Tree) -> Result<bool, NoMemory> {
+    tree.set_page(1, b"other")?;
+    Ok(tree.root() == OTHER_ROOT)
+}
+
+fn has_several(tree: &Tree) -> bool {
+    tree.page(1) == b"two".as_slice()
+        && tree.page(1023) == b"last".as_slice()
+        && tree.children(Level::Root, 0)[0] == SEVERAL_PART
+        && tree.children(Level::Inner, 9)[12] == ABC_PAGE
+}
+
+fn sets_in_turn(tree: &mut Tree, alloc: Global) -> Result<bool, NoMemory> {
+    Ok(
+        sets_several(tree, alloc)?
+            && has_several(tree)
+            && sets_several(tree, alloc)?
+            && sets_later(tree, alloc)?,
+    )
+}
+
 #[test]
 fn several_pages_at_once(rt: HostRuntime) -> Result<(), Fail> {
     let mut tree = Tree::new(rt.alloc())?;
-    tree.set_pages(several(rt.alloc())?)?;
-    assert_eq!(rt; tree.root(), SEVERAL_ROOT);
-    assert_eq!(rt; tree.page(1), b"two".as_slice());
-    assert_eq!(rt; tree.page(1023), b"last".as_slice());
-    assert_eq!(rt; tree.children(Level::Root, 0)[0], SEVERAL_PART);
-    assert_eq!(rt; tree.children(Level::Inner, 9)[12], ABC_PAGE);
-    tree.set_pages(several(rt.alloc())?)?;
-    assert_eq!(rt; tree.root(), SEVERAL_ROOT);
-    tree.set_pages(later(rt.alloc())?)?;
-    assert_eq!(rt; tree.root(), LATER_ROOT);
+    assert!(rt; sets_in_turn(&mut tree, rt.alloc())?);
     Ok(())
+}
+
+// Several pages, and page 1 once more.
+fn with_other(alloc: Global) -> Result<Vec<Page>, AllocError> {
+    let mut pages = several(alloc)?;
+    pages.push(page(alloc, 1, b"other")?)?;
+    Ok(pages)
+}
+
+fn sets_twice(tree: &mut Tree, alloc: Global) -> Result<bool, NoMemory> {
+    tree.set_pages(with_other(alloc)?)?;
+    Ok(tree.page(1) == b"other".as_slice() && tree.root() == OTHER_ROOT)
+}
+
+fn sets_none(tree: &mut Tree, alloc: Global) -> Result<bool, NoMemory> {
+    tree.set_pages(Vec::new(alloc))?;
+    Ok(tree.root() == OTHER_ROOT)
 }
 
 #[test]
 fn a_page_set_twice_and_none(rt: HostRuntime) -> Result<(), Fail> {
     let mut tree = Tree::new(rt.alloc())?;
-    let mut pages = several(rt.alloc())?;
-    pages.push(page(rt.alloc(), 1, b"other")?)?;
-    tree.set_pages(pages)?;
-    assert_eq!(rt; tree.page(1), b"other".as_slice());
-    assert_eq!(rt; tree.root(), OTHER_ROOT);
-    tree.set_pages(Vec::new(rt.alloc()))?;
-    assert_eq!(rt; tree.root(), OTHER_ROOT);
+    assert!(rt; sets_twice(&mut tree, rt.alloc())?);
+    assert!(rt; sets_none(&mut tree, rt.alloc())?);
     Ok(())
+}
+
+// A snapshot of several pages. The tree's pages are then set again.
+fn shared_snapshot(tree: &mut Tree, alloc: Global) -> Result<Snapshot, NoMemory> {
+    tree.set_pages(several(alloc)?)?;
+    let snapshot = tree.snapshot()?;
+    tree.set_pages(later(alloc)?)?;
+    tree.set_page(0, b"")?;
+    Ok(snapshot)
+}
+
+fn keeps_several(snapshot: &Snapshot) -> bool {
+    snapshot.root() == SEVERAL_ROOT
+        && snapshot.page(0) == b"one".as_slice()
+        && snapshot.page(1) == b"two".as_slice()
+        && snapshot.page(512).is_empty()
+        && snapshot.children(Level::Root, 0)[0] == SEVERAL_PART
 }
 
 #[test]
 fn a_snapshot_keeps_what_it_shared(rt: HostRuntime) -> Result<(), Fail> {
     let mut tree = Tree::new(rt.alloc())?;
-    tree.set_pages(several(rt.alloc())?)?;
-    let snapshot = tree.snapshot()?;
-    tree.set_pages(later(rt.alloc())?)?;
-    tree.set_page(0, b"")?;
-    assert_eq!(rt; snapshot.root(), SEVERAL_ROOT);
-    assert_eq!(rt; snapshot.page(0), b"one".as_slice());
-    assert_eq!(rt; snapshot.page(1), b"two".as_slice());
-    assert_eq!(rt; snapshot.page(512).len(), 0);
-    assert_eq!(rt; snapshot.children(Level::Root, 0)[0], SEVERAL_PART);
+    let snapshot = shared_snapshot(&mut tree, rt.alloc())?;
+    assert!(rt; keeps_several(&snapshot));
     drop(tree);
-    assert_eq!(rt; snapshot.page(300), b"abc".as_slice());
+    assert!(rt; snapshot.page(300) == b"abc".as_slice());
     Ok(())
+}
+
+// Whether a tree of the snapshot and a copy of it are changed apart, and the snapshot and its tree stay as they were.
+fn are_apart(tree: &Tree, snapshot: &Snapshot, alloc: Global) -> Result<bool, NoMemory> {
+    let mut held = snapshot.tree()?;
+    let mut copy = held.copy()?;
+    Ok(change_apart(&mut held, &mut copy, alloc)? && are_as_before(tree, snapshot))
+}
+
+fn change_apart(held: &mut Tree, copy: &mut Tree, alloc: Global) -> Result<bool, NoMemory> {
+    Ok(
+        sets_other(held)?
+            && sets_later(copy, alloc)?
+            && held.root() == OTHER_ROOT
+            && held.page(300) == b"abc".as_slice(),
+    )
+}
+
+fn are_as_before(tree: &Tree, snapshot: &Snapshot) -> bool {
+    snapshot.root() == SEVERAL_ROOT && tree.root() == SEVERAL_ROOT
+}
+
+fn several_with_snapshot(tree: &mut Tree, alloc: Global) -> Result<Snapshot, NoMemory> {
+    tree.set_pages(several(alloc)?)?;
+    tree.snapshot()
 }
 
 #[test]
 fn trees_of_one_snapshot_are_apart(rt: HostRuntime) -> Result<(), Fail> {
     let mut tree = Tree::new(rt.alloc())?;
-    tree.set_pages(several(rt.alloc())?)?;
-    let snapshot = tree.snapshot()?;
-    let mut held = snapshot.tree()?;
-    let mut copy = held.copy()?;
-    held.set_page(1, b"other")?;
-    copy.set_pages(later(rt.alloc())?)?;
-    assert_eq!(rt; held.root(), OTHER_ROOT);
-    assert_eq!(rt; copy.root(), LATER_ROOT);
-    assert_eq!(rt; snapshot.root(), SEVERAL_ROOT);
-    assert_eq!(rt; tree.root(), SEVERAL_ROOT);
-    assert_eq!(rt; held.page(300), b"abc".as_slice());
+    let snapshot = several_with_snapshot(&mut tree, rt.alloc())?;
+    assert!(rt; are_apart(&tree, &snapshot, rt.alloc())?);
     Ok(())
 }
 
@@ -133,44 +196,58 @@ fn changes(alloc: Global) -> Result<Vec<Page>, AllocError> {
     }
 }
 
+// Whether several pages are set, at the second try where memory ran out at the first one, which changed nothing.
+fn sets_or_stays(tree: &mut Tree, alloc: Global, empty: &Snapshot) -> Result<bool, NoMemory> {
+    if tree.set_pages(changes(alloc)?).is_ok() {
+        return Ok(tree.root() == SEVERAL_ROOT);
+    }
+    let is_as_before = is_empty_as(tree, empty);
+    Ok(sets_several(tree, alloc)? && is_as_before)
+}
+
+fn is_empty_as(tree: &Tree, empty: &Snapshot) -> bool {
+    tree.root() == empty.root() && tree.page(0).is_empty() && tree.page(300).is_empty()
+}
+
+// The same of page 1, over several pages.
+fn sets_other_or_stays(tree: &mut Tree) -> Result<bool, NoMemory> {
+    if tree.set_page(1, b"other").is_ok() {
+        return Ok(tree.root() == OTHER_ROOT);
+    }
+    let is_as_before = tree.root() == SEVERAL_ROOT && tree.page(1) == b"two".as_slice();
+    Ok(sets_other(tree)? && is_as_before)
+}
+
+// The snapshot's tree, at the second try where memory ran out at the first one.
+fn tree_of(snapshot: &Snapshot) -> Result<Tree, NoMemory> {
+    match snapshot.tree() {
+        Ok(tree) => Ok(tree),
+        Err(NoMemory) => snapshot.tree(),
+    }
+}
+
+// A tree of several pages and one of their snapshot get another page each, and the snapshot keeps its own.
+fn shares_pages(tree: &mut Tree) -> Result<bool, NoMemory> {
+    let snapshot = snapshot_of(tree)?;
+    Ok(sets_other_or_stays(tree)? && keeps_shared(&snapshot)?)
+}
+
+fn keeps_shared(snapshot: &Snapshot) -> Result<bool, NoMemory> {
+    let mut held = tree_of(snapshot)?;
+    Ok(
+        held.root() == SEVERAL_ROOT
+            && sets_other_or_stays(&mut held)?
+            && snapshot.page(1) == b"two".as_slice(),
+    )
+}
+
 // Passes whichever growth is refused, as by `tools/growths`, since the second try is granted.
 #[test]
 fn refusals_leave_shared_pages(rt: HostRuntime) -> Result<(), Fail> {
-    let mut tree = match Tree::new(rt.alloc()) {
-        Ok(tree) => tree,
-        Err(NoMemory) => Tree::new(rt.alloc())?,
-    };
-    let empty = match tree.snapshot() {
-        Ok(snapshot) => snapshot,
-        Err(NoMemory) => tree.snapshot()?,
-    };
-    if tree.set_pages(changes(rt.alloc())?).is_err() {
-        assert_eq!(rt; tree.root(), empty.root());
-        assert!(rt; tree.page(0).is_empty());
-        assert!(rt; tree.page(300).is_empty());
-        tree.set_pages(several(rt.alloc())?)?;
-    }
-    assert_eq!(rt; tree.root(), SEVERAL_ROOT);
-    let snapshot = match tree.snapshot() {
-        Ok(snapshot) => snapshot,
-        Err(NoMemory) => tree.snapshot()?,
-    };
-    if tree.set_page(1, b"other").is_err() {
-        assert_eq!(rt; tree.root(), SEVERAL_ROOT);
-        assert_eq!(rt; tree.page(1), b"two".as_slice());
-        tree.set_page(1, b"other")?;
-    }
-    assert_eq!(rt; tree.root(), OTHER_ROOT);
-    let mut held = match snapshot.tree() {
-        Ok(tree) => tree,
-        Err(NoMemory) => snapshot.tree()?,
-    };
-    assert_eq!(rt; held.root(), SEVERAL_ROOT);
-    if held.set_page(1, b"other").is_err() {
-        held.set_page(1, b"other")?;
-    }
-    assert_eq!(rt; held.root(), OTHER_ROOT);
-    assert_eq!(rt; snapshot.page(1), b"two".as_slice());
+    let mut tree = new_tree(rt.alloc())?;
+    let empty = snapshot_of(&tree)?;
+    assert!(rt; sets_or_stays(&mut tree, rt.alloc(), &empty)?);
+    assert!(rt; shares_pages(&mut tree)?);
     assert!(rt; empty.page(300).is_empty());
     Ok(())
 }
