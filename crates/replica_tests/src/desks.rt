@@ -91,22 +91,26 @@ fn gives_with(
 
 // A request comes to the primary's orderer and the other's desk, and is lost. Nothing has changed then: the request gets
 // the first number with the primary's own desk, and none waits at the other.
-fn loses_request(alloc: Global, primary: Replica, other: Replica) -> Result<bool, Fail> {
+fn is_lost(
+    orderer: &mut Orderer,
+    desk: &mut Desk,
+    others: &mut Orderer,
+    foreign: &mut Desk,
+    alloc: Global,
+) -> Result<bool, Fail> {
     let frame = frame_of(alloc, Sent::Request(1))?;
     let numbered = [Given::Sends(Sent::PrePrepare(1))];
+    Ok(
+        gives_with(orderer, foreign, alloc, Event::Got(&frame), &[])?
+            && gives_with(orderer, desk, alloc, Event::Got(&frame), &numbered)?
+            && gives_with(others, foreign, alloc, Event::Timeout, &[])?,
+    )
+}
+
+fn loses_request(alloc: Global, primary: Replica, other: Replica) -> Result<bool, Fail> {
     let (mut orderer, mut desk) = primary.split();
     let (mut others, mut foreign) = other.split();
-    Ok(
-        gives_with(&mut orderer, &mut foreign, alloc, Event::Got(&frame), &[])?
-            && gives_with(
-                &mut orderer,
-                &mut desk,
-                alloc,
-                Event::Got(&frame),
-                &numbered,
-            )?
-            && gives_with(&mut others, &mut foreign, alloc, Event::Timeout, &[])?,
-    )
+    is_lost(&mut orderer, &mut desk, &mut others, &mut foreign, alloc)
 }
 
 fn loses_with_another_replica(alloc: Global) -> Result<bool, Fail> {
