@@ -13,18 +13,19 @@
 //! says what an answer stands on in the client's history, and exactly when it is refused as stopped.
 //! [`Cluster::finish`] says that the trace is a run's, in which each frame that was got was sent, or names a faulty
 //! sender; that it has each correct replica's and each handed client's history; that in it each of these parties does
-//! all that it owes; and that it is linearizable, unless two different texts of it have one digest (`NoCollision`) or a
-//! message of a correct party is forged, which without faulty parties none is. What a party got after it had stopped is
-//! not in the trace, and the run names exactly the parties that stopped: a client by its handle, a replica by its share,
-//! which its seats alone give ([`ReplicaShare`]). [`Cluster::start_with_drills`] is refused exactly where the drills are
-//! not those of the faulty replicas; a stale replica says nothing but what reads come to in no tuples.
+//! all that it owes; and that it is linearizable, unless two different texts of the run have one digest (`NoCollision`
+//! lists them, the pages of the executed states among them) or a message of a correct party is forged, which without
+//! faulty parties none is. What a party got after it had stopped is not in the trace. The run names exactly the parties
+//! that stopped: a client by its handle, a replica by its share, which its seats alone give ([`ReplicaShare`]).
+//! [`Cluster::start_with_drills`] is refused exactly where the drills are not those of the faulty replicas; a stale
+//! replica says nothing but what reads come to in no tuples.
 //!
 //! # What is not
 //!
 //! That anything happens: that a thread runs, that a frame comes, that a call is answered. What a replica did before its
 //! threads ended, as far as its share does not tell it: so that nobody stops it without a reason. A frame that a channel
 //! doesn't take is lost, as in a network. That clients get frames of a stale replica, and none of a silent one, is
-//! tested.
+//! tested, and that the journal takes as many entries as it is told.
 #![tactic(auto)]
 
 mod client_seat;
