@@ -13,6 +13,8 @@ INHERENT = re.compile(r"impl(?:<.*?>)? (\w+)(?:<.*>)? \{$")
 NAMES = re.compile(r"has no field|is not in scope|has no `|was not admitted")
 SAID = re.compile(r"fn (\S+): (.*)")
 NOTE = re.compile(r"(?:note: )?(?:\./)?((?:src|proofs)/\S+?):(\d+):\d+: (?!note: ).*")
+# A check of some functions reads the proofs of all that they call: in `replica` it takes as long as four whole checks.
+LEAST_BATCH = 5
 
 
 class Place(NamedTuple):
@@ -60,8 +62,12 @@ def type_above(lines, head):
 
 
 def home_of(holder, lines, names):
-    """Returns the module in which a type of the file stands, by which the prover names its methods."""
-    taken = re.search(rf"^use crate::([\w:]+)::(?:\{{[^}}]*\b{holder}\b|{holder}\b)", "\n".join(lines), re.MULTILINE)
+    """Returns the module in which a type of the file stands, by which the prover names its methods.
+
+    One that the file takes in under another name is not it.
+    """
+    named = rf"\b{holder}\b(?! as )"
+    taken = re.search(rf"^use crate::([\w:]+)::(?:\{{[^}}]*{named}|{named})", "\n".join(lines), re.MULTILINE)
     return taken[1].split("::") if taken else names
 
 
@@ -144,7 +150,7 @@ def is_about(note, place):
 
 
 def batches_of(folder, edits):
-    """Parts the edits that change one body alone into batches. Returns these, and the other edits."""
+    """Parts the edits that change one body alone into batches, if there are enough. Returns these, and the other edits."""
     batches, others = [], []
     for edit in edits:
         place = place_of(folder, edit)
@@ -155,4 +161,5 @@ def batches_of(folder, edits):
             if not batches[-1].take(edit, place):
                 batches.pop()
                 others.append(edit)
-    return batches, others
+    large = [it for it in batches if len(it.edits) >= LEAST_BATCH]
+    return large, others + [edit for it in batches if it not in large for edit in it.edits]
