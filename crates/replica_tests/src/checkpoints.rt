@@ -1,7 +1,7 @@
 //! Checkpoints: the own one at each multiple of the period, those that come, and parts of the states that are kept.
 
 use crate::frames::Sent;
-use crate::replicas::{Given, Row, config_of_period, gives_all, new_replica};
+use crate::replicas::{Given, Row, gives_all, replica_of_period};
 use crate::states::{At, PAGE, ROOT, State, root_of};
 use replica::Replica;
 use std::alloc::{AllocError, Global};
@@ -287,9 +287,8 @@ static GOES_AGAIN: [Row<'static>; 11] = [
 ];
 
 fn gives_rows(alloc: Global, me: u8, period: u8, rows: &[Row<'_>]) -> Result<bool, Fail> {
-    let config = config_of_period(alloc, period)?;
-    let mut replica = new_replica(alloc, &config, me)?;
-    gives_all(&mut replica, alloc, rows)
+    let mut replica = replica_of_period(alloc, period, me)?;
+    gives_all(&mut *replica, alloc, rows)
 }
 
 // Number 2 has a checkpoint, and then is stable.
@@ -299,9 +298,8 @@ fn marks_two(
     second: &[Row<'_>],
     is_marked: &[Row<'_>],
 ) -> Result<bool, Fail> {
-    let config = config_of_period(alloc, 2)?;
-    let mut replica = new_replica(alloc, &config, me)?;
-    gives_both(&mut replica, alloc, second, is_marked)
+    let mut replica = replica_of_period(alloc, 2, me)?;
+    gives_both(&mut *replica, alloc, second, is_marked)
 }
 
 fn gives_both(

@@ -1,10 +1,10 @@
 //! A view change whose list of claims is as long as it can be, and what comes of one claim more.
 
 use crate::frames::{Sent, eight};
-use crate::replicas::{Given, config, gives, gives_for, new_replica};
+use crate::replicas::{Given, gives, gives_for, replica_of_period};
 use crate::signed::{key_tree, signed};
 use crate::states::{ROOT, State, root_of};
-use events::{Config, Output, Outputs};
+use events::{Output, Outputs};
 use replica::{Event, Replica};
 use signing::KeyTree;
 use std::alloc::{AllocError, Global};
@@ -33,12 +33,20 @@ fn request_of(alloc: Global, view: u8) -> Result<Vec<u8>, AllocError> {
     sealed(alloc, client_party(0), &[3], &body)
 }
 
-// The pre-prepare of that request, for replica 3.
+// The batch of that request.
+fn batch_of(alloc: Global, view: u8) -> Result<Vec<u8>, AllocError> {
+    let request = request_of(alloc, view)?;
+    batch_text(alloc, &[&request])
+}
+
+// The pre-prepare of that batch, for replica 3.
 fn proposal(alloc: Global, view: u8, number: u8) -> Result<Vec<u8>, AllocError> {
     let primary = view & 3;
-    let batch = batch_text(alloc, &[&request_of(alloc, view)?])?;
-    let front = joined(alloc, &[&[0x42, 0, primary], &eight(view), &eight(number)])?;
-    let body = joined(alloc, &[&front, &batch])?;
+    let batch = batch_of(alloc, view)?;
+    let body = joined(
+        alloc,
+        &[&[0x42, 0, primary], &eight(view), &eight(number), &batch],
+    )?;
     sealed(alloc, u16::from(primary), &[3], &body)
 }
 
@@ -87,12 +95,51 @@ fn empty_change(
     view: u8,
     (low, root): Start,
 ) -> Result<Vec<u8>, AllocError> {
-    let front = joined(alloc, &[&[0x46, 0, sender], &eight(view), &eight(low)])?;
-    let body = joined(alloc, &[&front, &[1], &eight(low), &root, &[0; 4]])?;
+    let low = eight(low);
+    let body = joined(
+        alloc,
+        &[
+            &[0x46, 0, sender],
+            &eight(view),
+            &low,
+            &[1],
+            &low,
+            &root,
+            &[0; 4],
+        ],
+    )?;
     signed_by(alloc, trees, sender, &body)
 }
 
-// The new view that starts from this state, with no batches, over the view changes of replicas 0, 1 and 2.
+// Puts that view change behind its length.
+fn put_change(
+    alloc: Global,
+    trees: &[KeyTree],
+    sender: u8,
+    view: u8,
+    start: Start,
+    out: &mut Vec<u8>,
+) -> Result<(), AllocError> {
+    let change = empty_change(alloc, trees, sender, view, start)?;
+    let carried = piece(alloc, &change)?;
+    out.extend_from_slice(&carried)
+}
+
+// The view changes of replicas 0, 1 and 2.
+fn empty_changes(
+    alloc: Global,
+    trees: &[KeyTree],
+    view: u8,
+    start: Start,
+) -> Result<Vec<u8>, AllocError> {
+    let mut changes = Vec::new(alloc);
+    for sender in 0..3 {
+        put_change(alloc, trees, sender, view, start, &mut changes)?;
+    }
+    Ok(changes)
+}
+
+// The new view that starts from this state, with no batches, over these view changes.
 fn empty_new_view(
     alloc: Global,
     trees: &[KeyTree],
@@ -100,13 +147,21 @@ fn empty_new_view(
     start: Start,
 ) -> Result<Vec<u8>, AllocError> {
     let primary = view & 3;
-    let mut body = joined(alloc, &[&[0x47, 0, primary], &eight(view), &[3]])?;
-    for sender in 0..3 {
-        let change = empty_change(alloc, trees, sender, view, start)?;
-        body.extend_from_slice(&piece(alloc, &change)?)?;
-    }
-    let end = joined(alloc, &[&eight(start.0), &start.1, &[0]])?;
-    body.extend_from_slice(&end)?;
+    let (number, root) = start;
+    let changes = empty_changes(alloc, trees, view, start)?;
+    let front = [0x47, 0, primary];
+    let body = joined(
+        alloc,
+        &[
+            &front,
+            &eight(view),
+            &[3],
+            &changes,
+            &eight(number),
+            &root,
+            &[0],
+        ],
+    )?;
     signed_by(alloc, trees, primary, &body)
 }
 
@@ -220,14 +275,13 @@ fn is_cut(replica: &mut Replica, alloc: Global, new: &[u8]) -> Result<bool, Fail
 
 fn claims_all_that_fit(alloc: Global) -> Result<bool, Fail> {
     let trees = key_trees(alloc)?;
-    let config = config(alloc)?;
-    claims_from_the_start(alloc, &config, &trees)
+    claims_from_the_start(alloc, &trees)
 }
 
-fn claims_from_the_start(alloc: Global, config: &Config, trees: &[KeyTree]) -> Result<bool, Fail> {
+fn claims_from_the_start(alloc: Global, trees: &[KeyTree]) -> Result<bool, Fail> {
     let opening = (0, root_of(alloc, State::Behind(0))?);
-    let mut replica = new_replica(alloc, config, 3)?;
-    claims_and_moves(&mut replica, alloc, trees, opening)
+    let mut replica = replica_of_period(alloc, 16, 3)?;
+    claims_and_moves(&mut *replica, alloc, trees, opening)
 }
 
 fn claims_and_moves(

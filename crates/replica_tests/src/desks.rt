@@ -1,9 +1,9 @@
 //! A desk that reads beside the order, and one that an orderer of another replica steps with.
 
 use crate::frames::{Sent, frame_of};
-use crate::replicas::{Given, are_given, config, config_of_period, new_replica};
+use crate::replicas::{Given, are_given, parts_of_period};
 use bumpalo::Bump;
-use replica::{Desk, Event, Orderer, Replica};
+use replica::{Desk, Event, Orderer};
 use std::alloc::Global;
 use std::test::Fail;
 
@@ -65,9 +65,8 @@ fn goes_on(desk: &mut Desk, alloc: Global) -> Result<bool, Fail> {
 }
 
 fn stops_for_nothing(alloc: Global) -> Result<bool, Fail> {
-    let config = config(alloc)?;
-    let (_orderer, mut desk) = new_replica(alloc, &config, 1)?.split();
-    goes_on(&mut desk, alloc)
+    let (_orderer, mut desk) = parts_of_period(alloc, 16, 1)?;
+    goes_on(&mut *desk, alloc)
 }
 
 #[test]
@@ -89,6 +88,17 @@ fn gives_with(
     Ok(are_given(alloc, &outputs, all)?)
 }
 
+// Whether this is given where the request comes.
+fn gives_for_request(
+    orderer: &mut Orderer,
+    desk: &mut Desk,
+    alloc: Global,
+    all: &[Given],
+) -> Result<bool, Fail> {
+    let frame = frame_of(alloc, Sent::Request(1))?;
+    gives_with(orderer, desk, alloc, Event::Got(&frame), all)
+}
+
 // A request comes to the primary's orderer and the other's desk, and is lost. Nothing has changed then: the request gets
 // the first number with the primary's own desk, and none waits at the other.
 fn is_lost(
@@ -98,37 +108,30 @@ fn is_lost(
     foreign: &mut Desk,
     alloc: Global,
 ) -> Result<bool, Fail> {
-    let frame = frame_of(alloc, Sent::Request(1))?;
     let numbered = [Given::Sends(Sent::PrePrepare(1))];
     Ok(
-        gives_with(orderer, foreign, alloc, Event::Got(&frame), &[])?
-            && gives_with(orderer, desk, alloc, Event::Got(&frame), &numbered)?
+        gives_for_request(orderer, foreign, alloc, &[])?
+            && gives_for_request(orderer, desk, alloc, &numbered)?
             && gives_with(others, foreign, alloc, Event::Timeout, &[])?,
     )
 }
 
-fn loses_request(alloc: Global, primary: Replica, other: Replica) -> Result<bool, Fail> {
-    let (mut orderer, mut desk) = primary.split();
-    let (mut others, mut foreign) = other.split();
-    is_lost(&mut orderer, &mut desk, &mut others, &mut foreign, alloc)
-}
-
-fn loses_with_another_replica(alloc: Global) -> Result<bool, Fail> {
-    let config = config(alloc)?;
-    let primary = new_replica(alloc, &config, 0)?;
-    let other = new_replica(alloc, &config, 1)?;
-    loses_request(alloc, primary, other)
-}
-
-fn loses_with_another_period(alloc: Global) -> Result<bool, Fail> {
-    let primary = new_replica(alloc, &config(alloc)?, 0)?;
-    let other = new_replica(alloc, &config_of_period(alloc, 4)?, 0)?;
-    loses_request(alloc, primary, other)
+// The other is a replica of this number in the configuration of this period.
+fn loses_with(alloc: Global, period: u8, me: u8) -> Result<bool, Fail> {
+    let (mut orderer, mut desk) = parts_of_period(alloc, 16, 0)?;
+    let (mut others, mut foreign) = parts_of_period(alloc, period, me)?;
+    is_lost(
+        &mut *orderer,
+        &mut *desk,
+        &mut *others,
+        &mut *foreign,
+        alloc,
+    )
 }
 
 #[test]
 fn a_desk_of_another_replica_gives_nothing(rt: HostRuntime) -> Result<(), Fail> {
-    assert!(rt; loses_with_another_replica(rt.alloc())?);
-    assert!(rt; loses_with_another_period(rt.alloc())?);
+    assert!(rt; loses_with(rt.alloc(), 16, 1)?);
+    assert!(rt; loses_with(rt.alloc(), 4, 0)?);
     Ok(())
 }

@@ -1,7 +1,7 @@
 //! Frames that give nothing.
 
 use crate::frames::{Sent, frame_of};
-use crate::replicas::{Given, config, gives, gives_for, new_replica};
+use crate::replicas::{Given, gives, gives_for, replica_of_period};
 use replica::Replica;
 use std::alloc::Global;
 use std::test::Fail;
@@ -44,11 +44,14 @@ fn change(bytes: &mut [u8], at: Option<usize>) {
 
 // Whether nothing is given for it, and the request is then ordered as if it had not come.
 fn is_dropped(alloc: Global, (me, sent, at): Row) -> Result<bool, Fail> {
-    let config = config(alloc)?;
-    let mut replica = new_replica(alloc, &config, me)?;
     let mut frame = frame_of(alloc, sent)?;
     change(&mut frame, at);
-    drops(&mut replica, alloc, me, frame.as_slice())
+    is_dropped_by(alloc, me, frame.as_slice())
+}
+
+fn is_dropped_by(alloc: Global, me: u8, frame: &[u8]) -> Result<bool, Fail> {
+    let mut replica = replica_of_period(alloc, 16, me)?;
+    drops(&mut *replica, alloc, me, frame)
 }
 
 fn drops(replica: &mut Replica, alloc: Global, me: u8, frame: &[u8]) -> Result<bool, Fail> {
@@ -81,9 +84,8 @@ fn frames_that_are_dropped(rt: HostRuntime) -> Result<(), Fail> {
 }
 
 fn are_dropped(alloc: Global, all: &[&[u8]]) -> Result<bool, Fail> {
-    let config = config(alloc)?;
-    let mut replica = new_replica(alloc, &config, 0)?;
-    drops_all(&mut replica, alloc, all)
+    let mut replica = replica_of_period(alloc, 16, 0)?;
+    drops_all(&mut *replica, alloc, all)
 }
 
 fn drops_all(replica: &mut Replica, alloc: Global, all: &[&[u8]]) -> Result<bool, Fail> {

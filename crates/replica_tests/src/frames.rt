@@ -99,10 +99,23 @@ fn primary_of(view: u8) -> u8 {
 
 fn pre_prepare(alloc: Global, view: u8, number: u8, batch: &[u8]) -> Result<Vec<u8>, AllocError> {
     let primary = primary_of(view);
-    let front = joined(alloc, &[&[0x42, 0, primary], &eight(view), &eight(number)])?;
-    let body = joined(alloc, &[&front, batch])?;
+    let body = joined(
+        alloc,
+        &[&[0x42, 0, primary], &eight(view), &eight(number), batch],
+    )?;
     let sent = Sent::PrePrepareIn(view, number);
     sealed_for(alloc, sent, u16::from(primary), &body)
+}
+
+// The pre-prepare of the run's batch of the number.
+fn pre_prepare_of_run(alloc: Global, view: u8, number: u8) -> Result<Vec<u8>, AllocError> {
+    let batch = batch(alloc, number)?;
+    pre_prepare(alloc, view, number, &batch)
+}
+
+fn forged_pre_prepare(alloc: Global) -> Result<Vec<u8>, AllocError> {
+    let batch = forged_batch(alloc)?;
+    pre_prepare(alloc, 0, 1, &batch)
 }
 
 /// The digest of the run's batch of the number.
@@ -113,8 +126,10 @@ pub fn digest(alloc: Global, number: u8) -> Result<[u8; 32], AllocError> {
 // A prepare or a commit.
 fn vote(alloc: Global, kind: u8, view: u8, number: u8, replica: u8) -> Result<Vec<u8>, AllocError> {
     let digest = digest(alloc, number)?;
-    let front = joined(alloc, &[&[kind, 0, replica], &eight(view), &eight(number)])?;
-    let body = joined(alloc, &[&front, &digest])?;
+    let body = joined(
+        alloc,
+        &[&[kind, 0, replica], &eight(view), &eight(number), &digest],
+    )?;
     sealed_for(
         alloc,
         Sent::Prepare(number, replica),
@@ -136,12 +151,16 @@ fn reply(alloc: Global, number: u8, replica: u8) -> Result<Vec<u8>, AllocError> 
 }
 
 // In the opening state nothing is found, and behind the first number its tuple.
-fn read_reply(alloc: Global, number: u8, replica: u8) -> Result<Vec<u8>, AllocError> {
-    let answer = if number == 0 {
-        joined(alloc, &[ABSENT])?
+fn read_answer(alloc: Global, number: u8) -> Result<Vec<u8>, AllocError> {
+    if number == 0 {
+        joined(alloc, &[ABSENT])
     } else {
-        joined(alloc, &[FOUND, &eight(number)])?
-    };
+        joined(alloc, &[FOUND, &eight(number)])
+    }
+}
+
+fn read_reply(alloc: Global, number: u8, replica: u8) -> Result<Vec<u8>, AllocError> {
+    let answer = read_answer(alloc, number)?;
     let said = (1, READ_ONLY, u64::from(number), answer.as_slice());
     let body = reply_body(alloc, replica, 0, said)?;
     sealed_for(
@@ -161,10 +180,53 @@ fn checkpoint(alloc: Global, number: u8, state: State, replica: u8) -> Result<Ve
 
 fn fetch(alloc: Global, number: u8, at: At, replica: u8) -> Result<Vec<u8>, AllocError> {
     let (level, index) = at;
-    let front = joined(alloc, &[&[0x49, 0, replica], &eight(number), &[level]])?;
-    let body = joined(alloc, &[&front, index.to_be_bytes().as_slice()])?;
+    let index = index.to_be_bytes();
+    let body = joined(
+        alloc,
+        &[&[0x49, 0, replica], &eight(number), &[level], &index],
+    )?;
     let sent = Sent::Fetch(number, at, replica);
     sealed_for(alloc, sent, u16::from(replica), &body)
+}
+
+fn page_body(
+    alloc: Global,
+    number: u8,
+    state: State,
+    page: u16,
+    replica: u8,
+) -> Result<Vec<u8>, AllocError> {
+    let text = page_text(alloc, state, page)?;
+    joined(
+        alloc,
+        &[
+            &[0x4b, 0, replica],
+            &eight(number),
+            &page.to_be_bytes(),
+            &text,
+        ],
+    )
+}
+
+fn digests_body(
+    alloc: Global,
+    number: u8,
+    state: State,
+    (level, index): At,
+    replica: u8,
+) -> Result<Vec<u8>, AllocError> {
+    let digests = children_at(alloc, state, (level, index))?;
+    let front = [0x4a, 0, replica];
+    joined(
+        alloc,
+        &[
+            &front,
+            &eight(number),
+            &[level],
+            &index.to_be_bytes(),
+            &digests,
+        ],
+    )
 }
 
 // A page has no byte for its level.
@@ -172,20 +234,25 @@ fn part_body(
     alloc: Global,
     number: u8,
     state: State,
-    (level, index): At,
+    at: At,
     replica: u8,
 ) -> Result<Vec<u8>, AllocError> {
-    let index = index.to_be_bytes();
-    if level == PAGE {
-        let text = page_text(alloc, state, u16::from_be_bytes(index))?;
-        return joined(
-            alloc,
-            &[&[0x4b, 0, replica], &eight(number), &index, text.as_slice()],
-        );
+    if at.0 == PAGE {
+        return page_body(alloc, number, state, at.1, replica);
     }
-    let digests = children_at(alloc, state, (level, u16::from_be_bytes(index)))?;
-    let front = joined(alloc, &[&[0x4a, 0, replica], &eight(number), &[level]])?;
-    joined(alloc, &[&front, &index, digests.as_slice()])
+    digests_body(alloc, number, state, at, replica)
+}
+
+// A part, from a replica to another one.
+fn part(
+    alloc: Global,
+    number: u8,
+    state: State,
+    at: At,
+    (from, to): (u8, u8),
+) -> Result<Vec<u8>, AllocError> {
+    let body = part_body(alloc, number, state, at, from)?;
+    sealed(alloc, u16::from(from), &[u16::from(to)], &body)
 }
 
 /// Its bytes.
@@ -195,11 +262,9 @@ pub fn frame_of(alloc: Global, sent: Sent) -> Result<Vec<u8>, AllocError> {
         Sent::Read => request(alloc, 1, READ_ONLY, READ),
         Sent::ReadOnlyTake => request(alloc, 1, READ_ONLY, TAKE),
         Sent::ReadReply(number, replica) => read_reply(alloc, number, replica),
-        Sent::PrePrepare(number) => pre_prepare(alloc, 0, number, &batch(alloc, number)?),
-        Sent::PrePrepareIn(view, number) => {
-            pre_prepare(alloc, view, number, &batch(alloc, number)?)
-        }
-        Sent::Forged => pre_prepare(alloc, 0, 1, &forged_batch(alloc)?),
+        Sent::PrePrepare(number) => pre_prepare_of_run(alloc, 0, number),
+        Sent::PrePrepareIn(view, number) => pre_prepare_of_run(alloc, view, number),
+        Sent::Forged => forged_pre_prepare(alloc),
         Sent::Prepare(number, replica) => vote(alloc, 0x43, 0, number, replica),
         Sent::PrepareIn(view, number, replica) => vote(alloc, 0x43, view, number, replica),
         Sent::Commit(number, replica) => vote(alloc, 0x44, 0, number, replica),
@@ -207,10 +272,7 @@ pub fn frame_of(alloc: Global, sent: Sent) -> Result<Vec<u8>, AllocError> {
         Sent::Reply(number, replica) => reply(alloc, number, replica),
         Sent::Checkpoint(number, state, replica) => checkpoint(alloc, number, state, replica),
         Sent::Fetch(number, at, replica) => fetch(alloc, number, at, replica),
-        Sent::Part(number, state, at, from, _) => {
-            let body = part_body(alloc, number, state, at, from)?;
-            sealed_for(alloc, sent, u16::from(from), &body)
-        }
+        Sent::Part(number, state, at, from, to) => part(alloc, number, state, at, (from, to)),
         Sent::ViewChange(change) => change_frame(alloc, change),
         Sent::NewView(begun) => new_view_frame(alloc, begun),
     }

@@ -1,7 +1,7 @@
 //! A request that goes through the three phases, and reads beside it.
 
 use crate::frames::Sent;
-use crate::replicas::{Given, Row, config, gives_all, new_replica};
+use crate::replicas::{Given, Row, gives_all, replica_of_period};
 use std::alloc::Global;
 use std::test::Fail;
 
@@ -111,9 +111,8 @@ pub static READS: [Row<'static>; 7] = [
 ];
 
 fn orders(alloc: Global, me: u8, rows: &[Row<'_>]) -> Result<bool, Fail> {
-    let config = config(alloc)?;
-    let mut replica = new_replica(alloc, &config, me)?;
-    gives_all(&mut replica, alloc, rows)
+    let mut replica = replica_of_period(alloc, 16, me)?;
+    gives_all(&mut *replica, alloc, rows)
 }
 
 #[test]

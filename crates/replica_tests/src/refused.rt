@@ -113,10 +113,15 @@ fn made(alloc: Global, config: &Config, me: u8) -> Result<Replica, NoMemory> {
     }
 }
 
-fn orders_or_stops(alloc: Global, me: u8, period: u8, rows: &[Row<'_>]) -> Result<bool, Fail> {
+fn made_of_period(alloc: Global, period: u8, me: u8) -> Result<Box<Replica>, Fail> {
     let config = config_of_period(alloc, period)?;
-    let mut replica = made(alloc, &config, me)?;
-    Ok(gives_all_or_stops(&mut replica, alloc, rows)?)
+    let replica = made(alloc, &config, me)?;
+    Ok(Box::new(alloc, replica)?)
+}
+
+fn orders_or_stops(alloc: Global, me: u8, period: u8, rows: &[Row<'_>]) -> Result<bool, Fail> {
+    let mut replica = made_of_period(alloc, period, me)?;
+    Ok(gives_all_or_stops(&mut *replica, alloc, rows)?)
 }
 
 #[test]
@@ -164,9 +169,8 @@ fn joins_or_stops(
     period: u8,
     rows: &[views::Row<'_>],
 ) -> Result<bool, Fail> {
-    let config = config_of_period(alloc, period)?;
-    let mut replica = made(alloc, &config, me)?;
-    Ok(moves_or_stops(&mut replica, alloc, rows)?)
+    let mut replica = made_of_period(alloc, period, me)?;
+    Ok(moves_or_stops(&mut *replica, alloc, rows)?)
 }
 
 #[test]

@@ -3,7 +3,7 @@
 use crate::frames::{Sent, batch, count_of_receivers, frame_of, is_for};
 use crate::states::{State, root_of};
 use events::{Config, Output, Outputs};
-use replica::{Event, Replica};
+use replica::{Desk, Event, Orderer, Replica};
 use signing::PublicKeys;
 use std::alloc::{AllocError, Global};
 use std::test::Fail;
@@ -27,16 +27,34 @@ pub fn config_of_period(alloc: Global, period: u8) -> Result<Config, Fail> {
     Ok(Config::new(1, 3, FRAME_SEED, period, Vec::new(alloc), Vec::new(alloc))?)
 }
 
-/// That of the greatest period.
-pub fn config(alloc: Global) -> Result<Config, Fail> {
-    config_of_period(alloc, 16)
-}
-
 /// The replica of this number below 4, before its first event.
 pub fn new_replica(alloc: Global, config: &Config, me: u8) -> Result<Replica, NoMemory> {
     let publics = PublicKeys::new(alloc, config.seed())?;
     let last = config.replicas().saturating_sub(1);
     Replica::new(alloc, config, ReplicaId(me.min(last)), publics)
+}
+
+/// The same in the configuration of this period. It lies in a box: a function that owns all of a replica takes long to
+/// prove.
+pub fn replica_of_period(alloc: Global, period: u8, me: u8) -> Result<Box<Replica>, Fail> {
+    let config = config_of_period(alloc, period)?;
+    Ok(Box::new(alloc, new_replica(alloc, &config, me)?)?)
+}
+
+/// Its parts, in boxes too.
+pub fn parts_of_period(
+    alloc: Global,
+    period: u8,
+    me: u8,
+) -> Result<(Box<Orderer>, Box<Desk>), Fail> {
+    let config = config_of_period(alloc, period)?;
+    let (orderer, desk) = new_replica(alloc, &config, me)?.split();
+    boxed(alloc, orderer, desk)
+}
+
+fn boxed(alloc: Global, orderer: Orderer, desk: Desk) -> Result<(Box<Orderer>, Box<Desk>), Fail> {
+    let orderer = Box::new(alloc, orderer)?;
+    Ok((orderer, Box::new(alloc, desk)?))
 }
 
 fn are_receivers(parties: &[Party], sent: Sent) -> bool {
@@ -45,15 +63,23 @@ fn are_receivers(parties: &[Party], sent: Sent) -> bool {
         && parties.is_sorted_by(|one, next| one.number() < next.number())
 }
 
+fn is_frame(alloc: Global, bytes: &[u8], sent: Sent) -> Result<bool, AllocError> {
+    let frame = frame_of(alloc, sent)?;
+    Ok(frame.as_slice() == bytes)
+}
+
+fn is_batch(alloc: Global, bytes: &[u8], number: u8) -> Result<bool, AllocError> {
+    let batch = batch(alloc, number)?;
+    Ok(batch.as_slice() == bytes)
+}
+
 fn is_given(alloc: Global, output: &Output, given: Given) -> Result<bool, AllocError> {
     match (output, given) {
         (Output::Send(parties, frame), Given::Sends(sent)) => {
-            let bytes = frame_of(alloc, sent)?;
-            Ok(are_receivers(parties, sent) && frame.as_slice() == bytes.as_slice())
+            Ok(are_receivers(parties, sent) && is_frame(alloc, frame.as_slice(), sent)?)
         }
         (Output::Executed(at, text), Given::Executes(number)) => {
-            let batch = batch(alloc, number)?;
-            Ok(at.0 == u64::from(number) && text.as_slice() == batch.as_slice())
+            Ok(at.0 == u64::from(number) && is_batch(alloc, text.as_slice(), number)?)
         }
         (Output::Installed(at, root), Given::Installs(number, state)) => {
             Ok(at.0 == u64::from(number) && *root == root_of(alloc, state)?)

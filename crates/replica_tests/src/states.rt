@@ -72,14 +72,18 @@ pub fn page_text(alloc: Global, state: State, page: u16) -> Result<Vec<u8>, Allo
     }
 }
 
+fn put_digest(bytes: &[u8], out: &mut Vec<u8>) -> Result<(), AllocError> {
+    let digest: [u8; 32] = Sha256::digest(bytes);
+    out.extend_from_slice(&digest)
+}
+
 // The digests of an inner part's pages, behind each other.
 fn pages_below(alloc: Global, state: State, part: u16) -> Result<Vec<u8>, AllocError> {
     let mut digests = Vec::with_capacity(alloc, DIGESTS)?;
     for place in 0..CHILDREN {
         let page = part.wrapping_mul(CHILDREN).wrapping_add(place);
         let text = page_text(alloc, state, page)?;
-        let digest: [u8; 32] = Sha256::digest(text.as_slice());
-        digests.extend_from_slice(&digest)?;
+        put_digest(text.as_slice(), &mut digests)?;
     }
     Ok(digests)
 }
@@ -89,8 +93,7 @@ fn parts_below(alloc: Global, state: State) -> Result<Vec<u8>, AllocError> {
     let mut digests = Vec::with_capacity(alloc, DIGESTS)?;
     for part in 0..CHILDREN {
         let pages = pages_below(alloc, state, part)?;
-        let digest: [u8; 32] = Sha256::digest(pages.as_slice());
-        digests.extend_from_slice(&digest)?;
+        put_digest(pages.as_slice(), &mut digests)?;
     }
     Ok(digests)
 }

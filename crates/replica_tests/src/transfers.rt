@@ -1,7 +1,7 @@
 //! States that are ahead: they are fetched part by part, and installed.
 
 use crate::frames::Sent;
-use crate::replicas::{Given, Row, config_of_period, gives_all, gives_in_time, new_replica};
+use crate::replicas::{Given, Row, gives_all, gives_in_time, replica_of_period};
 use crate::states::{ROOT, State};
 use replica::Replica;
 use std::alloc::Global;
@@ -470,9 +470,8 @@ static GOES_ON: [Row<'static>; 14] = [
 
 // Replica 3 gives all this, and then, when time goes by, the last.
 fn fetches(alloc: Global, rows: &[&[Row<'_>]], last: &[Given]) -> Result<bool, Fail> {
-    let config = config_of_period(alloc, 1)?;
-    let mut replica = new_replica(alloc, &config, 3)?;
-    gives_rows(&mut replica, alloc, rows, last)
+    let mut replica = replica_of_period(alloc, 1, 3)?;
+    gives_rows(&mut *replica, alloc, rows, last)
 }
 
 fn gives_rows(

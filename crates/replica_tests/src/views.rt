@@ -1,7 +1,7 @@
 //! A replica that moves to later views: its view changes, those of others, and new views.
 
 use crate::frames::Sent;
-use crate::replicas::{Given, config_of_period, gives_for, gives_in_time, new_replica};
+use crate::replicas::{Given, gives_for, gives_in_time, replica_of_period};
 use crate::signed::{Begun, Change};
 use crate::states::ROOT;
 use replica::Replica;
@@ -52,9 +52,8 @@ fn gives_rows(replica: &mut Replica, alloc: Global, rows: &[Row<'_>]) -> Result<
 }
 
 fn moves(alloc: Global, me: u8, period: u8, rows: &[Row<'_>]) -> Result<bool, Fail> {
-    let config = config_of_period(alloc, period)?;
-    let mut replica = new_replica(alloc, &config, me)?;
-    gives_rows(&mut replica, alloc, rows)
+    let mut replica = replica_of_period(alloc, period, me)?;
+    gives_rows(&mut *replica, alloc, rows)
 }
 
 // ---- time goes by
@@ -320,9 +319,8 @@ fn drops_wrong_ones(replica: &mut Replica, alloc: Global) -> Result<bool, Fail> 
 }
 
 fn takes_the_right_one(alloc: Global) -> Result<bool, Fail> {
-    let config = config_of_period(alloc, 16)?;
-    let mut replica = new_replica(alloc, &config, 3)?;
-    drops_and_takes(&mut replica, alloc)
+    let mut replica = replica_of_period(alloc, 16, 3)?;
+    drops_and_takes(&mut *replica, alloc)
 }
 
 fn drops_and_takes(replica: &mut Replica, alloc: Global) -> Result<bool, Fail> {

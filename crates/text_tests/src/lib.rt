@@ -1,7 +1,10 @@
-//! Tests of operations, answers and tuples as text (`tuple_text`).
+//! Tests of texts that are read and written line by line: operations, answers and tuples (`tuple_text`), schedules
+//! (`schedule_text`), and the entries of a trace (`trace_text`).
 #![tactic(auto)]
 
 #[cfg(test)]
-mod lines;
+mod schedule;
 #[cfg(test)]
-mod texts;
+mod traces;
+#[cfg(test)]
+mod tuples;

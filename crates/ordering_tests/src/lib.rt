@@ -1,8 +1,0 @@
-//! Tests of a replica's message log (`ordering`): a number from its pre-prepare to the cut behind its checkpoint, or to a
-//! later view, each refusal, and memory refused.
-#![tactic(auto)]
-
-#[cfg(test)]
-mod phases;
-#[cfg(test)]
-mod refusals;

@@ -1,0 +1,176 @@
+//! Client 0 among four replicas, of which one may be faulty, and what it gives.
+
+ghost use Rattle.std.specs.Prelude.{◌≡◌, false, IfSome};
+ghost use Rattle.wire.specs.Spelling.{IsBody, is_signed};
+ghost use Rattle.wire.specs.Views.{body_data, message_data};
+
+use authenticator::{Ring, SealFault};
+use client_cert::{Client, Event};
+use events::{Output, Outputs, Stop};
+use hex::FromHex;
+use sha2::{Digest, Sha256};
+use signing::PublicKeys;
+use std::alloc::Global;
+use std::test::Fail;
+use terms::{ClientId, Mode, NoMemory, Number, Party, ReplicaId, Timestamp};
+use test_bytes::seed;
+use tuple_codec::{Answer, Bad, Op, decode_op};
+use wire::{Body, Message, Reply};
+
+const CLIENT: ClientId = ClientId { number: 0 };
+
+/// out (1)
+pub const OUT: &[u8] = b"\x21\x01\x01\0\0\0\0\0\0\0\x01";
+
+/// rdp (*)
+pub const RDP: &[u8] = b"\x22\x01\x10";
+
+/// rdAll 64 (*)
+pub const RD_ALL: &[u8] = b"\x25\x40\x01\x10";
+
+// By Python's hashlib and hmac, over docs/formats.md: the SHA-256 of the frames of requests with timestamp 1, each with
+// a MAC for each of four replicas, under the seed 00 01 .. 1f.
+pub const OUT_ORDERED: &str = "b3fcc2a0b2ecee83d20e75fc4c640da5d1ce29112d0c620d4db87dcd9dbeae1b";
+
+pub const RDP_READ: &str = "12869a10a4ece61c87b66f356ededd9613201038ba85a87f1986637df5eb1aa7";
+
+pub const RDP_ORDERED: &str = "d945accd23a840f78f80e1e466443cc5c2da8671173325e465595c5c8ff08f69";
+
+pub const RD_ALL_READ: &str = "087e3986665aca92c9f278992055c4d77732636a057d251dfd802a008f255ea9";
+
+/// What comes to a client: a replica's reply, with the number of its state, or the time to send again.
+#[derive(Clone, Copy, Debug)]
+pub enum Input {
+    /// Read-only: absent.
+    Read(u8, u64),
+    /// Read-only: done.
+    ReadDone(u8, u64),
+    /// Ordered: absent.
+    Ordered(u8, u64),
+    /// Ordered: done.
+    OrderedDone(u8, u64),
+    /// Ordered: done, to timestamp 2.
+    Next(u8, u64),
+    Retry,
+}
+
+/// What is given for it.
+#[derive(Clone, Copy, Debug)]
+pub enum Given<'a> {
+    Nothing,
+    /// A request to all replicas, by the SHA-256 of its frame.
+    Asks(&'a str),
+    /// The answer to the call of timestamp 1: done, else absent.
+    Accepts(bool),
+}
+
+pub type Row<'a> = (Input, Given<'a>);
+
+/// It lies in a box: a function that owns all of a client takes long to prove.
+pub fn new_client(alloc: Global) -> Result<Box<Client>, NoMemory> {
+    let seed = seed();
+    let publics = PublicKeys::new(alloc, &seed)?;
+    let ring = Ring::new(alloc, &seed, 1, 2);
+    Ok(Box::new(alloc, Client::new(CLIENT, 1, ring, publics))?)
+}
+
+pub fn operation(alloc: Global, text: &[u8]) -> Result<Op<Global>, Bad> {
+    let (op, _) = decode_op(alloc, text)?;
+    Ok(op)
+}
+
+fn reply(sender: u8, timestamp: u64, mode: Mode, number: u64, answer: Answer<Global>) -> Body
+    ensures body { IsBody (body_data result) }
+    ensures unsigned { is_signed (message_data result.message) ≡ false }
+{
+    answer.note_valid();
+    Body {
+        sender: Party::Replica(ReplicaId(sender)),
+        message: Message::Reply(Reply {
+            client: CLIENT,
+            timestamp: Timestamp(timestamp),
+            kind: mode,
+            number: Number(number),
+            answer,
+        }),
+    }
+}
+
+fn reply_in(input: Input) -> Option<Body>
+    ensures body { IfSome result (λ b. IsBody (body_data b)) }
+    ensures unsigned { IfSome result (λ b. is_signed (message_data b.message) ≡ false) }
+{
+    match input {
+        Input::Read(sender, number) => {
+            Some(reply(sender, 1, Mode::ReadOnly, number, Answer::Absent))
+        }
+        Input::ReadDone(sender, number) => {
+            Some(reply(sender, 1, Mode::ReadOnly, number, Answer::Done))
+        }
+        Input::Ordered(sender, number) => {
+            Some(reply(sender, 1, Mode::Ordered, number, Answer::Absent))
+        }
+        Input::OrderedDone(sender, number) => {
+            Some(reply(sender, 1, Mode::Ordered, number, Answer::Done))
+        }
+        Input::Next(sender, number) => {
+            Some(reply(sender, 2, Mode::Ordered, number, Answer::Done))
+        }
+        Input::Retry => None,
+    }
+}
+
+fn sealed(alloc: Global, body: &Body) -> Result<Vec<u8>, SealFault>
+    requires body { IsBody (body_data body.now) }
+    requires unsigned { is_signed (message_data body.now.message) ≡ false }
+{
+    let mut ring = Ring::new(alloc, &seed(), 1, 2);
+    ring.seal(alloc, body, &[Party::Client(CLIENT)])
+}
+
+/// The frame of the reply that comes, if one does.
+pub fn frame_in(alloc: Global, input: Input) -> Result<Option<Vec<u8>>, SealFault> {
+    match reply_in(input) {
+        None => Ok(None),
+        Some(body) => Ok(Some(sealed(alloc, &body)?)),
+    }
+}
+
+/// What the client gives for a frame that comes, or else for the time to send again.
+pub fn step(client: &mut Client, alloc: Global, frame: &Option<Vec<u8>>) -> Result<Outputs, Stop> {
+    match frame {
+        None => client.step(alloc, Event::Retry),
+        Some(frame) => client.step(alloc, Event::Got(frame.as_slice())),
+    }
+}
+
+/// What the client gives for the input.
+pub fn outputs(client: &mut Client, alloc: Global, input: Input) -> Result<Outputs, Fail> {
+    let frame = frame_in(alloc, input)?;
+    Ok(step(client, alloc, &frame)?)
+}
+
+fn has_digest(frame: &[u8], digits: &str) -> bool {
+    <[u8; 32]>::from_hex(digits).ok() == Some(Sha256::digest(frame))
+}
+
+fn is_answer(answer: &Answer<Global>, is_done: bool) -> bool {
+    match answer {
+        Answer::Done => is_done,
+        Answer::Absent => !is_done,
+        _ => false,
+    }
+}
+
+pub fn are_given(outputs: &[Output], given: Given<'_>) -> bool {
+    match (outputs, given) {
+        ([], Given::Nothing) => true,
+        ([Output::Send(receivers, frame)], Given::Asks(digits)) => {
+            receivers.len() == 4 && has_digest(frame.as_slice(), digits)
+        }
+        ([Output::Accepted(timestamp, answer)], Given::Accepts(is_done)) => {
+            timestamp.0 == 1 && is_answer(answer, is_done)
+        }
+        _ => false,
+    }
+}

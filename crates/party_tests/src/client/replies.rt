@@ -1,0 +1,171 @@
+//! Which replies end a call, and when a read falls back to an ordered request.
+
+use crate::client::clients::{
+    Given, Input, OUT, OUT_ORDERED, RD_ALL, RD_ALL_READ, RDP, RDP_ORDERED, RDP_READ, Row,
+    are_given, new_client, operation, outputs,
+};
+use client_cert::Client;
+use std::alloc::Global;
+use std::test::Fail;
+
+// An operation, its first request, and what comes then.
+pub type Case<'a> = (&'a [u8], &'a str, &'a [Row<'a>]);
+
+/// An ordered call and a read, with the replies that end them.
+pub static REPLIES: [Case<'static>; 2] = [
+    // f + 1 replies alike are not enough, and a replica counts once. Another number, answer, mode or timestamp is not
+    // alike, and replica 4 is none of four.
+    (
+        OUT,
+        OUT_ORDERED,
+        &[
+            (Input::OrderedDone(0, 3), Given::Nothing),
+            (Input::OrderedDone(0, 3), Given::Nothing),
+            (Input::OrderedDone(2, 3), Given::Nothing),
+            (Input::OrderedDone(1, 4), Given::Nothing),
+            (Input::Ordered(1, 3), Given::Nothing),
+            (Input::ReadDone(1, 3), Given::Nothing),
+            (Input::Next(1, 3), Given::Nothing),
+            (Input::OrderedDone(4, 3), Given::Nothing),
+            (Input::OrderedDone(3, 3), Given::Accepts(true)),
+            (Input::OrderedDone(1, 3), Given::Nothing),
+        ],
+    ),
+    // The third read-only reply alike ends a read.
+    (
+        RDP,
+        RDP_READ,
+        &[
+            (Input::Read(0, 5), Given::Nothing),
+            (Input::Read(3, 5), Given::Nothing),
+            (Input::Read(1, 5), Given::Accepts(false)),
+            (Input::Read(2, 5), Given::Nothing),
+        ],
+    ),
+];
+
+// All replicas answer, and no three alike: the read is asked for in its order, once, and ordered replies end it.
+pub static FALL_BACK: Case<'static> = (
+    RDP,
+    RDP_READ,
+    &[
+        (Input::Read(0, 5), Given::Nothing),
+        (Input::Read(1, 9), Given::Nothing),
+        (Input::Read(2, 5), Given::Nothing),
+        (Input::Read(3, 9), Given::Asks(RDP_ORDERED)),
+        (Input::Read(3, 10), Given::Nothing),
+        (Input::Ordered(0, 11), Given::Nothing),
+        (Input::Ordered(1, 11), Given::Nothing),
+        (Input::Ordered(3, 11), Given::Accepts(false)),
+    ],
+);
+
+// What is sent again goes ordered, and then no read falls back.
+pub static RETRIED: Case<'static> = (
+    RDP,
+    RDP_READ,
+    &[
+        (Input::Read(0, 5), Given::Nothing),
+        (Input::Retry, Given::Asks(RDP_ORDERED)),
+        (Input::Retry, Given::Asks(RDP_ORDERED)),
+        (Input::Read(1, 9), Given::Nothing),
+        (Input::Read(2, 5), Given::Nothing),
+        (Input::Read(3, 9), Given::Nothing),
+        (Input::Ordered(3, 9), Given::Nothing),
+        (Input::Read(3, 5), Given::Accepts(false)),
+        (Input::Retry, Given::Nothing),
+    ],
+);
+
+static CASES: [Case<'static>; 4] = [
+    // The third read-only reply alike ends a read.
+    (
+        RD_ALL,
+        RD_ALL_READ,
+        &[
+            (Input::Read(0, 5), Given::Nothing),
+            (Input::Read(3, 5), Given::Nothing),
+            (Input::Read(1, 5), Given::Accepts(false)),
+            (Input::Read(2, 5), Given::Nothing),
+        ],
+    ),
+    // Replica 0's reply twice and replica 2's are two votes.
+    (
+        RDP,
+        RDP_READ,
+        &[
+            (Input::Read(0, 5), Given::Nothing),
+            (Input::Read(0, 5), Given::Nothing),
+            (Input::Read(2, 5), Given::Nothing),
+            (Input::Read(3, 5), Given::Accepts(false)),
+        ],
+    ),
+    // Two alike of either mode are no three; behind the ordered request a read-only reply counts on, in place of that
+    // replica's earlier one.
+    (
+        RDP,
+        RDP_READ,
+        &[
+            (Input::Read(0, 5), Given::Nothing),
+            (Input::Read(1, 9), Given::Nothing),
+            (Input::Read(2, 5), Given::Nothing),
+            (Input::Read(3, 9), Given::Asks(RDP_ORDERED)),
+            (Input::Ordered(1, 5), Given::Nothing),
+            (Input::Ordered(3, 5), Given::Nothing),
+            (Input::Read(1, 5), Given::Accepts(false)),
+        ],
+    ),
+    // Answers of one number that differ.
+    (
+        RDP,
+        RDP_READ,
+        &[
+            (Input::ReadDone(3, 5), Given::Nothing),
+            (Input::Read(2, 5), Given::Nothing),
+            (Input::ReadDone(1, 5), Given::Nothing),
+            (Input::Read(0, 5), Given::Asks(RDP_ORDERED)),
+        ],
+    ),
+];
+
+fn gives(client: &mut Client, alloc: Global, (input, given): Row<'_>) -> Result<bool, Fail> {
+    let given_now = outputs(client, alloc, input)?;
+    Ok(are_given(given_now.as_slice(), given))
+}
+
+fn gives_all(client: &mut Client, alloc: Global, rows: &[Row<'_>]) -> Result<bool, Fail> {
+    for row in rows {
+        if !gives(client, alloc, *row)? {
+            return Ok(false);
+        }
+    }
+    Ok(true)
+}
+
+fn asks(client: &mut Client, alloc: Global, text: &[u8], first: &str) -> Result<bool, Fail> {
+    let asked = client.invoke(alloc, operation(alloc, text)?)?;
+    Ok(are_given(asked.as_slice(), Given::Asks(first)))
+}
+
+fn goes_as_told(alloc: Global, (text, first, rows): Case<'_>) -> Result<bool, Fail> {
+    let mut client = new_client(alloc)?;
+    Ok(asks(&mut *client, alloc, text, first)? && gives_all(&mut *client, alloc, rows)?)
+}
+
+#[test]
+fn replies_count(rt: HostRuntime) -> Result<(), Fail> {
+    for cases in [REPLIES.as_slice(), CASES.as_slice()] {
+        for &case in cases {
+            assert!(rt; goes_as_told(rt.alloc(), case)?, "{:?}", case.2);
+        }
+    }
+    Ok(())
+}
+
+#[test]
+fn reads_are_asked_for_in_order(rt: HostRuntime) -> Result<(), Fail> {
+    for case in [FALL_BACK, RETRIED] {
+        assert!(rt; goes_as_told(rt.alloc(), case)?, "{:?}", case.2);
+    }
+    Ok(())
+}
