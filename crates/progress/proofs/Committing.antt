@@ -107,7 +107,7 @@ decide_prepared c me v i batch past = go (decide_logged c me v i batch past)
     go (inl is) = enough is (nat_le (2 * c.faults) (count_below (λ s. has_digest (sha256 batch) (prepare_of c me past v i s)) (replicas c))) refl
     go (inr fails) = inr (λ p. fails p.logged)
 
-none_logged : (c : Configuration) (me v i : ℕ) (batch : List ℕ) → logged c me [] v i ≡ Some batch → ⊥
+pub none_logged : (c : Configuration) (me v i : ℕ) (batch : List ℕ) → logged c me [] v i ≡ Some batch → ⊥
 unfolding logged
 none_logged c me v i batch h = cc
 

@@ -20,3 +20,4 @@ pub mod GivenCalls
 pub mod Resending
 pub mod Genuine
 pub mod FirstView
+pub mod EveryCall

@@ -83,7 +83,7 @@ active_once c me v i newer now batch point leaves last h =
     let most : target now ≤ v = omega arith in
     and_from (view c now == v) (nat_le (target now) v) (eq-eqb (view c now) v is) (le-leb (target now) v most)
 
-marks_parts : (c : Configuration) (h i : ℕ) → is_in_marks c h i ≡ true → (h < i) × (i ≤ h + span c) × (is_number i ≡ true)
+pub marks_parts : (c : Configuration) (h i : ℕ) → is_in_marks c h i ≡ true → (h < i) × (i ≤ h + span c) × (is_number i ≡ true)
 marks_parts c h i m =
     let p = and_parts (nat_lt h i && nat_le i (h + span c)) (is_number i) m in
     let q = and_parts (nat_lt h i) (nat_le i (h + span c)) p.0 in

@@ -6,3 +6,4 @@ pub mod Normal
 pub mod Redelivered
 pub mod Waiting
 pub mod FirstView
+pub mod EveryCall

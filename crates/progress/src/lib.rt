@@ -26,14 +26,15 @@
 //!   that is all frames again and a flush, and then a tick and a flush ([`redeliveries_bring_answers`]).
 //! - Where no view changes at all, the numbers may leave the marks meanwhile, as checkpoints become stable
 //!   ([`first_numbers_are_executed`], [`first_calls_are_accepted`]): no low mark is then above the executed number.
+//!   Each open call is accepted then, whether it has a number or waits ([`every_call_is_accepted`]).
 //!
 //! # What is not
 //!
 //! Views do not change here: each correct replica stays active in one, as `protocol::first_view_stays` says of the
 //! first where no correct replica sends a view change. Outside the laws of the first view, the numbers stay within the
 //! marks of each correct replica, so no checkpoint among them or above becomes stable meanwhile. No state is installed.
-//! That the primary gives a waiting request one of the next numbers, and not only some number, is left to it. That
-//! parties get memory, and that frames come, are premises.
+//! Outside the first view, that the primary gives a waiting request one of the next numbers is left to it. That parties
+//! get memory, and that frames come, are premises.
 #![tactic(auto)]
 
 ghost use Rattle.progress.specs.Answered.{OrderedRepliesAgree, OpenCallsLackQuorums, ExecutedCallsAreAccepted};
@@ -42,6 +43,7 @@ ghost use Rattle.progress.specs.Reading.{ReadsAreAccepted};
 ghost use Rattle.progress.specs.Normal.{CorrectRequestsAreGenuine, NextBatchesAreExecuted, NormalCallsAreAccepted};
 ghost use Rattle.progress.specs.Waiting.{OpenCallsAreNumbered};
 ghost use Rattle.progress.specs.FirstView.{FirstNumbersAreExecuted, FirstCallsAreAccepted};
+ghost use Rattle.progress.specs.EveryCall.{EveryCallIsAccepted};
 ghost use Rattle.progress.specs.Redelivered.{RedeliveriesDeliverAll, GivenNumbersAreExecuted, GivenCallsAreAccepted, RedeliveriesBringAnswers};
 
 /// Two ordered replies of correct replicas to one request of a correct client have one number and one answer.
@@ -125,4 +127,9 @@ pub fn first_numbers_are_executed()
 /// So a call whose request stands in one of these batches is accepted, once its client asks again.
 pub fn first_calls_are_accepted()
     ensures accepted { FirstCallsAreAccepted }
+{}
+
+/// While the first view goes on, every open call of a correct client is accepted.
+pub fn every_call_is_accepted()
+    ensures accepted { EveryCallIsAccepted }
 {}

@@ -77,7 +77,7 @@ gave c i batch e past point leaves h = go e leaves.2 brings
     brings : brought c e ≡ Some (giving c i batch)
     brings =
         let b = (entry_batch c (primary c 0) 0 i batch past e
-            (by_entry (or_else_cases (begun_proposal c (primary c 0) past e 0 i) (entry_proposal c (primary c 0) past e 0 i) batch h))).1 in
+        (by_entry (or_else_cases (begun_proposal c (primary c 0) past e 0 i) (entry_proposal c (primary c 0) past e 0 i) batch h))).1 in
         b.1 ∙ ap Some (pre_prepare_is c (primary c 0) 0 i batch b.0.sender b.0.message b.2).0
 
     go : (e : Entry) → IsStep c (primary c 0) past leaves.0 e point → brought c e ≡ Some (giving c i batch) → Gave c i batch e past leaves.0
