@@ -7,12 +7,12 @@ use Rattle.tuple_tree.specs.Values.{TupleTree, TemplateTree, IsTuple, IsTemplate
 use Rattle.tuple_codec.specs.Operations.{Operation, out, rdp, inp, cas, rd_all, IsOperation, Outcome, done, found, absent, swapped, all, full, refused, IsOutcome, AreTuples}
 use Rattle.tuple_codec.specs.Spelling.{tuple_spelling, template_spelling, tuples_spelling, operation_spelling, outcome_spelling}
 use Rattle.wire.specs.Lists.{Each, each_spelling}
-use Rattle.wire.specs.Messages.{MacData, AuthenticatorData as Authenticator, macs, signature, BodyData, MessageData as Message, request, pre_prepare, prepare, commit, checkpoint, view_change, new_view, reply, fetch, meta, page}
-use Rattle.wire.specs.Spelling.{IsAuthenticator, IsBatch, IsCarried, IsDigest, IsMac, IsMessage, IsPlain, authenticator_is_signed, authenticator_spelling, body_spelling, fields_spelling, frame_limit, is_ordered_request, is_signed, mac_spelling, mode_byte, level_byte, piece}
+use Rattle.wire.specs.Messages.{MacData, NewViewData, AuthenticatorData as Authenticator, macs, signature, BodyData, MessageData as Message, request, pre_prepare, prepare, commit, checkpoint, view_change, new_view, reply, fetch, meta, page}
+use Rattle.wire.specs.Spelling.{IsAuthenticator, IsBatch, IsCarried, IsDigest, IsMac, IsMessage, IsNewView, IsPlain, batches_spelling, is_view_change, pieces_spelling, authenticator_is_signed, authenticator_spelling, body_spelling, fields_spelling, frame_limit, is_ordered_request, is_signed, mac_spelling, mode_byte, level_byte, piece}
 use Rattle.wire.proofs.Lengths.{tuple_spelling_length, template_spelling_length}
 use Rattle.authenticator.specs.Sealing.{IsSealable, IsTooLong, sealed_for}
 use Rattle.authenticator.proofs.Sealing.{sealed-short}
-use Rattle.posting.specs.Endpoint.{FitsFrame}
+use Rattle.posting.specs.Endpoint.{FitsFrame, SignedExceeds, says}
 
 -- ---- operations and answers
 
@@ -109,12 +109,56 @@ pieces_short (x ∷ xs) are =
     let k = length-append (to_be_bytes w32 (length x)) x in
     omega (arith, first, rest, n, k)
 
-batch_short : (text : List ℕ) → IsBatch 1 text → length text ≤ 38577
-batch_short text is =
+batch_short : (least : ℕ) (text : List ℕ) → IsBatch least text → length text ≤ 38577
+batch_short least text is =
     let whole = ap length is.whole in
     let l = pieces_short is.requests is.each in
     let few = is.few in
     omega (arith, whole, l, few)
+
+-- ---- a new view
+
+change_limit : (m : Message) → IsTrue (is_view_change m) → frame_limit m ≡ 262144
+change_limit (view_change change) h = refl
+change_limit _ h = absurd cc
+
+change_short : (bs : List ℕ) → IsCarried is_view_change bs → length bs ≤ 262144
+change_short bs is =
+    let whole = ap length is.spelled.spelled in
+    let short = is.spelled.valid.short in
+    let most = change_limit is.frame.body.message is.sorted in
+    omega (arith, whole, short, most)
+
+changes_short : (frames : List (List ℕ)) → Each (IsCarried is_view_change) frames → length (each_spelling piece frames) ≤ 262148 * length frames
+changes_short [] are = omega arith
+changes_short (x ∷ xs) are =
+    let first = change_short x are.0 in
+    let rest = changes_short xs are.1 in
+    let n = length-append (piece x) (each_spelling piece xs) in
+    let k = length-append (to_be_bytes w32 (length x)) x in
+    omega (arith, first, rest, n, k)
+
+batches_short : (batches : List (List ℕ)) → Each (IsBatch 0) batches → length (each_spelling (λ b. b) batches) ≤ 38577 * length batches
+batches_short [] are = omega arith
+batches_short (b ∷ bs) are =
+    let first = batch_short 0 b are.0 in
+    let rest = batches_short bs are.1 in
+    let n = length-append b (each_spelling (λ (x : List ℕ). x) bs) in
+    omega (arith, first, rest, n)
+
+new_view_short : (new : NewViewData) → IsNewView new → length (fields_spelling (new_view new)) ≤ 3855994
+new_view_short new is =
+    let behind_start = new.root ++ batches_spelling new.batches in
+    let a = length-append (to_be_bytes w64 new.view) (pieces_spelling new.changes ++ (to_be_bytes w64 new.start ++ behind_start)) in
+    let b = length-append (pieces_spelling new.changes) (to_be_bytes w64 new.start ++ behind_start) in
+    let d = length-append (to_be_bytes w64 new.start) behind_start in
+    let e = length-append new.root (batches_spelling new.batches) in
+    let root = is.root.whole in
+    let changes = changes_short new.changes is.changes in
+    let few = is.few in
+    let batches = batches_short new.batches is.batches in
+    let count = is.count in
+    omega (arith, a, b, d, e, root, changes, few, batches, count)
 
 -- ---- digests
 
@@ -133,6 +177,10 @@ vote_length view number digest is =
     let w = is.whole in
     omega (arith, n, k, w)
 
+-- a signed new view is never too long
+pub new_views_fit : (me : ℕ) (new : NewViewData) → IsNewView new → SignedExceeds (says me (new_view new)) → ⊥
+new_views_fit me new is exceeds = let n = body_length (says me (new_view new)) in let l = new_view_short new is in omega (arith, n, l, exceeds)
+
 -- ---- what goes with MACs
 
 fields_short : (m : Message) → IsMessage m → is_signed m ≡ false → FitsFrame m → length (fields_spelling m) ≤ 4193955
@@ -143,7 +191,7 @@ fields_short (request t mode op) is unsigned fits =
 fields_short (pre_prepare view number batch) is unsigned fits =
     let n = length-append (to_be_bytes w64 view) (to_be_bytes w64 number ++ batch) in
     let k = length-append (to_be_bytes w64 number) batch in
-    let l = batch_short batch is.2 in
+    let l = batch_short 1 batch is.2 in
     omega (arith, n, k, l)
 fields_short (prepare view number digest) is unsigned fits = let n = vote_length view number digest is.2 in omega (arith, n)
 fields_short (commit view number digest) is unsigned fits = let n = vote_length view number digest is.2 in omega (arith, n)

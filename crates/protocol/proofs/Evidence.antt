@@ -7,6 +7,7 @@ pub mod RefusingFetches
 pub mod RefusingOwed
 pub mod RefusingAgain
 pub mod RefusingResending
+pub mod RefusingNewViews
 pub mod RefusingReasons
 pub mod RefusingReplies
 pub mod RefusingNumbers
@@ -61,6 +62,7 @@ pub mod SelectedRules
 pub mod AnsweringAgain
 pub mod JoiningChangesOwing
 pub mod JoiningChanges
+pub mod BeginningViews
 pub mod TakingViews
 pub mod Presuming
 pub mod Listing

@@ -13,6 +13,7 @@ pub mod Standing
 pub mod Roots
 pub mod Reacting
 pub mod Plain
+pub mod Starts
 pub mod Bounds
 pub mod Posting
 pub mod Moving

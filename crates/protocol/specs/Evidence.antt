@@ -13,6 +13,7 @@ pub mod RefusedItems
 pub mod FirstReads
 pub mod RefusedSteps
 pub mod RefusedResending
+pub mod RefusedNewViews
 pub mod Clients
 pub mod Stopping
 pub mod ExamplesOfClients

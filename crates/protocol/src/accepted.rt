@@ -4,7 +4,7 @@ ghost use Rattle.protocol.specs.Evidence.Examples.{FirstBatchExecutes, FirstCall
 ghost use Rattle.protocol.specs.Evidence.ExamplesOfAnswers.{FirstReadIsAnswered, FirstFetchIsAnswered};
 ghost use Rattle.protocol.specs.Evidence.ExamplesOfTransfer.{TransferBegins};
 ghost use Rattle.protocol.specs.Evidence.ExamplesOfKept.{KeptReplyGoesAgain};
-ghost use Rattle.protocol.specs.Evidence.ExamplesOfChanges.{ViewChangesAreJoined, NewViewsAreTaken};
+ghost use Rattle.protocol.specs.Evidence.ExamplesOfChanges.{ViewChangesAreJoined, ItsViewIsBegun, NewViewsAreTaken};
 ghost use Rattle.protocol.specs.Evidence.FirstOperation.{FirstOperationIsRun, FirstOperationIsCommitted, FirstOperationIsUnforged, FirstOperationIsFed, FirstFramesExist};
 
 /// Of four replicas a backup that gets the primary's pre-prepare of the first batch, one more prepare and two more
@@ -85,6 +85,12 @@ pub fn a_kept_reply_goes_again()
 /// one.
 pub fn view_changes_are_joined()
     ensures joined { ViewChangesAreJoined }
+{}
+
+/// The primary of view 1 that joins two others so, and then sends the new view over all three view changes, is a right
+/// one.
+pub fn a_view_is_begun()
+    ensures begun { ItsViewIsBegun }
 {}
 
 /// A backup that takes the first new view in the beginning, and prepares its batch, is a right replica.

@@ -1,6 +1,7 @@
 //! Laws that show what the definitions refuse: each is a small history, or a part of one, that a wrong body would make.
 
-ghost use Rattle.protocol.specs.Evidence.Refused.{SealsWell, SignsWell, PrePreparesAsPrimary, PrePreparesInMarks, NoPrePrepareAfterChange, CheckpointsMultiples, BeginsAsPrimary, ReadsWhatWasAsked, DigestsToWhoAsked, PagesToWhoAsked, NumbersNoneTwice, NumbersNoneTogether, RepliesOfExecuted, ExecutesWhatIsCommitted, GivesKeptDigests, GivesKeptPages, GivesAskedDigests, GivesAskedPages, RepliesWhatRan, RepliesToWhoAsked, AnswersDigestFetches, AnswersPageFetches, AnswersAgain, AnswersRan, PreparesLogged, CommitsPrepared, ExecutesCommitted, NumbersWaiting, SendsCheckpoints, FetchesAhead, ProposesAuthentic, ReadsNewest, NoChangeWhileActive, AnswersReads, DropsReplies, DropsOwnFrames, FetchesWhatIsWanted, FetchesAbove, FetchesNewest, FetchesOnce, FetchesWhatIsTold, FetchesWhatDiffers, DropsUnaskedDigests, DropsUnaskedPages, RepliesAfterExecution, NoCommitAfterChange, NoPrepareAfterChange, NoEarlyCheckpoint, OnePrePrepare, SkipsNoNumber, GoesBackToNoNumber, PrePreparesNearby, NoPrepareByPrimary, ExecutesNext, KeepsPrepared, InstallsWhatItHas, InstallsWithHeader, RepliesToItsClient, CommitsToAll, TakesWellSelected, TakesNoLower, RunsOnce, AcceptsAtQuorum, SignsOnceByLeaf, SendsNoFrameTwice, AsksOn, InstallsFetched, MovesForReasons};
+ghost use Rattle.protocol.specs.Evidence.Refused.{SealsWell, SignsWell, PrePreparesAsPrimary, PrePreparesInMarks, NoPrePrepareAfterChange, CheckpointsMultiples, BeginsAsPrimary, ReadsWhatWasAsked, DigestsToWhoAsked, PagesToWhoAsked, NumbersNoneTwice, NumbersNoneTogether, RepliesOfExecuted, ExecutesWhatIsCommitted, GivesKeptDigests, GivesKeptPages, GivesAskedDigests, GivesAskedPages, RepliesWhatRan, RepliesToWhoAsked, AnswersDigestFetches, AnswersPageFetches, AnswersAgain, AnswersRan, PreparesLogged, CommitsPrepared, ExecutesCommitted, NumbersWaiting, SendsCheckpoints, FetchesAhead, FetchesStarts, FetchesAgain, ProposesAuthentic, ReadsNewest, NoChangeWhileActive, AnswersReads, DropsReplies, DropsOwnFrames, FetchesWhatIsWanted, FetchesAbove, FetchesNewest, FetchesOnce, FetchesWhatIsTold, FetchesWhatDiffers, DropsUnaskedDigests, DropsUnaskedPages, RepliesAfterExecution, NoCommitAfterChange, NoPrepareAfterChange, NoEarlyCheckpoint, OnePrePrepare, SkipsNoNumber, GoesBackToNoNumber, PrePreparesNearby, NoPrepareByPrimary, ExecutesNext, KeepsPrepared, InstallsWhatItHas, InstallsWithHeader, RepliesToItsClient, CommitsToAll, TakesWellSelected, TakesNoLower, RunsOnce, AcceptsAtQuorum, SignsOnceByLeaf, SendsNoFrameTwice, AsksOn, InstallsFetched, MovesForReasons};
+ghost use Rattle.protocol.specs.Evidence.RefusedNewViews.{SendsNewViews, BeginsItsView};
 ghost use Rattle.protocol.specs.Evidence.RefusedResending.{SendsPreparesAgain, SendsCommitsAgain, SendsBatchesAgain, SendsNewViewsAgain, SendsCheckpointsAgain, SendsChangesAgain};
 
 /// A right replica sends no ordered reply before anything is executed, no commit or prepare of a view after a view
@@ -83,9 +84,10 @@ pub fn correct_replicas_answer()
 /// A correct replica that goes on has prepared, as an active backup, what it logged in the event, committed what
 /// became prepared, executed what is committed and next, and numbered, as the active primary, the requests that
 /// wait, none of them twice in a view or in a batch; it has sent a checkpoint of each multiple of the period that
-/// it executed, and begun a transfer where a quorum of checkpoints is ahead. By a part that its transfer awaits it has
-/// asked for the next one, or installed the state. Where it had a reason to move to a view, it has sent a view change
-/// for it or for a later one, unless no frame says one or its keys are spent.
+/// it executed, and begun a transfer where a quorum of checkpoints is ahead, or the start of a new view. By a part that
+/// its transfer awaits it has asked for the next one, or installed the state, and at a tick it has sent the last fetch of
+/// an open transfer again. Where it had a reason to move to a view, it has sent a view change for it or for a later one,
+/// unless no frame says one or its keys are spent.
 pub fn correct_replicas_go_on()
     ensures prepares { PreparesLogged }
     ensures commits { CommitsPrepared }
@@ -95,6 +97,8 @@ pub fn correct_replicas_go_on()
     ensures numbers_together { NumbersNoneTogether }
     ensures checkpoints { SendsCheckpoints }
     ensures fetches { FetchesAhead }
+    ensures starts { FetchesStarts }
+    ensures again { FetchesAgain }
     ensures asks { AsksOn }
     ensures installs { InstallsFetched }
     ensures moves { MovesForReasons }
@@ -111,6 +115,14 @@ pub fn correct_replicas_send_again()
     ensures new_views { SendsNewViewsAgain }
     ensures checkpoints { SendsCheckpointsAgain }
     ensures changes { SendsChangesAgain }
+{}
+
+/// A correct replica that goes on leaves no new view that it could send, as the primary of the view that it moves to, over
+/// view changes and with batches that it has, unless its keys are spent. So it is in the beginning, once it has the view
+/// changes of two others and its own.
+pub fn correct_primaries_begin_views()
+    ensures new_views { SendsNewViews }
+    ensures first { BeginsItsView }
 {}
 
 /// A right replica seals a reply for its client alone, a part of a state for one replica that asked for it, and a

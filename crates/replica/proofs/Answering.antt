@@ -158,5 +158,6 @@ module _ (r : JoinedData) (one : AreOne r.orderer r.desk) (sender : ReplicaId) (
         fits = subst (λ (m : ℕ). FitsEvent c m (event_of c r past runs bytes) r.orderer runs.desk r.desk.waiting [] outs) (sym one.0) l.0;
       },
       (rests c r past runs, runs.all, l.1, l.2),
+      runs.begun,
     );
   }

@@ -51,8 +51,8 @@ module _ (c : Configuration) (s : Start) (o : OrdererData) (desk : Desk) (w : Wa
   pub asks_due : (rest : List Message) → MayAsk c me t desk.state.number past → AsksNext c me t desk.state past → FitsEvent c me s o desk w (fetch_of t ∷ rest) before → FitsEvent c me s o with_it w rest after
   asks_due rest may next f = behind_it (fetch_of t ∷ rest) rest f (due_fetches_fit c me s desk o.log rest (given me before) t said.bytes may next said.posted f.fits)
 
-  -- what is open may ask again
-  pub asks_again : (due : List Message) → desk.transfer ≡ Some t → MayAsk c me t desk.state.number past → AsksNext c me t desk.state past → FitsEvent c me s o desk w due before → FitsEvent c me s o desk w due after
-  asks_again due there may next f =
-      subst (λ x. FitsEvent c me s o (record desk { transfer = x }) w due after) (sym there)
-      (asks due may next f)
+  -- what is open may ask again, as is due
+  pub asks_again : (rest : List Message) → desk.transfer ≡ Some t → MayAsk c me t desk.state.number past → AsksNext c me t desk.state past → FitsEvent c me s o desk w (fetch_of t ∷ rest) before → FitsEvent c me s o desk w rest after
+  asks_again rest there may next f =
+      subst (λ x. FitsEvent c me s o (record desk { transfer = x }) w rest after) (sym there)
+      (asks_due rest may next f)

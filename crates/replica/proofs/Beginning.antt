@@ -61,6 +61,7 @@ use Rattle.replica.specs.Going.{IsSameLog, IsVotedBut, Rests}
 use Rattle.replica.specs.Taking.{TakesBatch, TakesPrepare, TakesCommit}
 use Rattle.replica.specs.Joined.{Runs, me_of}
 use Rattle.replica.specs.Entering.{event_of, TakesBytes, TakesMessage}
+use Rattle.replica.proofs.Choosing.{active_begins_none}
 use Rattle.replica.proofs.Parties.{same_log, one_self}
 use Rattle.replica.proofs.Staying.{numbers_alike, numbers_beside, said_on, same_rows}
 use Rattle.replica.proofs.Rows.{due_prepare_elsewhere, due_commit_elsewhere}
@@ -166,6 +167,7 @@ module _ (r : JoinedData) (one : AreOne r.orderer r.desk) where
         others_owe_none c (me_of r) past (Got (me_of r) bytes) [] runs.holds.of_desk.point r.desk.executed.state.number n.1.parts,
         inl refl,
       ),
+      runs.begun,
     );
   }
     where
@@ -176,13 +178,16 @@ module _ (r : JoinedData) (one : AreOne r.orderer r.desk) where
 
   -- What the log takes touches one number.
   pub takes_row : (bytes : List ℕ) (number : Number) (after : LogData) (claims : ClaimsData)
-      → IsSameLog r.orderer.log after → ((i : ℕ) → i ≢ number.0 → (due_prepare after i ≡ due_prepare r.orderer.log i) × (due_commit after i ≡ due_commit r.orderer.log i))
+      → IsSameLog r.orderer.log after → r.orderer.log.active ≡ true → ((i : ℕ) → i ≢ number.0 → (due_prepare after i ≡ due_prepare r.orderer.log i) × (due_commit after i ≡ due_commit r.orderer.log i))
       → ((c : Configuration) (past : List Entry) (runs : Runs c r past) → members c ≡ r.desk.membership → TakesOne r c past runs bytes after claims)
       → TakesBytes bytes r (touched.Row number) (record r { orderer = record r.orderer { log = after; claims = claims } }) []
-  takes_row bytes number after claims same others takes = record {
+  takes_row bytes number after claims same active others takes = record {
     party = record { endpoint = refl; me = refl; membership = refl };
-    begins = λ c past runs known. let t = takes c past runs known in
-        (begins_with c past runs bytes after claims same t.takes t.none t.changes, (voted c past runs, (t.counts, t.none.parts)));
+    begins = λ c past runs known. let t = takes c past runs known in (
+      begins_with c past runs bytes after claims same t.takes t.none t.changes,
+      (voted c past runs, (t.counts, t.none.parts)),
+      active_begins_none c (record r.orderer { log = after; claims = claims }) (same.active ∙ active),
+    );
   }
     where
       voted : (c : Configuration) (past : List Entry) → Runs c r past → IsVotedBut number.0 after
@@ -199,6 +204,7 @@ record Fitting (log : LogData) (may_send : Bool) (v i : ℕ) : Type 0 where
   pub sends : may_send ≡ true
   pub view : v ≡ log.view
   pub within : is_in_marks log i ≡ true
+  pub active : log.active ≡ true
 
 fitting : (log : LogData) (may_send : Bool) (v i : ℕ) → ordering_fault log may_send v i ≡ None → Fitting log may_send v i
 fitting log may_send v i h = go may_send (logs.is_active_in log v) (is_in_marks log i) refl refl refl h
@@ -208,7 +214,7 @@ fitting log may_send v i h = go may_send (logs.is_active_in log v) (is_in_marks 
     go false active within a b d h = absurd cc
     go true false within a b d h = absurd cc
     go true true false a b d h = absurd cc
-    go true true true a b d h = record { sends = a; view = eqb-true v log.view (and_parts (v == log.view) log.active b).0; within = d }
+    go true true true a b d h = record { sends = a; view = eqb-true v log.view (and_parts (v == log.view) log.active b).0; within = d; active = (and_parts (v == log.view) log.active b).1 }
 
 -- a vote of the sender
 abbrev vote_by : ReplicaId → List ℕ → Vote
@@ -239,7 +245,7 @@ pub prepare_taken : (r : JoinedData) (sender : ReplicaId) (p : WirePrepare) (new
     → TakesMessage sender (Prepare p.view.0 p.number.0 p.digest) r (touched.Row p.number) (record r { orderer = new }) []
 prepare_taken r sender p new one t bytes h =
     subst (λ (o : OrdererData). TakesBytes bytes r (touched.Row p.number) (record r { orderer = o }) []) (sym t.1)
-    (takes_row r one bytes p.number (with_prepare r.orderer.log p.number.0 vote) r.orderer.claims (same_rows r.orderer.log (with_prepare r.orderer.log p.number.0 vote).rows)
+    (takes_row r one bytes p.number (with_prepare r.orderer.log p.number.0 vote) r.orderer.claims (same_rows r.orderer.log (with_prepare r.orderer.log p.number.0 vote).rows) active
     (λ i ne. (due_prepare_elsewhere r.orderer.log i p.number.0 _ inside ne, due_commit_elsewhere r.orderer.log i p.number.0 _ inside ne)) takes)
   where
     vote : Vote
@@ -247,6 +253,9 @@ prepare_taken r sender p new one t bytes h =
 
     inside : is_in_marks r.orderer.log p.number.0 ≡ true
     inside = (fitting r.orderer.log _ p.view.0 p.number.0 (no_fault _ (fault_beside (logs.prepare_of r.orderer.log p.number.0 sender.0) p.digest) t.0)).within
+
+    active : r.orderer.log.active ≡ true
+    active = (fitting r.orderer.log _ p.view.0 p.number.0 (no_fault _ (fault_beside (logs.prepare_of r.orderer.log p.number.0 sender.0) p.digest) t.0)).active
 
     takes : (c : Configuration) (past : List Entry) (runs : Runs c r past) → members c ≡ r.desk.membership
         → TakesOne r c past runs bytes (with_prepare r.orderer.log p.number.0 vote) r.orderer.claims
@@ -264,7 +273,7 @@ pub commit_taken : (r : JoinedData) (sender : ReplicaId) (p : WireCommit) (new :
     → TakesMessage sender (Commit p.view.0 p.number.0 p.digest) r (touched.Row p.number) (record r { orderer = new }) []
 commit_taken r sender p new one t bytes h =
     subst (λ (o : OrdererData). TakesBytes bytes r (touched.Row p.number) (record r { orderer = o }) []) (sym t.1)
-    (takes_row r one bytes p.number (with_commit r.orderer.log p.number.0 vote) r.orderer.claims (same_rows r.orderer.log (with_commit r.orderer.log p.number.0 vote).rows)
+    (takes_row r one bytes p.number (with_commit r.orderer.log p.number.0 vote) r.orderer.claims (same_rows r.orderer.log (with_commit r.orderer.log p.number.0 vote).rows) active
     (λ i ne. (due_prepare_elsewhere r.orderer.log i p.number.0 _ inside ne, due_commit_elsewhere r.orderer.log i p.number.0 _ inside ne)) takes)
   where
     vote : Vote
@@ -272,6 +281,9 @@ commit_taken r sender p new one t bytes h =
 
     inside : is_in_marks r.orderer.log p.number.0 ≡ true
     inside = (fitting r.orderer.log _ p.view.0 p.number.0 (no_fault _ (fault_beside (logs.commit_of r.orderer.log p.number.0 sender.0) p.digest) t.0)).within
+
+    active : r.orderer.log.active ≡ true
+    active = (fitting r.orderer.log _ p.view.0 p.number.0 (no_fault _ (fault_beside (logs.commit_of r.orderer.log p.number.0 sender.0) p.digest) t.0)).active
 
     takes : (c : Configuration) (past : List Entry) (runs : Runs c r past) → members c ≡ r.desk.membership
         → TakesOne r c past runs bytes (with_commit r.orderer.log p.number.0 vote) r.orderer.claims
@@ -360,7 +372,7 @@ pub batch_taken : (r : JoinedData) (sender : ReplicaId) (p : WirePrePrepare) (ne
     → TakesMessage sender (PrePrepare p.view.0 p.number.0 p.batch.text.items) r (touched.Row p.number) (record r { orderer = new }) []
 batch_taken r sender p new one (free, were_heard, (claims, adds, is)) bytes h =
     subst (λ (o : OrdererData). TakesBytes bytes r (touched.Row p.number) (record r { orderer = o }) []) (sym is)
-    (takes_row r one bytes p.number (with_batch r.orderer.log p.number.0 p.batch.text.items) claims (same_rows r.orderer.log (with_batch r.orderer.log p.number.0 p.batch.text.items).rows)
+    (takes_row r one bytes p.number (with_batch r.orderer.log p.number.0 p.batch.text.items) claims (same_rows r.orderer.log (with_batch r.orderer.log p.number.0 p.batch.text.items).rows) fits.active
     (λ i ne. (due_prepare_elsewhere r.orderer.log i p.number.0 _ fits.within ne, due_commit_elsewhere r.orderer.log i p.number.0 _ fits.within ne)) takes)
   where
     beside : Option Dropped

@@ -22,7 +22,7 @@ use Rattle.replica_histories.specs.Desk.{Desk, desk_from}
 use Rattle.replica_histories.specs.Events.{Start, behind}
 use Rattle.replica_histories.specs.Transfers.{open_number}
 use Rattle.replica_histories.specs.Views.{begun_log, start_due, with_batches}
-use Rattle.replica_histories.proofs.Batches.{stays, begun_batch, begun_low}
+use Rattle.replica_histories.proofs.Batches.{stays, begun_active, begun_batch, begun_low}
 use Rattle.replica_histories.proofs.Cutting.{cut_same}
 use Rattle.replica.specs.declared.waiting.BegunCall.{BegunCall}
 use Rattle.replica.specs.declared.waiting.WaitingRequest.{WaitingRequest}
@@ -238,6 +238,9 @@ module _ (new : NewViewData) (own : Option (List ℕ)) (r : JoinedData) (before 
 
   pub one_target : n.orderer.target ≡ r.orderer.target
   one_target = ap (λ (y : JoinedData). y.orderer.target) k.new_is ∙ k.votes.same.target ∙ ap (λ (o : OrdererData). o.target) from.orderer
+
+  pub one_active : IsLog r.orderer.log → new.start < 2 ^ 48 → n.orderer.log.active ≡ true
+  one_active is small = ap (λ (y : JoinedData). y.orderer.log.active) k.new_is ∙ k.votes.same.log.active ∙ ap (λ (o : OrdererData). o.log.active) from.orderer ∙ begun_active r.orderer.log new is small
 
   pub all_voted : IsLog r.orderer.log → new.start < 2 ^ 48 → IsVotedAll n.orderer.log
   all_voted is small i =

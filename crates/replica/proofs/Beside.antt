@@ -95,5 +95,6 @@ module _ (r : JoinedData) (one : AreOne r.orderer r.desk) (bytes : List ℕ) (bo
         answers c past runs known,
         inl refl,
       ),
+      runs.begun,
     );
   }

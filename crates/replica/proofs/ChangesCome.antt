@@ -48,7 +48,7 @@ use Rattle.replica_histories.proofs.Reasons.{ahead_are_held, joined_one}
 use Rattle.replica.specs.declared.taking.Touched.{Touched}
 use Rattle.replica.specs.declared.taking.Touched.TheVariants as touched
 use Rattle.replica.specs.State.{OrdererData, DeskData, JoinedData, AreOne, IsOrderer}
-use Rattle.replica.specs.Beginning.{BeginsView, MayBegin}
+use Rattle.replica.specs.Beginning.{BeginsView, MayBegin, HasNoView}
 use Rattle.replica.specs.Changing.{ChangesView, IsJoinedBy, IsJoinedByNone, IsUnsayable, aimed_view, change_for}
 use Rattle.replica.specs.Desks.{given, Stands, FitsEvent, changes_of}
 use Rattle.replica.specs.Entering.{event_of, event_with, TakesBytes, TakesInput}
@@ -58,6 +58,7 @@ use Rattle.replica.specs.Numbering.{IsAllNumbered}
 use Rattle.replica.specs.Receiving.{JudgesAlike, Receives}
 use Rattle.replica.proofs.Unsayable.{unsaid_spent}
 use Rattle.replica.proofs.Beginning.{heard_by, none_taken, rests}
+use Rattle.replica.proofs.Choosing.{active_begins_none}
 use Rattle.replica.proofs.Parties.{one_self, ones_twice, same_log}
 use Rattle.replica.proofs.Staying.{numbers_alike, numbers_beside, said_on}
 
@@ -226,6 +227,7 @@ module _ (r : JoinedData) (one : AreOne r.orderer r.desk) (rules : JudgesAlike r
             (none.0, none.1, none.2, none.3, none.4, refused_move judge faulty c past runs known []),
             inl refl,
           ),
+          runs.begun,
         );
   }
     where
@@ -311,11 +313,12 @@ module _ (input : Entry) (old : JoinedData) (alone : AreOne old.orderer old.desk
               (answered a x came moved c past runs known outputs executed (at ∙ begun.target)),
         ),
       ),
+      active_begins_none c b.orderer begun.active,
     );
   }
 
-  rests_now : (a : JoinedData) (x : List Output) → Comes input old a x → MovesAt input old a.orderer.target → TakesInput input old touched.Nothing a x
-  rests_now a x came moved = record {
+  rests_now : (a : JoinedData) (x : List Output) → HasNoView a → Comes input old a x → MovesAt input old a.orderer.target → TakesInput input old touched.Nothing a x
+  rests_now a x none came moved = record {
     party = came.party;
     begins = λ c past runs known. let g = came.begins c past runs known in (
       g.0,
@@ -327,13 +330,14 @@ module _ (input : Entry) (old : JoinedData) (alone : AreOne old.orderer old.desk
             (subst (λ (m : ℕ). target (behind (event_with c old past runs input) (given m x)) ≡ a.orderer.target) (came.party.me ∙ alone.0) g.0.fits.changes.target)),
         inr g.3.0,
       ),
+      none c g.0.is.members_are g.0.is.period_is,
     );
   }
 
   may_begin : (a b : JoinedData) (x y : List Output) (what : Touched) → MayBegin a x what b y → Comes input old a x → MovesAt input old a.orderer.target → TakesInput input old what b y
   may_begin a b x y touched.View begun came moved = begins_now a b x y begun came moved
-  may_begin a b x y touched.Nothing (same, still) came moved =
-      subst (λ (r : JoinedData). TakesInput input old touched.Nothing r y) (sym same) (subst (λ (os : List Output). TakesInput input old touched.Nothing a os) (sym still) (rests_now a x came moved))
+  may_begin a b x y touched.Nothing (same, still, none) came moved =
+      subst (λ (r : JoinedData). TakesInput input old touched.Nothing r y) (sym same) (subst (λ (os : List Output). TakesInput input old touched.Nothing a os) (sym still) (rests_now a x none came moved))
   may_begin a b x y touched.Waiting begun came moved = absurd begun
   may_begin a b x y (touched.Row number) begun came moved = absurd begun
   may_begin a b x y touched.State begun came moved = absurd begun

@@ -36,6 +36,7 @@ use Rattle.view_change.specs.ClaimsView.{ClaimsData}
 use Rattle.replica.specs.State.{OrdererData, DeskData, JoinedData, AreOne}
 use Rattle.replica.specs.Checkpoints.{Follows, Settles, TakesCheckpoint, counting, said_entry}
 use Rattle.replica.specs.Desks.{given, FitsEvent, Stands, changes_of}
+use Rattle.replica.specs.Beginning.{CannotBegin}
 use Rattle.replica.specs.Entering.{event_of, IsTakenAlone, IsTakenBeside, Leaves, TakesBytes, TakesMessage}
 use Rattle.replica.specs.Fetching.{aimed_at, aiming}
 use Rattle.replica.specs.Joined.{Runs, me_of}
@@ -45,6 +46,7 @@ use Rattle.replica.proofs.Beginning.{IsNoCall, drops, heard_by, none_taken, rest
 use Rattle.replica.proofs.DueCheckpoints.{cut_commits, cut_voted, either, same_cut, settled_claims, settled_desk, settled_orderer, settled_snapshots}
 use Rattle.replica_histories.proofs.Counting.{checkpoint_free}
 use Rattle.replica.proofs.Following.{aim_of, aimed_is, aims, aims_desk}
+use Rattle.replica.proofs.Choosing.{begun_stays, settled_choice}
 use Rattle.replica.proofs.Staying.{numbers_alike, numbers_beside, said_on, same_but_checkpoints}
 
 -- ---- the fetch that is due
@@ -121,7 +123,7 @@ module _ (r : JoinedData) (one : AreOne r.orderer r.desk) (s : ℕ) (entry : Che
     party = counted_party;
     begins = λ c past runs known.
         subst (λ (log : LogData). let o : OrdererData = record r.orderer { log = log } in Stands c (event_of c r past runs bytes) o r.desk [] []
-        × Leaves c (event_of c r past runs bytes) touched.Nothing (record r { orderer = o }) [])
+        × Leaves c (event_of c r past runs bytes) touched.Nothing (record r { orderer = o }) [] × CannotBegin c o)
         (sym (early_checkpoints_drop c (me_of r) r.orderer.log past s entry bytes runs.holds.of_log.fits (hears c known) early).0)
         ((drops r one bytes (λ d before held same.
         ((early_checkpoints_drop d (me_of r) r.orderer.log before s entry bytes held.holds.of_log.fits (hears d same) early).1, no_call d same))).begins c past runs known);
@@ -238,6 +240,9 @@ module _ (r : JoinedData) (one : AreOne r.orderer r.desk) (s : ℕ) (entry : Che
       begins = λ c past runs known. (
         subst (λ (due : List Message). Stands c (event_of c r past runs bytes) n.orderer n.desk due []) (none_for_stable runs.desk counted entry settles.0) (stands n true settles c past runs known),
         (rests_on n true settles c past runs, subst (λ (k : OrdererData). IsTakenAlone c k.endpoint.me (event_of c r past runs bytes)) (sym (orderer_is n true settles)) (alone c past runs known)),
+        begun_stays c r.orderer n.orderer (subst (λ (k : OrdererData). IsSameLog r.orderer.log k.log) (sym (orderer_is n true settles)) (same_counted r.orderer.log s entry))
+            (ap (λ (k : OrdererData). k.target) (orderer_is n true settles))
+            (λ off. let k = settled_choice entry with_it n true settles in record { received = k.received; spent = k.spent; logged = k.logged }) runs.begun,
       );
     }
       where
@@ -245,6 +250,10 @@ module _ (r : JoinedData) (one : AreOne r.orderer r.desk) (s : ℕ) (entry : Che
         alone c past runs known =
             let t = counts c past runs known in
             (t.0, λ outputs executed. others_owe_none c (me_of r) past (Got (me_of r) bytes) outputs runs.holds.of_desk.point executed t.1)
+
+    -- a checkpoint that is counted begins no view
+    still_begun : (c : Configuration) → CannotBegin c r.orderer → CannotBegin c with_it.orderer
+    still_begun c = begun_stays c r.orderer with_it.orderer (same_but_checkpoints r.orderer.log counted.checkpoints) refl (λ off. record { received = refl; spent = refl; logged = λ claim has. has })
 
     -- Or they don't, and a state may be fetched.
     module _ (unstable : logs.is_stable counted entry ≡ false) where
@@ -254,6 +263,7 @@ module _ (r : JoinedData) (one : AreOne r.orderer r.desk) (s : ℕ) (entry : Che
         begins = λ c past runs known. (
           subst (λ (due : List Message). Stands c (event_of c r past runs bytes) with_it.orderer r.desk due []) (none_now c past runs why) (stands with_it false (unstable, refl) c past runs known),
           (rests c r past runs, runs.all, others_owe_none c (me_of r) past (Got (me_of r) bytes) [] runs.holds.of_desk.point r.desk.executed.state.number (no_call c known).parts, inl refl),
+          still_begun c runs.begun,
         );
       }
         where
@@ -269,6 +279,7 @@ module _ (r : JoinedData) (one : AreOne r.orderer r.desk) (s : ℕ) (entry : Che
         begins = λ c past runs known. (
           asked c past runs known,
           (rests c r past runs, runs.all, others_owe_none c (me_of r) past (Got (me_of r) bytes) (given (me_of r) outs) runs.holds.of_desk.point r.desk.executed.state.number (no_call c known).parts, inr (counts c past runs known).0),
+          still_begun c runs.begun,
         );
       }
         where

@@ -8,7 +8,7 @@ use Rattle.ordering.specs.Log as logs
 use Rattle.ordering.specs.Log.{LogData}
 use Rattle.ordering.specs.Keeping.{IsLog}
 use Rattle.protocol.specs.System.Configuration.{Configuration, is_number, members}
-use Rattle.protocol.specs.System.Trace.{Entry, Once}
+use Rattle.protocol.specs.System.Trace.{Entry, Once, Has}
 use Rattle.protocol.specs.System.Trace.Entry.{Sent}
 use Rattle.protocol.specs.Replica.State.{State, root_of}
 use Rattle.protocol.specs.Replica.RightReplica.{Point, MayCheckpoint, others}
@@ -32,7 +32,8 @@ use Rattle.view_change.specs.ClaimsView.{ClaimsData}
 use Rattle.replica.specs.State.{OrdererData, DeskData, JoinedData, AreOne}
 use Rattle.replica.specs.Waiting.{WaitingData}
 use Rattle.replica.specs.Desks.{given, FitsWaiting, FitsEvent, Stands, changes_of}
-use Rattle.replica.specs.Going.{CommitsNoMore, IsSameLog, IsSameOrderer, IsVotedAll}
+use Rattle.replica.specs.Going.{CommitsNoMore, IsSameLog, IsSameOrderer, IsVotedAll, KeepsChoice}
+use Rattle.replica.proofs.Choosing.{settled_choice}
 use Rattle.replica.specs.Desking.{RunsWhole, due_entry, is_due, newest_entry}
 use Rattle.replica.specs.Keeping.{newest_with}
 use Rattle.replica.specs.Checkpoints.{IsDueKept, SaysCheckpoint, SaysDueCheckpoint, Settles}
@@ -231,6 +232,15 @@ module _ (a : JoinedData) (o : OrdererData) (n : JoinedData) (entry : Checkpoint
   counted_is_log : IsLog counted
   counted_is_log = subst (λ (k : OrdererData). IsLog k.log) says.new_is is_log
 
+  chosen : KeepsChoice a.orderer (checking a.orderer entry n.orderer.claims)
+  chosen =
+      let k = settled_choice entry (record a { orderer = o }) n b settles in
+      record {
+        received = refl;
+        spent = refl;
+        logged = λ claim has. subst (λ (x : OrdererData). Has (λ y. y ≡ claim) x.claims.logged) says.new_is (k.logged claim has);
+      }
+
   due_stands : (c : Configuration) (s : Start) → members c ≡ a.desk.membership → IsVotedAll a.orderer.log
       → Stands c s a.orderer a.desk (checkpoint_due c a.desk.executed.state) x → Stands c s n.orderer n.desk [] y
   due_stands c s known voted st =
@@ -268,7 +278,7 @@ module _ (a : JoinedData) (o : OrdererData) (n : JoinedData) (entry : Checkpoint
   says_due_checkpoint = record {
     stands = due_stands;
     party = record {
-      orderer = subst (λ (k : OrdererData). IsSameOrderer a.orderer k) (sym orderer_is) (record { endpoint = refl; log = same_checked a.orderer.log entry; target = refl });
+      orderer = subst (λ (k : OrdererData). IsSameOrderer a.orderer k) (sym orderer_is) (record { endpoint = refl; log = same_checked a.orderer.log entry; target = refl; choice = λ off. chosen });
       me = ap (λ (d : DeskData). d.me) desk_is;
       membership = ap (λ (d : DeskData). d.membership) desk_is;
     };

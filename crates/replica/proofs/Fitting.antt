@@ -1,5 +1,5 @@
 -- Where a replica begins.
-use Rattle.std.proofs.Common.{◌≡◌, ℕ, ◌+◌, ◌*◌, ◌<◌, ◌≤◌, [], Some, None, refl, sym, ap, arith}
+use Rattle.std.proofs.Common.{◌≡◌, ℕ, ◌+◌, ◌*◌, ◌<◌, ◌≤◌, [], true, false, Some, None, refl, sym, ap, arith}
 use Rattle.ordering.specs.Log.{new_log}
 use Rattle.protocol.specs.System.Configuration.{Configuration, IsConfiguration, span}
 use Rattle.protocol.specs.Replica.State.{opening}
@@ -46,5 +46,6 @@ module _ (c : Configuration) (me : ℕ) (valid : IsConfiguration c) (mine : me <
       said = rw orders.0 (λ entry is. absurd (none_some entry is));
       changes = rw orders.0 (changes_begin c me);
       all = rw (orders.0, desks) (λ next. refl);
+      begun = rw orders.0 (λ off own. absurd (let bad : true ≡ false = off in cc));
     };
   }

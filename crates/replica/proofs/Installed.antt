@@ -35,6 +35,7 @@ use Rattle.replica.specs.Fetching.{Installs, InstallsFetched}
 use Rattle.replica.specs.Going.{IsSameParty, IsVotedAll}
 use Rattle.replica.specs.Marking.{MovesMarks}
 use Rattle.replica.specs.Joined.{me_of}
+use Rattle.replica.proofs.Choosing.{cut_choice}
 use Rattle.replica.proofs.Desking.{calls_behind, frames_behind}
 use Rattle.replica.proofs.DueCheckpoints.{same_cut, cut_voted}
 use Rattle.replica.proofs.Given.{GivesOne, gives_one}
@@ -193,8 +194,12 @@ installs_so a b d m number root there (o, is_open, entry_is, has, falls, d_is, b
     at : number.0 ≡ m.transfer.number
     at = ap (λ (x : CheckpointEntry). x.number) entry_is ∙ ap (λ (x : OpenData). x.transfer.number) same
 
-installed_party : (a : JoinedData) (n : ℕ) (claims : ClaimsData) (st : State) (low : ℕ) → IsSameParty a (record a { orderer = cut_orderer n claims a.orderer; desk = with_state st low a.desk })
-installed_party a n claims st low = record { orderer = record { endpoint = refl; log = same_cut a.orderer.log n; target = refl }; me = refl; membership = refl }
+installed_party : (a : JoinedData) (n : ℕ) (claims : ClaimsData) (st : State) (low : ℕ) → CutsClaims (logs.cut_to a.orderer.log n).low a.orderer.claims claims → IsSameParty a (record a { orderer = cut_orderer n claims a.orderer; desk = with_state st low a.desk })
+installed_party a n claims st low cuts = record {
+  orderer = record { endpoint = refl; log = same_cut a.orderer.log n; target = refl; choice = λ off. cut_choice a.orderer (logs.cut_to a.orderer.log n) (logs.cut_to a.orderer.log n).low claims cuts };
+  me = refl;
+  membership = refl;
+}
 
 -- The number of what was fetched is reached.
 pub number_reached : (a b : JoinedData) (m : OpenData) (before after : List Output) → a.desk.transfer ≡ Some m → InstallsFetched a before b after true → b.desk.executed.state.number ≡ m.transfer.number
@@ -206,7 +211,7 @@ number_reached a b m before after there (d, number, root, installs, gives, moves
 pub moved_party : (a b : JoinedData) (m : OpenData) (before after : List Output) → a.desk.transfer ≡ Some m → InstallsFetched a before b after true → IsSameParty a b
 moved_party a b m before after there (d, number, root, installs, gives, moves) =
     let i = installs_so a b d m number root there installs moves in
-    subst (λ (r : JoinedData). IsSameParty a r) (sym i.new_is) (installed_party a m.transfer.number i.claims d.executed.state (logs.cut_to a.orderer.log m.transfer.number).low)
+    subst (λ (r : JoinedData). IsSameParty a r) (sym i.new_is) (installed_party a m.transfer.number i.claims d.executed.state (logs.cut_to a.orderer.log m.transfer.number).low i.cuts)
 
 -- What was fetched is installed.
 pub installs_fetched : (c : Configuration) (s : Start) (a b : JoinedData) (desk : Desk) (m : OpenData) (before after : List Output) → AreOne a.orderer a.desk → IsFetched c s a desk m before → IsVotedAll a.orderer.log

@@ -2,6 +2,7 @@ pub mod Results
 pub mod Lists
 pub mod Given
 pub mod Parties
+pub mod Choosing
 pub mod Staying
 pub mod Rows
 pub mod Logging

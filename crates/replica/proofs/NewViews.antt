@@ -1,21 +1,25 @@
 -- New views that are said again, and texts that are batches.
-use Rattle.std.proofs.Common.{◌≡◌, ℕ, true, false, List, [], ◌∷◌, ◌++◌, length, map, Vec, Option, Some, None, Result, Ok, Err, IfOk, IfSome, MatchOption, refl, sym, ap, ◌∙◌, subst, append_assoc, arith}
+use Rattle.std.proofs.Common.{◌≡◌, ℕ, ◌⊎◌, inl, inr, true, false, List, [], ◌∷◌, ◌++◌, length, map, Vec, Option, Some, None, Result, Ok, Err, IfOk, IfSome, IfNone, MatchOption, refl, sym, ap, ◌∙◌, subst, append_assoc, arith}
 use Rattle.std.specs.Arc.{arc_value}
 use Rattle.std.specs.Option.{option_map_or}
 use Rattle.std.specs.declared.alloc.Global.{Global}
 use Rattle.std.specs.declared.sync.Arc.{Arc}
 use Rattle.std.proofs.lemmas.List.{append-nil, map-append}
+use Rattle.sha2.specs.Sha256.{sha256}
+use Rattle.wire.specs.Spelling.{IsNewView}
 use Rattle.wire.specs.Views.{batch_text}
 use Rattle.wire.specs.declared.messages.Batch.{Batch}
 use Rattle.wire.specs.Messages.{BodyData as Body, MessageData as Message, NewViewData, ViewChangeData, new_view as NewView}
 use Rattle.events.specs.declared.output.Output.{Output}
-use Rattle.posting.specs.Endpoint.{IsOwnSigned}
+use Rattle.posting.specs.Endpoint.{IsOwnSigned, SignedExceeds, says as of_party}
+use Rattle.posting.proofs.Fitting.{new_views_fit}
 use Rattle.ordering.specs.Log as logs
 use Rattle.view_change.specs.declared.changes.Selection.{Selection}
 use Rattle.view_change.specs.declared.changes.Sizes.{Sizes}
 use Rattle.view_change.specs.ReceivedData.{pairs_for}
 use Rattle.view_change.specs.ReceivedView.{configuration_of}
-use Rattle.view_change.specs.Selecting.{Selects}
+use Rattle.view_change.specs.ClaimsView.{digests_of}
+use Rattle.view_change.specs.Selecting.{NothingSelects, Selects}
 use Rattle.view_change.specs.Sets.{sized, texts_of}
 use Rattle.protocol.specs.System.Configuration.{Configuration}
 use Rattle.protocol.specs.System.Trace.{Entry}
@@ -31,7 +35,8 @@ use Rattle.replica_histories.proofs.ChangesKept.{sent_keep}
 use Rattle.replica.specs.State.{OrdererData}
 use Rattle.replica.specs.Claiming.{MaySign, SaysFrame}
 use Rattle.replica.specs.Desks.{given}
-use Rattle.replica.specs.EnteringViews.{IsSelection, MaySignView, new_view_of}
+use Rattle.replica_histories.proofs.Primaries.{claimed_select_nothing}
+use Rattle.replica.specs.EnteringViews.{HasNoSelection, IsSelection, MaySignView, new_view_of}
 use Rattle.replica.specs.Saying.{PostedFrame, PostsNewView, SaysAlso}
 use Rattle.replica.proofs.PostedAgain.{frame_now}
 use Rattle.replica.proofs.Again.{nothing_again, never_said, one_below}
@@ -112,6 +117,23 @@ held_selects N o r sizes set texts inactive primary size_is set_is texts_are h =
     (subst (λ (xs : List (ℕ × ViewChangeData)). IfOk r (SelectsSome N o.received.sizes o.target xs texts)) set_is
     (subst (λ (x : Sizes). IfOk r (SelectsSome N x o.target set texts)) size_is h)))
 
+-- or nothing is
+no_selection : {E : Type 0} (o : OrdererData) (r : Result (Option Selection) E) → map sha256 o.claims.texts ≡ digests_of o.claims.logged
+    → IfOk r (SelectsSome (NothingSelects (sized o.received.sizes) o.target (pairs_for o.target o.received.held) o.claims.texts) o.received.sizes o.target (pairs_for o.target o.received.held) o.claims.texts)
+    → IfOk r (λ x. IfNone x (HasNoSelection o))
+no_selection o (Err e) named h = h
+no_selection o (Ok None) named h = λ off own. claimed_select_nothing (sized o.received.sizes) o.target o.received.held o.claims named h
+no_selection o (Ok (Some s)) named h = tt
+
+pub none_selects : {E : Type 0} (o : OrdererData) (r : Result (Option Selection) E) (sizes : Sizes) (set : List (ℕ × ViewChangeData)) (texts : List (List ℕ)) → map sha256 o.claims.texts ≡ digests_of o.claims.logged
+    → sizes ≡ o.received.sizes → set ≡ pairs_for o.target o.received.held → texts ≡ o.claims.texts → IfOk r (SelectsSome (NothingSelects (sized sizes) o.target set texts) sizes o.target set texts)
+    → IfOk r (λ x. IfNone x (HasNoSelection o))
+none_selects o r sizes set texts named size_is set_is texts_are h =
+    no_selection o r named
+    (subst (λ (ts : List (List ℕ)). IfOk r (SelectsSome (NothingSelects (sized o.received.sizes) o.target (pairs_for o.target o.received.held) ts) o.received.sizes o.target (pairs_for o.target o.received.held) ts)) texts_are
+    (subst (λ (xs : List (ℕ × ViewChangeData)). IfOk r (SelectsSome (NothingSelects (sized o.received.sizes) o.target xs texts) o.received.sizes o.target xs texts)) set_is
+    (subst (λ (x : Sizes). IfOk r (SelectsSome (NothingSelects (sized x) o.target set texts) x o.target set texts)) size_is h)))
+
 -- ---- all are hashed
 
 none_left : (items : List Batch) → length items ≡ 0 → items ≡ []
@@ -124,12 +146,16 @@ all_hashed old items first batches none is left =
 
 -- ---- a selection is signed
 
-pub signs_view : {E : Type 0} (o later : OrdererData) (start : ℕ) (root : List ℕ) (texts : List (List ℕ)) (message : Message) (made : NewViewData) (r : Result (Option (Vec ℕ Global)) E) → made ≡ new_view_of o start root texts
+pub signs_view : {E : Type 0} (o later : OrdererData) (start : ℕ) (root : List ℕ) (texts : List (List ℕ)) (message : Message) (made : NewViewData) (r : Result (Option (Vec ℕ Global)) E) → made ≡ new_view_of o start root texts → IsNewView made
     → may_select (configuration_of o.received) made ≡ true → message ≡ NewView made → IfOk r (MaySign message o later)
     → IfOk r (MaySignView (new_view_of o start root texts) o later)
-signs_view o later start root texts message made (Err e) is right says h = h
-signs_view o later start root texts message made (Ok None) is right says h = h.0
-signs_view o later start root texts message made (Ok (Some frame)) is right says h = (
+signs_view o later start root texts message made (Err e) is said right says h = h
+signs_view o later start root texts message made (Ok None) is said right says h = (h.0, go h.1)
+  where
+    go : (o.spent ≡ 64) ⊎ SignedExceeds (of_party o.endpoint.me message) → o.spent ≡ 64
+    go (inl spent) = spent
+    go (inr exceeds) = absurd (new_views_fit o.endpoint.me made said (subst (λ (m : Message). SignedExceeds (of_party o.endpoint.me m)) says exceeds))
+signs_view o later start root texts message made (Ok (Some frame)) is said right says h = (
   record {
     signed = subst (λ (m : Message). IsOwnSigned o.endpoint m frame.items) (says ∙ ap NewView is) h.0;
     by_leaf = h.1;

@@ -28,7 +28,7 @@ use Rattle.replica_histories.specs.Events as histories
 use Rattle.replica_histories.specs.Events.{IsTaken}
 use Rattle.replica_histories.specs.Inputs.{IsBesideLog, asked}
 use Rattle.replica_histories.specs.Views.{begun_log, start_due}
-use Rattle.replica_histories.proofs.Beginning.{start_small}
+use Rattle.replica_histories.proofs.Beginning.{start_small, new_small, still_brings}
 use Rattle.replica_histories.proofs.ChangesKept.{got_keep, others_bring_none}
 use Rattle.replica_histories.proofs.ChangesPassing.{inputs_enter}
 use Rattle.replica_histories.proofs.Counting.{others_drop}
@@ -45,7 +45,8 @@ use Rattle.replica.proofs.Beginning.{changes_kept, heard_by, rests}
 use Rattle.replica.specs.EnteringViews.{Enters}
 use Rattle.replica.proofs.Parties.{one_self, same_log}
 use Rattle.replica.proofs.Staying.{numbers_beside, said_on}
-use Rattle.replica.proofs.ViewsEntered.{Entered, entered, entered_party, entered_stands, entered_votes, start_in}
+use Rattle.replica.proofs.Choosing.{active_begins_none}
+use Rattle.replica.proofs.ViewsEntered.{Entered, entered, entered_active, entered_party, entered_stands, entered_votes, start_in}
 
 -- ---- which new views are taken
 
@@ -152,6 +153,7 @@ module _ (judge : NewViewsAreJudged) (decide : SizesDecide) (r : JoinedData) (on
     begins = λ c past runs known. (
       untaken_stands c past runs known (refused_untaken judge c me sender past new bytes (hears c known) (λ none. refused (sym (judged c past runs known) ∙ none))),
       (rests c r past runs, runs.all, others_owe_none c me past e [] runs.holds.of_desk.point r.desk.executed.state.number (asks_no_part c known), inl refl),
+      runs.begun,
     );
   }
 
@@ -188,6 +190,8 @@ module _ (judge : NewViewsAreJudged) (decide : SizesDecide) (r : JoinedData) (on
                 (omega arith, λ sent leaf is now. absurd now, λ leaf l. inl l) runs.said runs.changes n outs x,
             taken_answered clients n outs x c past runs known t,
           ),
+          active_begins_none c n.orderer
+              (entered_active new None r [] n outs runs.holds.of_log.fits.is_log (new_small c me r.orderer.log past e new runs.holds.of_log.fits (still_brings c me past e sender (NewView new) tt (hears c known)) t) x),
         );
   }
     where

@@ -240,6 +240,7 @@ module _ (number : ℕ) (a b : JoinedData) (x y : List Output) (one : AreOne a.o
     endpoint = n.says.endpoint;
     log = subst (IsSameLog a.orderer.log) (sym n.says.log) (record { me = refl; faults = refl; span = refl; view = refl; active = refl; low = omega arith });
     target = n.says.target;
+    choice = λ off. absurd (let bad : true ≡ false = sym active ∙ off in cc);
   }
 
   voted_but : IsVotedAll a.orderer.log → IsVotedBut number b.orderer.log

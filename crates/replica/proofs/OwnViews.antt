@@ -52,7 +52,7 @@ use Rattle.replica.specs.Desks.{given, changes_of, IsDeskOf, FitsEvent, FitsWait
 use Rattle.replica.specs.EnteringViews.{Enters, IsSelection, MaySignView, SignsView, new_view_of}
 use Rattle.replica.specs.Flags.{FitsFlags}
 use Rattle.replica.specs.Going.{Rests}
-use Rattle.replica.proofs.BegunViews.{Begins, begins, begun_orderer, begun_stands, calls_differ, all_voted, one_party, one_target, start_of}
+use Rattle.replica.proofs.BegunViews.{Begins, begins, begun_orderer, begun_stands, calls_differ, all_voted, one_active, one_party, one_target, start_of}
 use Rattle.replica.proofs.Flags.{flags_begun}
 use Rattle.replica.proofs.Given.{GivesOne, gives_one}
 use Rattle.replica.proofs.Staying.{fits_behind}
@@ -239,6 +239,7 @@ module _ (decide : SizesDecide) (r : JoinedData) (start : ℕ) (root frame : Lis
     stands = λ c s known rests st. stands c s st.desk known rests st.is (subst (λ (m : ℕ). FitsEvent c m s o st.desk r.desk.waiting [] before) one.0 st.fits);
     party = let p = one_party its (Some frame) (signing r) said n after k in record { endpoint = p.endpoint; me = p.me; membership = p.membership };
     target = one_target its (Some frame) (signing r) said n after k;
+    active = one_active its (Some frame) (signing r) said n after k is_log small;
     voted = λ rests. all_voted its (Some frame) (signing r) said n after k is_log small;
   }
 

@@ -3,12 +3,13 @@ use Rattle.std.proofs.Common.{refl, ◌∙◌, arith}
 use Rattle.replica.specs.State.{OrdererData, JoinedData}
 use Rattle.replica.specs.Going.{IsSameLog, IsSameOrderer, IsSameParty, IsOneParty}
 use Rattle.ordering.specs.Log.{LogData}
+use Rattle.replica.proofs.Choosing.{same_choice, choices_twice}
 
 pub same_log : (log : LogData) → IsSameLog log log
 same_log log = record { me = refl; faults = refl; span = refl; view = refl; active = refl; low = omega arith }
 
 pub same_orderer : (o : OrdererData) → IsSameOrderer o o
-same_orderer o = record { endpoint = refl; log = same_log o.log; target = refl }
+same_orderer o = record { endpoint = refl; log = same_log o.log; target = refl; choice = λ off. same_choice o }
 
 pub same_party : (r : JoinedData) → IsSameParty r r
 same_party r = record { orderer = same_orderer r.orderer; me = refl; membership = refl }
@@ -25,7 +26,12 @@ logs_twice a b d first then = record {
 
 pub orderers_twice : (a b d : OrdererData) → IsSameOrderer a b → IsSameOrderer b d → IsSameOrderer a d
 orderers_twice a b d first then =
-    record { endpoint = then.endpoint ∙ first.endpoint; log = logs_twice a.log b.log d.log first.log then.log; target = then.target ∙ first.target }
+    record {
+      endpoint = then.endpoint ∙ first.endpoint;
+      log = logs_twice a.log b.log d.log first.log then.log;
+      target = then.target ∙ first.target;
+      choice = λ off. choices_twice a b d (first.choice off) (then.choice (first.log.active ∙ off));
+    }
 
 pub parties_twice : (a b d : JoinedData) → IsSameParty a b → IsSameParty b d → IsSameParty a d
 parties_twice a b d first then = record {

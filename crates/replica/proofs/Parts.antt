@@ -206,6 +206,7 @@ module _ (r : JoinedData) (one : AreOne r.orderer r.desk) (bytes : List ℕ) (n 
                 (fetch_given c (known ∙ one.1) m outs says came.was.number (asked_number r.desk.executed.state n m (Some place) asks ∙ came.number)),
             inr came.taken,
           ),
+          runs.begun,
         );
   }
 

@@ -32,6 +32,7 @@ use Rattle.replica.proofs.Beginning.{rests}
 use Rattle.replica.proofs.Beside.{drops_beside}
 use Rattle.replica.proofs.Fetched.{asked_long, asked_number, rests_now}
 use Rattle.replica.proofs.Installed.{IsFetched, installs_fetched, moved_party, number_reached, same_open}
+use Rattle.replica.proofs.Choosing.{begun_same}
 use Rattle.replica.proofs.Parties.{one_of_same, parties_twice, same_orderer}
 use Rattle.replica.proofs.Parts.{Comes, IsOpen, digests_come, digests_stay, page_comes}
 
@@ -100,6 +101,7 @@ module _ (r : JoinedData) (one : AreOne r.orderer r.desk) (bytes : List ℕ) (n 
         let stands = installs_fetched c (event_of c r past runs bytes) (holding m r) b (record runs.desk { transfer = Some m.transfer }) m [] outs one (fetched c past runs known) (rests c r past runs).0 here in (
           stands.0,
           (stands.1, on.0, on.1),
+          begun_same c r.orderer b.orderer (parties_twice r (holding m r) b (same_holding r m) (moved_party (holding m r) b m [] outs refl here)).orderer runs.begun,
         );
   }
     where
@@ -141,6 +143,7 @@ module _ (r : JoinedData) (one : AreOne r.orderer r.desk) (bytes : List ℕ) (n 
                 none_owed cannot c past runs known,
                 inl refl,
               ),
+              runs.begun,
             );
       }))
 

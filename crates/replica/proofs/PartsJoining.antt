@@ -8,7 +8,7 @@ use Rattle.std.specs.Prelude.{option_and_then}
 use Rattle.std.specs.Bool.{then_some}
 use Rattle.wire.specs.Words.{frame_of, said}
 use Rattle.wire.specs.Lists.{Each}
-use Rattle.wire.specs.Messages.{FrameData, MessageData as Message, NewViewData, CheckpointEntryData as CheckpointEntry, checkpoint as Checkpoint, view_change as ViewChange, new_view as NewView, request as Request, reply as Reply}
+use Rattle.wire.specs.Messages.{FrameData, MessageData as Message, ViewChangeData, NewViewData, CheckpointEntryData as CheckpointEntry, checkpoint as Checkpoint, view_change as ViewChange, new_view as NewView, request as Request, reply as Reply}
 use Rattle.ordering.specs.Log.{LogData}
 use Rattle.protocol.specs.System.Configuration.{Configuration, primary, replicas, span}
 use Rattle.protocol.specs.System.Trace.{Entry, Once, Has, either}
@@ -16,7 +16,7 @@ use Rattle.protocol.specs.System.Trace.Entry.{Invoke, Got, Tick, Executed, Insta
 use Rattle.protocol.specs.Replica.RightReplica.{SendsBytes, SentBefore, HasSeen, IsFree}
 use Rattle.protocol.specs.Replica.Certificates.{target, view, taken, is_later, low, is_in_marks, logged, prepare_of, commit_of, Prepared, Committed}
 use Rattle.protocol.specs.Replica.State.{State, Call}
-use Rattle.protocol.specs.Replica.Owed.{IsSaying, BeginsViewWith}
+use Rattle.protocol.specs.Replica.Owed.{IsSaying, BeginsViewWith, BringsChange, HasLatestChange, HasBatch, CanBeginView, AreKeysSpent, StartsAhead}
 use Rattle.view_change.specs.ClaimsView.{ClaimsData}
 use Rattle.view_change.specs.ReceivedData.{HeldData}
 use Rattle.replica_histories.specs.Logs.{FitsLog, IsVoted, above_mark}
@@ -31,6 +31,9 @@ use Rattle.wire.proofs.Saying.{reads_frames, reads_said}
 use Rattle.wire.specs.Spelling.{is_signed}
 use Rattle.protocol.specs.System.Frames.{leaf_in, leaf_of}
 use Rattle.protocol.proofs.Words.Posting.{unsigned_no_leaf}
+use Rattle.protocol.specs.Replica.Selection.{changes_of as changes_in}
+use Rattle.protocol.proofs.Words.Elements.{each_weaker}
+use Rattle.replica_histories.proofs.Received.{brings_view, brings_newer}
 use Rattle.replica.proofs.SameWords.{words_same, taken_same}
 use Rattle.protocol.specs.System.Reads.{without_reads}
 use Rattle.replica.specs.State.{OrdererData, DeskData}
@@ -161,6 +164,44 @@ taken_none c me e past idle = ap (option_and_then (λ (new : NewViewData). then_
 pub none_some : {A : Type 0} (x : A) → None ≡ Some x → ⊥
 none_some x e = absurd cc
 
+-- an idle entry brings no view change that counts
+idle_brings_none : (c : Configuration) (me : ℕ) (x : ℕ × ViewChangeData) (past : List Entry) (e : Entry) → IsIdle c me e → BringsChange c x past e → ⊥
+idle_brings_none c me x past e idle b =
+    let none = idle.latest past x.0 in
+    let is = brings_view c x past e b in
+    let newer = brings_newer c x past e b in
+    omega (arith, none, is, newer)
+
+-- and with one more such entry no other new view can be begun
+has_latest_idle : (c : Configuration) (me : ℕ) (past : List Entry) (e : Entry) → IsIdle c me e → CertifySame c me past (e ∷ past) → (x : ℕ × ViewChangeData) → HasLatestChange c me (e ∷ past) x → HasLatestChange c me past x
+has_latest_idle c me past e idle s x (inl (other, inl b, latest)) = absurd (idle_brings_none c me x past e idle b)
+has_latest_idle c me past e idle s x (inl (other, inr once, latest)) = inl (other, once, sym (s.latest x.0) ∙ latest)
+has_latest_idle c me past e idle s x (inr (mine, inl says, at)) = absurd (idle.says (ViewChange x.1) says)
+has_latest_idle c me past e idle s x (inr (mine, inr once, at)) = inr (mine, once, sym s.target ∙ at)
+
+pub can_begin_idle : (c : Configuration) (me : ℕ) (past : List Entry) (e : Entry) → IsIdle c me e → CertifySame c me past (e ∷ past) → (new : NewViewData) → CanBeginView c me (e ∷ past) new → CanBeginView c me past new
+can_begin_idle c me past e idle s new can = record {
+  left = subst (λ (v : ℕ). v < target past) s.view (subst (λ (t : ℕ). view c (e ∷ past) < t) s.target can.left);
+  view = can.view ∙ s.target;
+  primary = can.primary;
+  selected = can.selected;
+  changes = each_weaker (HasLatestChange c me (e ∷ past)) (HasLatestChange c me past) (has_latest_idle c me past e idle s) (changes_in c new) can.changes;
+  batches = each_weaker (HasBatch c me (e ∷ past)) (HasBatch c me past) has new.batches can.batches;
+}
+  where
+    has : (batch : List ℕ) → HasBatch c me (e ∷ past) batch → HasBatch c me past batch
+    has batch (inl null) = inl null
+    has batch (inr (v, i, here, within)) = inr (v, i, sym (s.logged v i) ∙ here, subst (λ (n : ℕ). is_in_marks c n i ≡ true) s.low within)
+
+-- keys that were spent stay so
+pub spent_on : (past : List Entry) (e : Entry) → AreKeysSpent past → AreKeysSpent (e ∷ past)
+spent_on past e spent leaf l = let k = spent leaf l in (k.0, k.1, inr k.2)
+
+-- no new view starts at an idle entry
+pub idle_starts : (c : Configuration) (me k : ℕ) (past : List Entry) (e : Entry) → IsIdle c me e → Once (StartsAhead c k) (e ∷ past) → Once (StartsAhead c k) past
+idle_starts c me k past e idle (inl h) = absurd (none_some h.0 (sym (taken_none c me e past idle) ∙ h.1))
+idle_starts c me k past e idle (inr h) = h
+
 -- from the entries of ordering to all
 module _ (c : Configuration) (me : ℕ) (g h : List Entry) (p : LeavesOut c me g h) where
   words : CertifySame c me g h
@@ -245,15 +286,37 @@ module _ (c : Configuration) (me : ℕ) (g h : List Entry) (p : LeavesOut c me g
           let quiet : IsQuiet frame.body.message = idle.seen past sent frame.body (seen e past x) says in
           absurd (let bad : None ≡ Some leaf = sym (unsigned_no_leaf sent frame.body says (unsigned frame.body.message quiet)) ∙ by in cc)
 
+  -- view changes that count do so with and without idle entries
+  brought_same : (x : ℕ × ViewChangeData) (a b : List Entry) (e : Entry) → CertifySame c me a b → BringsChange c x a e → BringsChange c x b e
+  brought_same x a b (Got p bytes) s h =
+      (h.0, (subst (λ (v : ℕ). v < x.1.view) (sym s.view) h.1.0, h.1.1, subst (λ (v : ℕ). v < x.1.view) (sym (s.latest x.0)) h.1.2))
+  brought_same x a b (Sent p text) s h = absurd h
+  brought_same x a b (Invoke u v w) s h = absurd h
+  brought_same x a b (Tick u) s h = absurd h
+  brought_same x a b (Executed u v w) s h = absurd h
+  brought_same x a b (Installed u v w) s h = absurd h
+  brought_same x a b (Accepted u v w) s h = absurd h
+
+  brought_over : (x : ℕ × ViewChangeData) → Once (BringsChange c x) g → Once (BringsChange c x) h
+  brought_over x k = once_over c me (BringsChange c x) (λ e g h p b. brought_same x g h e (words_same c me g h p) b) g h p k
+
+  brought_back : (x : ℕ × ViewChangeData) → Once (BringsChange c x) h → Once (BringsChange c x) g
+  brought_back x k = once_back c me (BringsChange c x) (λ e g h p b. brought_same x h g e (turned c me g h (words_same c me g h p)) b)
+      (λ e past idle b. idle_brings_none c me x past e idle b) g h p k
+
   received_over : (held : List (Option HeldData)) → FitsReceived c me g held → FitsReceived c me h held
   received_over held f = record {
     latest = λ x n. words.latest x ∙ f.latest x n;
+    placed = f.placed;
+    taken = λ x other once latest. f.taken x other (brought_back x once) (sym (words.latest x.0) ∙ latest);
     seen = λ x k is. once_over c me (HasSeen k.frame) (λ e g h p y. seen_anywhere k.frame g h e y) g h p (f.seen x k is);
   }
 
   received_back : (held : List (Option HeldData)) → AreChanges held → FitsReceived c me h held → FitsReceived c me g held
   received_back held are f = record {
     latest = λ x n. sym (words.latest x) ∙ f.latest x n;
+    placed = f.placed;
+    taken = λ x other once latest. f.taken x other (brought_over x once) (words.latest x.0 ∙ latest);
     seen = λ x k is. once_back c me (HasSeen k.frame) (λ e g h p y. seen_anywhere k.frame h g e y)
         (λ e past idle y. idle.seen past k.frame (record { sender = (are x k is).0; message = ViewChange k.change }) y (are x k is).1) g h p (f.seen x k is);
   }
@@ -381,6 +444,7 @@ parts_join c o d h one hd ho = record {
   said = said_over c o.endpoint.me (without_reads h) h (parted c o.endpoint.me h) o.last_checkpoint ho.said;
   changes = changes_over c o.endpoint.me (without_reads h) h (parted c o.endpoint.me h) o.log (changes_of o) ho.changes;
   all = all c o d h hd ho;
+  begun = ho.begun;
 }
 
 -- ---- and in parts
@@ -400,6 +464,7 @@ holds_part c r h one are runs = (
     said = said_back c me g h (parted c me h) r.orderer.last_checkpoint runs.said;
     changes = changes_back c me g h (parted c me h) r.orderer.log (changes_of r.orderer) are runs.changes;
     period = runs.is_desk.period_is ∙ sym one.2;
+    begun = runs.begun;
   },
 )
   where

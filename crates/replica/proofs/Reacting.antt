@@ -15,16 +15,19 @@ use Rattle.replica_histories.specs.Desk.{Desk}
 use Rattle.replica_histories.specs.Logs.{FitsLog}
 use Rattle.protocol.specs.Replica.Owed.{IsReplica}
 use Rattle.replica_histories.specs.Events as histories
-use Rattle.replica_histories.specs.Events.{Start, IsSettled, IsTaken, start_at}
+use Rattle.replica_histories.specs.Desk.{point_of}
+use Rattle.replica_histories.specs.Events.{Start, IsSettled, IsTaken, LeavesNoView, start_at}
 use Rattle.replica_histories.specs.Changes.{FitsChanges}
 use Rattle.replica_histories.specs.Numbers as numbers
-use Rattle.replica_histories.proofs.Ending.{events_end}
+use Rattle.replica_histories.proofs.Ending.{events_end, steps_leave}
+use Rattle.replica_histories.proofs.Primaries.{no_views_are_left}
 use Rattle.replica_histories.proofs.Starting.{held_are_replicas}
 use Rattle.replica_histories.proofs.Questions.{others_owe_none}
 use Rattle.terms.specs.declared.order.Number.{Number}
 use Rattle.replica.specs.declared.taking.Touched.{Touched}
 use Rattle.replica.specs.declared.taking.Touched.TheVariants as touched
 use Rattle.replica.specs.State.{JoinedData, AreOne}
+use Rattle.replica.specs.Beginning.{CannotBegin}
 use Rattle.replica.specs.Desks.{given, Stands, FitsEvent, FitsWaiting, WasSaid, IsDeskOf, changes_of}
 use Rattle.replica.specs.Waiting.{count_unnumbered}
 use Rattle.replica.specs.Going.{IsSameParty, IsOneParty, Rests}
@@ -36,6 +39,7 @@ use Rattle.replica.specs.declared.replica.Event.TheVariants as events
 use Rattle.replica.specs.Inputs.{input_of}
 use Rattle.replica.specs.Joined.{Runs, Fits, Leads, me_of}
 use Rattle.replica.specs.Entering.{event_with, IsAnswered, IsTakenBeside, TakesInput}
+use Rattle.replica.proofs.Choosing.{begun_same}
 use Rattle.replica.proofs.Flags.{flags_given}
 use Rattle.replica.proofs.Parties.{same_party, one_of_same, ones_twice}
 
@@ -76,10 +80,10 @@ settled c me r desk history is fits count rest all = record {
 module _ (old new : JoinedData) (one : AreOne old.orderer old.desk) (party : IsOneParty old new) where
   pub ends : (c : Configuration) (past : List Entry) (input : Entry) (outs : List Output) (f : Fits c old past) (runs : Runs c old past) → is_output input ≡ false
       → Stands c (start_at c (me_of old) runs.desk old.orderer.log past runs.holds input) new.orderer new.desk [] outs → Rests new → IsAllNumbered new
-      → AnswersInput c (me_of old) past input (given (me_of old) outs) runs.holds.of_desk.point new.desk.executed.state.number
+      → AnswersInput c (me_of old) past input (given (me_of old) outs) runs.holds.of_desk.point new.desk.executed.state.number → CannotBegin c new.orderer
       → (outs ≡ []) ⊎ IsTaken c (me_of old) (start_at c (me_of old) runs.desk old.orderer.log past runs.holds input)
       → Fits c new (after_event (me_of old) input outs past) × AreSentAsMeant c (me_of old) outs
-  ends c past input outs f runs is st rest all answered why = (
+  ends c past input outs f runs is st rest all answered begun why = (
     subst (Fits c new) (behind_is (map (entry_of (me_of old)) outs) (input ∷ past)) (record {
       members_are = f.members_are ∙ sym (ap (λ (e : EndpointState). e.membership) party.endpoint);
       right = subst (λ (e : EndpointState). IsReplica c e.me now) (sym party.endpoint) (held_are_replicas c (me_of old) st.desk new.orderer.log now held);
@@ -91,6 +95,7 @@ module _ (old new : JoinedData) (one : AreOne old.orderer old.desk) (party : IsO
         said = subst (λ (x : EndpointState). WasSaid x.me new.orderer.last_checkpoint now) (sym party.endpoint) event.said;
         changes = subst (λ (x : EndpointState). FitsChanges c x.me new.orderer.log (changes_of new.orderer) now) (sym party.endpoint) event.changes;
         all = all;
+        begun = begun;
       };
     }),
     event.meant,
@@ -112,10 +117,16 @@ module _ (old new : JoinedData) (one : AreOne old.orderer old.desk) (party : IsO
       taken_so (inl e) = inl (ap (given (me_of old)) e)
       taken_so (inr t) = inr t
 
+      -- no new view is left
+      none_left : LeavesNoView c (me_of old) now
+      none_left = no_views_are_left c (me_of old) new.orderer.log (changes_of new.orderer) now (point_of st.desk event.fits.of_desk.states event.fits.of_desk.ran)
+          (steps_leave c (me_of old) s (given (me_of old) outs) (point_of st.desk event.fits.of_desk.states event.fits.of_desk.ran) event.fits.of_desk.leaves event.fits.of_desk.steps)
+          event.fits.of_log event.changes begun
+
       held : histories.Holds c (me_of old) st.desk new.orderer.log now
       held = events_end c (me_of old) runs.desk st.desk old.orderer.log new.orderer.log past (given (me_of old) outs) input runs.holds event.fits
           (settled c (me_of old) new st.desk now st.is event.fits.of_log event.numbers rest all)
-          (subst (λ (x : State). AnswersInput c (me_of old) past input (given (me_of old) outs) runs.holds.of_desk.point x.number) (sym st.is.state) answered) is (taken_so why)
+          (subst (λ (x : State). AnswersInput c (me_of old) past input (given (me_of old) outs) runs.holds.of_desk.point x.number) (sym st.is.state) answered) none_left is (taken_so why)
 
 -- ---- by what was touched
 
@@ -138,15 +149,16 @@ module _ (input : Entry) (old : JoinedData) (one : AreOne old.orderer old.desk) 
   -- an event that ends with numbers for what waits
   ends_numbered : (c : Configuration) (past : List Entry) (mid before new : JoinedData) (x outs : List Output) (f : Fits c old past) (runs : Runs c old past)
       → IsOneParty old mid → IsSameParty mid before → NumbersWaiting before x new outs → mid.desk.executed.state.number ≤ before.desk.executed.state.number → Rests before
-      → Stands c (event_with c old past runs input) before.orderer before.desk [] x
+      → Stands c (event_with c old past runs input) before.orderer before.desk [] x → CannotBegin c mid.orderer
       → IsTaken c (me_of mid) (event_with c old past runs input) × IsAnswered c (me_of mid) (event_with c old past runs input) mid.desk.executed.state.number
       → Fits c new (after_event (me_of old) input outs past) × AreSentAsMeant c (me_of old) outs
-  ends_numbered c past mid before new x outs f runs first then n above rest st t =
+  ends_numbered c past mid before new x outs f runs first then n above rest st begun t =
       let party = ones_twice old mid before first (one_of_same mid before then) in
       let p = n.proceeds rest c (event_with c old past runs input) (known c past f ∙ sym party.membership) st in
       ends old new one (ones_twice old before new party (one_of_same before new n.party)) c past input outs f runs is_input p (n.rests rest) n.all
       (subst (λ (e : EndpointState). AnswersInput c e.me past input (given (me_of old) outs) runs.holds.of_desk.point new.desk.executed.state.number) first.endpoint
-      (t.1 (given (me_of old) outs) new.desk.executed.state.number (let more = n.rises in omega (arith, above, more)))) (inr (taken_then c (event_with c old past runs input) mid first t.0))
+      (t.1 (given (me_of old) outs) new.desk.executed.state.number (let more = n.rises in omega (arith, above, more))))
+      (begun_same c before.orderer new.orderer n.party.orderer (begun_same c mid.orderer before.orderer then.orderer begun)) (inr (taken_then c (event_with c old past runs input) mid first t.0))
 
   -- What an event does, and then what is done behind it, by what it touched.
   leads_nothing : (new : JoinedData) (outs : List Output) → TakesInput input old touched.Nothing new outs → Leads old input outs new
@@ -154,21 +166,21 @@ module _ (input : Entry) (old : JoinedData) (one : AreOne old.orderer old.desk) 
       let runs = f.runs in
       let b = t.begins c past runs (known c past f) in
       ends old new one t.party c past input outs f runs is_input b.0 b.1.0 b.1.1
-      (subst (λ (e : EndpointState). AnswersInput c e.me past input (given e.me outs) runs.holds.of_desk.point new.desk.executed.state.number) t.party.endpoint b.1.2)
+      (subst (λ (e : EndpointState). AnswersInput c e.me past input (given e.me outs) runs.holds.of_desk.point new.desk.executed.state.number) t.party.endpoint b.1.2) b.2
       (why c (event_with c old past runs input) new outs t.party b.1.3)
 
   leads_waiting : (mid new : JoinedData) (x outs : List Output) → TakesInput input old touched.Waiting mid x → NumbersWaiting mid x new outs → Leads old input outs new
   leads_waiting mid new x outs t n c past f =
       let runs = f.runs in
       let b = t.begins c past runs (known c past f) in
-      ends_numbered c past mid mid new x outs f runs t.party (same_party mid) n (omega arith) b.1.0 b.0 (b.1.1.0, λ outputs executed above. b.1.1.1 outputs executed)
+      ends_numbered c past mid mid new x outs f runs t.party (same_party mid) n (omega arith) b.1.0 b.0 b.2 (b.1.1.0, λ outputs executed above. b.1.1.1 outputs executed)
 
   leads_row : (number : Number) (mid new : JoinedData) (x outs : List Output) → TakesInput input old (touched.Row number) mid x → FollowsUp (touched.Row number) mid x new outs → Leads old input outs new
   leads_row number mid new x outs t (voted, y, g, n) c past f =
       let runs = f.runs in
       let b = t.begins c past runs (known c past f) in
       let st = g.proceeds b.1.0 c (event_with c old past runs input) (known c past f ∙ sym t.party.membership) b.0 in
-      ends_numbered c past mid voted new y outs f runs t.party g.party n g.rises (g.rests b.1.0) st
+      ends_numbered c past mid voted new y outs f runs t.party g.party n g.rises (g.rests b.1.0) st b.2
       (beside_answered c (me_of mid) (event_with c old past runs input) mid.desk.executed.state.number b.1.1)
 
   leads_state : (mid new : JoinedData) (x outs : List Output) → TakesInput input old touched.State mid x → ExecutesAndNumbers mid x new outs → Leads old input outs new
@@ -176,7 +188,7 @@ module _ (input : Entry) (old : JoinedData) (one : AreOne old.orderer old.desk) 
       let runs = f.runs in
       let b = t.begins c past runs (known c past f) in
       let st = g.proceeds b.1.0 c (event_with c old past runs input) (known c past f ∙ sym t.party.membership) b.0 in
-      ends_numbered c past mid run new y outs f runs t.party g.party n g.rises (g.rests b.1.0) st (b.1.1, b.1.2)
+      ends_numbered c past mid run new y outs f runs t.party g.party n g.rises (g.rests b.1.0) st b.2 (b.1.1, b.1.2)
 
   leads_view : (mid new : JoinedData) (x outs : List Output) → TakesInput input old touched.View mid x → ExecutesAndNumbers mid x new outs → Leads old input outs new
   leads_view mid new x outs t (run, y, g, n) c past f =
@@ -192,6 +204,7 @@ module _ (input : Entry) (old : JoinedData) (one : AreOne old.orderer old.desk) 
       ends old new one whole c past input outs f runs is_input p (n.rests (g.rests b.1.0)) n.all
       (subst (λ (e : EndpointState). AnswersInput c e.me past input (given (me_of old) outs) runs.holds.of_desk.point new.desk.executed.state.number) t.party.endpoint
       (b.1.1.1 (given (me_of old) outs) new.desk.executed.state.number (there ∙ n.party.orderer.target ∙ g.party.orderer.target)))
+      (begun_same c run.orderer new.orderer n.party.orderer (begun_same c mid.orderer run.orderer g.party.orderer b.2))
       (inr (taken_then c s mid t.party b.1.1.0))
 
   -- whatever it touched

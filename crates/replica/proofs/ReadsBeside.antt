@@ -11,14 +11,14 @@ use Rattle.wire.specs.Words.{said, receivers_of}
 use Rattle.signing.specs.Heard.{heard}
 use Rattle.protocol.specs.System.Configuration.{Configuration, members, primary}
 use Rattle.protocol.specs.System.Frames.{IsPosted}
-use Rattle.protocol.specs.System.Trace.{Entry, Has}
+use Rattle.protocol.specs.System.Trace.{Entry, Once, Has}
 use Rattle.protocol.specs.System.Trace.Entry.{Got, Sent}
 use Rattle.protocol.specs.Replica.Selection.{is_quorum}
 use Rattle.protocol.specs.Replica.Certificates.{view, low, is_in_marks}
 use Rattle.protocol.specs.Replica.State.{Call, call_in, tuples}
 use Rattle.protocol.specs.Replica.RightReplica.{Point, MaySend, IsAddressed, with_waiting, waiting_after, kept_states, Executes}
 use Rattle.protocol.specs.Replica.Transfers.{fetching}
-use Rattle.protocol.specs.Replica.Owed.{Owes, Proceeds, IsNumbered}
+use Rattle.protocol.specs.Replica.Owed.{StartsAhead, Owes, Proceeds, IsNumbered}
 use Rattle.protocol.proofs.Words.Moving.{no_reason}
 use Rattle.protocol.proofs.Words.Options.{some_injective}
 use Rattle.replica_histories.specs.Questions.{read_from, read_reply, ordered_from}
@@ -37,7 +37,7 @@ use Rattle.replica.specs.Reads.{is_read_request, is_read_reply}
 use Rattle.protocol.proofs.Words.Linking.{heard_said}
 use Rattle.replica.proofs.IdleEntries.{got_idle, sent_idle, reply_is_quiet}
 use Rattle.replica.proofs.SameWords.{idle_same, same_then, active_same, count_checkpoints_same}
-use Rattle.replica.proofs.PartsJoining.{prepared_same, committed_same, taken_none, none_some, turned}
+use Rattle.replica.proofs.PartsJoining.{prepared_same, committed_same, taken_none, none_some, idle_starts, can_begin_idle, spent_on, turned}
 
 -- an idle entry numbers nothing
 pub idle_keeps : (c : Configuration) (me v : ℕ) (past : List Entry) (e : Entry) → IsIdle c me e → KeepsNumbers c me v past e
@@ -95,6 +95,9 @@ module _ (c : Configuration) (me : ℕ) (h : List Entry) (p : Point) (bytes answ
   rest : Rests c me h p
   rest = rests c me h p proceeds
 
+  pub started : (k : ℕ) → Once (StartsAhead c k) now → Once (StartsAhead c k) h
+  started k start = idle_starts c me k h (Got me bytes) got_quiet (idle_starts c me k (Got me bytes ∷ h) (Sent me answer) sent_quiet start)
+
   numbered : (v a t : ℕ) → IsNumbered c me h v a t → IsNumbered c me now v a t
   numbered v a t (batch, (inl at), has) = (batch, inl (at.0, same.logged v at.0 ∙ at.1), has)
   numbered v a t (batch, (inr at), has) = (batch, inr (inr (inr at)), has)
@@ -122,7 +125,12 @@ module _ (c : Configuration) (me : ℕ) (h : List Entry) (p : Point) (bytes answ
     fetched_page = λ s k index other st kept. let bad : false ≡ true = read_only (record { sender = s; message = Fetch k levels.Page index }) other in absurd cc;
     goes_on_by_digests = λ s k index level digests other awaited. let bad : false ≡ true = read_only (record { sender = s; message = Meta k level index digests }) other in absurd cc;
     goes_on_by_page = λ s k index text other awaited. let bad : false ≡ true = read_only (record { sender = s; message = Page k index text }) other in absurd cc;
-    fetches = λ k root q above later. let most = fetched k root (subst (λ (n : ℕ). is_quorum c n ≡ true) (count_checkpoints_same c h now same.checkpoints (record { number = k; digest = root })) q) above in absurd (omega (arith, most, later));
+    fetches = λ k root q above later. let most = fetched k root (inl (subst (λ (n : ℕ). is_quorum c n ≡ true) (count_checkpoints_same c h now same.checkpoints (record { number = k; digest = root })) q)) above in absurd (omega (arith, most, later));
+    fetches_start = λ k start above later. let most = fetched k [] (inr (started k start)) above in absurd (omega (arith, most, later));
+    fetches_again = λ k index level tick asked above. absurd tick;
+    new_views = λ other can. spent_on (Got me bytes ∷ h) (Sent me answer) (spent_on h (Got me bytes) (rest.new_views other
+        (can_begin_idle c me h (Got me bytes) got_quiet (idle_same c me (Got me bytes) got_quiet h) other
+        (can_begin_idle c me (Got me bytes ∷ h) (Sent me answer) sent_quiet (idle_same c me (Sent me answer) sent_quiet (Got me bytes ∷ h)) other can))));
     view_changes = λ vc other moves may within says. absurd (no_reason c me h bytes p.waiting vc.view (λ s x asks. let bad : false ≡ true = read_only (record { sender = s; message = ViewChange x }) asks in absurd cc) moves);
     dropped = λ other got drops. let at : bytes ≡ other = cc in
         absurd (drops (read_from client timestamp op) (subst (λ (b : List ℕ). heard (members c) me b ≡ Some (read_from client timestamp op)) at hears) is_read);
@@ -159,14 +167,16 @@ module _ (c : Configuration) (me : ℕ) (d : DeskData) (h : List Entry) (hd : Ho
   -- idle entries, over which the point stays but for what ran
   module _ (now : List Entry) (s : CertifySame c me h now) (later : Point) (proceeds : Proceeds c me now [] later later)
       (same_point : later ≡ record hd.holds.point { ran = [] }) (frames : FitsFrames c me hd.desk now) (opened : FitsOpen c me hd.desk.transfer hd.desk.state.number now)
-      (flags : (v used : ℕ) → FitsFlags c me v used d.waiting hd.desk.state hd.desk.waiting h → FitsFlags c me v used d.waiting hd.desk.state hd.desk.waiting now) where
+      (flags : (v used : ℕ) → FitsFlags c me v used d.waiting hd.desk.state hd.desk.waiting h → FitsFlags c me v used d.waiting hd.desk.state hd.desk.waiting now)
+      (started : (k : ℕ) → Once (StartsAhead c k) now → Once (StartsAhead c k) h) where
     over : CertifySame c me now h
     over = turned c me h now s
 
     fetched : QuorumsFetched c hd.desk.state.number now
-    fetched k root q above =
+    fetched k root (inl q) above =
         subst (λ (n : ℕ). k ≤ n) (sym s.fetching)
-        (hd.holds.fetches k root (subst (λ (n : ℕ). is_quorum c n ≡ true) (count_checkpoints_same c h now s.checkpoints (record { number = k; digest = root })) q) above)
+        (hd.holds.fetches k root (inl (subst (λ (n : ℕ). is_quorum c n ≡ true) (count_checkpoints_same c h now s.checkpoints (record { number = k; digest = root })) q)) above)
+    fetched k root (inr start) above = subst (λ (n : ℕ). k ≤ n) (sym s.fetching) (hd.holds.fetches k root (inr (started k start)) above)
 
     reached : IsReached c me (low c me h) hd.desk.state.number [] h → IsReached c me (low c me now) hd.desk.state.number [] now
     reached (inl below) = inl (subst (λ (n : ℕ). n ≤ hd.desk.state.number) (sym s.low) below)

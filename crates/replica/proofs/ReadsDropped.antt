@@ -10,13 +10,13 @@ use Rattle.wire.specs.Messages.{BodyData as Body, MessageData as Message, reques
 use Rattle.wire.specs.Words.{said}
 use Rattle.signing.specs.Heard.{heard}
 use Rattle.protocol.specs.System.Configuration.{Configuration, members}
-use Rattle.protocol.specs.System.Trace.{Entry, Has}
+use Rattle.protocol.specs.System.Trace.{Entry, Once, Has}
 use Rattle.protocol.specs.System.Trace.Entry.{Got}
 use Rattle.protocol.specs.Replica.Selection.{is_quorum}
 use Rattle.protocol.specs.Replica.Certificates.{is_in_marks}
 use Rattle.protocol.specs.Replica.State.{Call, call_in}
 use Rattle.protocol.specs.Replica.RightReplica.{Point, with_waiting, waiting_after}
-use Rattle.protocol.specs.Replica.Owed.{Owes, Proceeds, IsNumbered}
+use Rattle.protocol.specs.Replica.Owed.{StartsAhead, Owes, Proceeds, IsNumbered}
 use Rattle.replica_histories.specs.Questions.{read_from, ordered_from}
 use Rattle.replica_histories.specs.TransfersQuorums.{QuorumsFetched}
 use Rattle.replica_histories.proofs.Resting.{Rests, rests}
@@ -26,7 +26,7 @@ use Rattle.protocol.proofs.Words.Moving.{no_reason}
 use Rattle.protocol.proofs.Words.Linking.{heard_said}
 use Rattle.replica.proofs.IdleEntries.{got_idle, read_is_quiet}
 use Rattle.replica.proofs.SameWords.{idle_same, active_same, count_checkpoints_same}
-use Rattle.replica.proofs.PartsJoining.{prepared_same, committed_same}
+use Rattle.replica.proofs.PartsJoining.{prepared_same, committed_same, idle_starts, can_begin_idle, spent_on}
 
 pub no_call : (c : Configuration) (s : ℕ) (m : Message) → is_read_request (record { sender = s; message = m }) ≡ true → call_in c (record { sender = s; message = m }) ≡ None
 no_call c s (Request t modes.ReadOnly op) h = refl
@@ -61,6 +61,9 @@ module _ (c : Configuration) (me : ℕ) (h : List Entry) (p : Point) (bytes : Li
   rest : Rests c me h p
   rest = rests c me h p proceeds
 
+  pub started : (k : ℕ) → Once (StartsAhead c k) now → Once (StartsAhead c k) h
+  started k start = idle_starts c me k h (Got me bytes) got_quiet start
+
   numbered : (v a t : ℕ) → IsNumbered c me h v a t → IsNumbered c me now v a t
   numbered v a t (batch, (inl at), has) = (batch, inl (at.0, same.logged v at.0 ∙ at.1), has)
   numbered v a t (batch, (inr at), has) = (batch, inr (inr at), has)
@@ -88,7 +91,10 @@ module _ (c : Configuration) (me : ℕ) (h : List Entry) (p : Point) (bytes : Li
     fetched_page = λ s k index other st kept. let bad : false ≡ true = reads (record { sender = s; message = Fetch k levels.Page index }) other in absurd cc;
     goes_on_by_digests = λ s k index level digests other awaited. let bad : false ≡ true = reads (record { sender = s; message = Meta k level index digests }) other in absurd cc;
     goes_on_by_page = λ s k index text other awaited. let bad : false ≡ true = reads (record { sender = s; message = Page k index text }) other in absurd cc;
-    fetches = λ k root q above later. let most = fetched k root (subst (λ (n : ℕ). is_quorum c n ≡ true) (count_checkpoints_same c h now same.checkpoints (record { number = k; digest = root })) q) above in absurd (omega (arith, most, later));
+    fetches = λ k root q above later. let most = fetched k root (inl (subst (λ (n : ℕ). is_quorum c n ≡ true) (count_checkpoints_same c h now same.checkpoints (record { number = k; digest = root })) q)) above in absurd (omega (arith, most, later));
+    fetches_start = λ k start above later. let most = fetched k [] (inr (started k start)) above in absurd (omega (arith, most, later));
+    fetches_again = λ k index level tick asked above. absurd tick;
+    new_views = λ other can. spent_on h (Got me bytes) (rest.new_views other (can_begin_idle c me h (Got me bytes) got_quiet same other can));
     view_changes = λ vc other moves may within said. absurd (no_reason c me h bytes p.waiting vc.view (λ s x asks. let bad : false ≡ true = reads (record { sender = s; message = ViewChange x }) asks in absurd cc) moves);
     dropped = λ other got drops. refl;
   }

@@ -92,7 +92,8 @@ module _ (c : Configuration) (me : ℕ) (d : DeskData) (h : List Entry) (bytes :
           (same_point (beside.waits c me h p bytes answer client t op hd.holds.proceeds fetched hears is_read frame))
           (frames_on c me hd.desk got (Sent me answer) (frames_on c me hd.desk h (Got me bytes) hd.holds.frames))
           (open_stays c me hd.desk.transfer hd.desk.state.number got (Sent me answer) (asks_none answer me (read_reply p.state client t op) frame.says refl) tt opened)
-          (λ v used f. flags_on v used got (Sent me answer) sent_quiet (flags_on v used h (Got me bytes) got_quiet f)),
+          (λ v used f. flags_on v used got (Sent me answer) sent_quiet (flags_on v used h (Got me bytes) got_quiet f))
+          (beside.started c me h p bytes answer client t op hd.holds.proceeds fetched hears is_read frame),
       inl (mid, beside.goes_on c me h p bytes answer client t op hd.holds.proceeds fetched hears is_read frame),
       unread (Sent me answer) got (replies_are_marked answer (record { sender = me; message = read_reply p.state client t op }) frame.says refl) ∙ unread (Got me bytes) h marks,
     )
@@ -109,7 +110,8 @@ module _ (c : Configuration) (me : ℕ) (d : DeskData) (h : List Entry) (bytes :
           (dropped.goes_on c me h p bytes hd.holds.proceeds fetched says never)
           (same_point (dropped.waits c me h p bytes hd.holds.proceeds fetched says never))
           (frames_on c me hd.desk h (Got me bytes) hd.holds.frames) opened
-          (λ v used f. flags_on v used h (Got me bytes) (dropped.got_quiet c me h p bytes hd.holds.proceeds fetched says never) f),
+          (λ v used f. flags_on v used h (Got me bytes) (dropped.got_quiet c me h p bytes hd.holds.proceeds fetched says never) f)
+          (dropped.started c me h p bytes hd.holds.proceeds fetched says never),
       inl (mid, dropped.goes_on c me h p bytes hd.holds.proceeds fetched says never),
       unread (Got me bytes) h marks,
     )

@@ -262,6 +262,7 @@ module _ (old : JoinedData) (client : ClientId) (timestamp : Timestamp) (bytes :
       pays c (start c past runs known) old.orderer known (stands_seen c past runs known (seen_of_kept old.desk.executed.state k t kept has same)),
       leaves c past runs known outs (owes_none c past runs known (seen_fresh c past runs known (seen_of_kept old.desk.executed.state k t kept has same)) (given (me_of old) outs) old.desk.executed.state.number)
           (inr (counts c past runs known (inl (kept, ap (λ (st : State). kept_of st k) (state_is c past runs known) ∙ has, same)))),
+      runs.begun,
     );
   }
 
@@ -273,6 +274,7 @@ module _ (old : JoinedData) (client : ClientId) (timestamp : Timestamp) (bytes :
       subst (λ (xs : List Output). Stands c (start c past runs known) old.orderer old.desk [] xs) (sym silent)
           (due_none old.desk c (start c past runs known) old.orderer [] none (stands_past c past runs known is)),
       leaves c past runs known outs (owes_none c past runs known (past_fresh c past runs known is) (given (me_of old) outs) old.desk.executed.state.number) (inl silent),
+      runs.begun,
     );
   }
 
@@ -288,6 +290,7 @@ module _ (old : JoinedData) (client : ClientId) (timestamp : Timestamp) (bytes :
         no_older_same c k t op old.desk.waiting.requests runs.desk.waiting r runs.is_desk.waiting runs.is_desk.differ found
             (ap (option_and_then (call_in c)) says ∙ call_of_bytes c (me_of old) bytes k t op (h c past runs known)),
       )))),
+      runs.begun,
     );
   }
     where
@@ -377,6 +380,7 @@ module _ (old : JoinedData) (client : ClientId) (timestamp : Timestamp) (bytes :
             owes_none c past runs known (λ has. none_waits c k t op old.desk.waiting.requests runs.desk.waiting runs.is_desk.waiting (are_older c past runs known) has),
           ),
         ),
+        runs.begun,
       );
     }
 

@@ -1,5 +1,5 @@
 -- An event of time: an open transfer asks again, and the replica moves to the next view.
-use Rattle.std.proofs.Common.{◌≡◌, ◌≢◌, ℕ, suc, ◌+◌, ◌^◌, ◌<◌, ◌⊎◌, max, inl, inr, true, false, List, [], ◌∷◌, map, Option, Some, Result, Ok, Err, IfOk, option_map}
+use Rattle.std.proofs.Common.{◌≡◌, ◌≢◌, ℕ, suc, ◌+◌, ◌^◌, ◌<◌, ◌⊎◌, max, inl, inr, true, false, List, [], ◌∷◌, map, Option, None, Some, Result, Ok, Err, IfOk, option_map}
 use Rattle.std.proofs.Common.{refl, sym, ap, ap₂, ◌∙◌, subst, arith}
 use Rattle.std.proofs.lemmas.Bool.{leb-false, leb-true, ltb-true}
 use Rattle.events.specs.declared.output.Output.{Output}
@@ -16,6 +16,7 @@ use Rattle.view_change.specs.Laws.{ChangesAreJudged}
 use Rattle.replica_histories.specs.Changes.{FitsChanges, Passes}
 use Rattle.replica_histories.specs.Desk.{Snapshot, snapshot_of}
 use Rattle.replica_histories.specs.Questions.{AnswersInput, MovesOn}
+use Rattle.replica_histories.specs.Inputs.{again_due}
 use Rattle.replica_histories.specs.Views.{entries_of}
 use Rattle.replica_histories.specs.Transfers.{FitsOpen}
 use Rattle.replica_histories.specs.Events as histories
@@ -30,7 +31,7 @@ use Rattle.replica.specs.declared.taking.Touched.{Touched}
 use Rattle.replica.specs.declared.taking.Touched.TheVariants as touched
 use Rattle.state_transfer.specs.Transfer.{TransferData}
 use Rattle.replica.specs.State.{OrdererData, JoinedData, OpenData, AreOne}
-use Rattle.replica.specs.Beginning.{MayBegin}
+use Rattle.replica.specs.Beginning.{MayBegin, HasNoView}
 use Rattle.replica.specs.declared.waiting.WaitingRequest.{WaitingRequest}
 use Rattle.replica.specs.Changing.{ChangesView, HasReason, IsDue, IsNotDue, IsUnsayable, LeavesView, aimed_view, change_for}
 use Rattle.replica.specs.Desks.{given, AreCallsOf, FitsEvent, Stands, changes_of}
@@ -42,6 +43,7 @@ use Rattle.replica.specs.Numbering.{IsAllNumbered}
 use Rattle.replica.specs.Receiving.{JudgesAlike}
 use Rattle.replica.proofs.Asking.{asks_again}
 use Rattle.replica.proofs.Beginning.{rests}
+use Rattle.replica.proofs.Choosing.{active_begins_none}
 use Rattle.replica.proofs.Unsayable.{unsaid_spent}
 use Rattle.replica.proofs.Parties.{one_self, ones_twice}
 use Rattle.replica.proofs.Staying.{numbers_beside, said_on}
@@ -62,17 +64,17 @@ module _ (r : JoinedData) (one : AreOne r.orderer r.desk) where
     abbrev start : Start
     start = event_with c r past runs tick
 
-    entered : histories.Fits c me start runs.desk o.log [] []
+    entered : histories.Fits c me start runs.desk o.log (again_due runs.desk.transfer) []
     entered = ticks_fit c me runs.desk o.log past runs.holds
 
     -- what is held for changes of the view stays
     held : FitsChanges c me o.log (changes_of o) (tick ∷ past)
     held = changes_stay c me past tick o.log o.log (changes_of o) o.claims
-        (inputs_enter c me runs.desk runs.desk o.log o.log [] past tick runs.holds entered)
+        (inputs_enter c me runs.desk runs.desk o.log o.log (again_due runs.desk.transfer) past tick runs.holds entered)
         (record { view = refl; active = refl }) (silent_keep c me past tick tt)
         (claims_are_above c me o.log past o.claims runs.holds.of_log.fits runs.changes.claims) runs.changes
 
-    begins : FitsEvent c me start o runs.desk r.desk.waiting [] []
+    begins : FitsEvent c me start o runs.desk r.desk.waiting (again_due runs.desk.transfer) []
     begins = record {
       fits = entered;
       numbers = numbers_beside c me r.desk.waiting o runs.desk past tick runs.holds.of_log.fits.faults
@@ -89,13 +91,15 @@ module _ (r : JoinedData) (one : AreOne r.orderer r.desk) where
     goes_on : (outs : List Output) → members c ≡ o.endpoint.membership → SaysFetch r [] outs
         → FitsEvent c me start o runs.desk r.desk.waiting [] outs
     goes_on outs known (inl (none, same)) =
-        subst (λ (os : List Output). FitsEvent c me start o runs.desk r.desk.waiting [] os) (sym same) begins
+        let closed : runs.desk.transfer ≡ None = runs.is_desk.transfer ∙ ap (option_map (λ (y : OpenData). y.transfer)) none in
+        subst (λ (os : List Output). FitsEvent c me start o runs.desk r.desk.waiting [] os) (sym same)
+        (subst (λ (t : Option TransferData). FitsEvent c me start o runs.desk r.desk.waiting (again_due t) []) closed begins)
     goes_on outs known (inr (x, there, says)) =
         let again = ticks_may_ask c me x.transfer runs.desk.state.number runs.desk.state past
         (subst (λ (t : Option TransferData). FitsOpen c me t runs.desk.state.number past) (open_is x there)
         runs.holds.of_desk.opened) in
         asks_again c start o runs.desk r.desk.waiting [] outs x.transfer known says [] (open_is x there) again.0 again.1
-        begins
+        (subst (λ (t : Option TransferData). FitsEvent c me start o runs.desk r.desk.waiting (again_due t) []) (open_is x there) begins)
 
     stands : (outs : List Output) → members c ≡ r.desk.membership → SaysFetch r [] outs
         → Stands c start o r.desk [] outs
@@ -154,7 +158,7 @@ module _ (r : JoinedData) (one : AreOne r.orderer r.desk) where
     unsaid_move v alike judge known due unsaid outputs vc bytes reason may within says = inr (all_are_spent c me o.log (changes_of o) past spent runs.changes)
       where
         passes : Passes c me past tick o.log o.log
-        passes = inputs_enter c me runs.desk runs.desk o.log o.log [] past tick runs.holds entered
+        passes = inputs_enter c me runs.desk runs.desk o.log o.log (again_due runs.desk.transfer) past tick runs.holds entered
 
         kept : map snapshot_of (kept_states o.log.low point.snapshots) ≡ runs.desk.snapshots
         kept = subst (λ (h : ℕ). map snapshot_of (kept_states h point.snapshots) ≡ runs.desk.snapshots) runs.holds.of_log.fits.low runs.holds.of_desk.kept
@@ -186,6 +190,7 @@ module _ (r : JoinedData) (one : AreOne r.orderer r.desk) where
           stands c past runs outs known says,
           leaves c past runs r outs (rests c r past runs) runs.all
               (answers c past runs (given me outs) r.desk.executed.state.number (no_move c past runs (subst (λ (d : JoinedData). IsNotDue d) same none) (given me outs))),
+          runs.begun,
         );
       })
 
@@ -200,6 +205,7 @@ module _ (r : JoinedData) (one : AreOne r.orderer r.desk) where
           leaves c past runs r outs (rests c r past runs) runs.all
               (answers c past runs (given me outs) r.desk.executed.state.number (unsaid_move c past runs v alike judge known (subst (λ (d : JoinedData). IsDue d v) same due)
               (subst (λ (d : JoinedData). IsUnsayable d.orderer (change_for v (entries_of d.desk.snapshots) d.orderer)) same stays.2) (given me outs))),
+          runs.begun,
         );
       })
 
@@ -250,23 +256,24 @@ module _ (r : JoinedData) (one : AreOne r.orderer r.desk) where
         subst (λ (m : ℕ). target (behind (start c past runs) (given m y)) ≡ mid.orderer.target) mine (stands_left c past runs known).fits.changes.target ∙ left.target
 
     -- the view is left, and does not begin
-    ticks_left : TakesTick r touched.Nothing mid y
-    ticks_left = record {
+    ticks_left : HasNoView mid → TakesTick r touched.Nothing mid y
+    ticks_left none = record {
       party = left.party;
       begins = λ c past runs known. (
         stands_left c past runs known,
         leaves c past runs mid y (at_rest c past runs) none_numbered
             (subst (λ (e : EndpointState). AnswersInput c e.me past tick (given e.me y) runs.holds.of_desk.point mid.desk.executed.state.number) (sym left.party.endpoint)
             (moved c past runs (given me y) mid.desk.executed.state.number (target_left c past runs known))),
+        none c (stands_left c past runs known).is.members_are (stands_left c past runs known).is.period_is,
       );
     }
 
     -- or the next one begins
     begins_then : (what : Touched) (new : JoinedData) (outs : List Output) → MayBegin mid y what new outs
         → TakesTick r what new outs
-    begins_then touched.Nothing new outs (same, still) =
+    begins_then touched.Nothing new outs (same, still, none) =
         subst (λ (d : JoinedData). TakesTick r touched.Nothing d outs) (sym same)
-        (subst (λ (os : List Output). TakesTick r touched.Nothing mid os) (sym still) ticks_left)
+        (subst (λ (os : List Output). TakesTick r touched.Nothing mid os) (sym still) (ticks_left none))
     begins_then touched.Waiting new outs h = absurd h
     begins_then (touched.Row number) new outs h = absurd h
     begins_then touched.State new outs h = absurd h
@@ -283,6 +290,7 @@ module _ (r : JoinedData) (one : AreOne r.orderer r.desk) where
                 (moved c past runs outputs executed (at ∙ b.target ∙ left.target)),
           ),
         ),
+        active_begins_none c new.orderer b.active,
       );
     }
 

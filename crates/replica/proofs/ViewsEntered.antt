@@ -27,7 +27,7 @@ use Rattle.replica_histories.specs.Events.{Start, behind}
 use Rattle.replica_histories.specs.Transfers.{open_number}
 use Rattle.replica_histories.specs.Views.{begun_log, start_due, with_batches}
 use Rattle.replica_histories.specs.Changes.{AddsBatches, BeginsClaims, FitsChanges, IsOwnFrame, Passes, SpendsLeaves}
-use Rattle.replica_histories.proofs.Batches.{begun_batch, begun_low, begun_view, stays}
+use Rattle.replica_histories.proofs.Batches.{begun_active, begun_batch, begun_low, begun_view, stays}
 use Rattle.replica_histories.proofs.Beginning.{start_small}
 use Rattle.replica_histories.proofs.ChangesMade.{views_are_begun}
 use Rattle.replica_histories.proofs.Cutting.{cut_same}
@@ -240,6 +240,13 @@ entered_voted new own r before n after is small x i = subst (λ (y : JoinedData)
     pick (inr voted) =
         inr (subst (λ (o : OrdererData). IsVoted o.log i)
         (sym (fetched_so (start_in new) (begun_parts new own x.claims x.calls r) x.fetched before x.said x.fetches).orderer) voted)
+
+-- and the replica is active
+pub entered_active : (new : NewViewData) (own : Option (List ℕ)) (r : JoinedData) (before : List Output) (n : JoinedData) (after : List Output) → IsLog r.orderer.log → new.start < 2 ^ 48 → Entered new own r before n after → n.orderer.log.active ≡ true
+entered_active new own r before n after is small x =
+    ap (λ (y : JoinedData). y.orderer.log.active) x.new_is ∙ x.votes.same.log.active
+    ∙ ap (λ (o : OrdererData). o.log.active) (fetched_so (start_in new) (begun_parts new own x.claims x.calls r) x.fetched before x.said x.fetches).orderer
+    ∙ begun_active r.orderer.log new is small
 
 -- ---- the view begins
 

@@ -81,7 +81,12 @@ says_prepare number digest old new before after is own due says adds =
     subst (λ (x : OrdererData). SaysPrepare number old before x after) (sym adds.new_is) (record {
       says = record {
         goes = prepare_goes number digest adds.vote old before after own.0 due adds.sender adds.digest_is says;
-        same = record { endpoint = refl; log = same_rows old.log (with_prepare old.log number adds.vote).rows; target = refl };
+        same = record {
+          endpoint = refl;
+          log = same_rows old.log (with_prepare old.log number adds.vote).rows;
+          target = refl;
+          choice = λ off. record { received = refl; spent = refl; logged = λ claim has. has };
+        };
         low = refl;
         used = refl;
         others = λ i ne v. (due_prepare_elsewhere old.log i number _ inside ne ∙ v.0, due_commit_elsewhere old.log i number _ inside ne ∙ v.1);
@@ -159,7 +164,12 @@ claimed_commit number digest text old new before after is own due hashed says ad
     subst (λ (x : OrdererData). SaysCommit number old before x after) (sym adds.new_is) (record {
       says = record {
         goes = commit_goes number digest text adds.vote old before after own.0 due hashed adds.sender adds.digest_is says;
-        same = record { endpoint = refl; log = same_rows old.log (with_commit old.log number adds.vote).rows; target = refl };
+        same = record {
+          endpoint = refl;
+          log = same_rows old.log (with_commit old.log number adds.vote).rows;
+          target = refl;
+          choice = λ off. record { received = refl; spent = refl; logged = λ claim has. has };
+        };
         low = refl;
         used = refl;
         others = λ i ne v. (due_prepare_elsewhere old.log i number _ inside ne ∙ v.0, due_commit_elsewhere old.log i number _ inside ne ∙ v.1);

@@ -1,13 +1,25 @@
 -- New views (Castro and Liskov, TOCS 2002, on view changes).
-use Rattle.std.specs.Prelude.{◌≡◌, List, []}
+use Rattle.std.specs.Prelude.{◌≡◌, ◌⊎◌, true, false, List, []}
 use Rattle.events.specs.declared.output.Output.{Output}
 use Rattle.protocol.specs.System.Configuration.{Configuration, members}
+use Rattle.ordering.specs.Log as logs
 use Rattle.replica_histories.specs.Events.{Start}
+use Rattle.replica_histories.specs.Primaries.{SelectsNothing}
 use Rattle.replica.specs.declared.taking.Touched.{Touched}
 use Rattle.replica.specs.declared.taking.Touched.TheVariants as touched
-use Rattle.replica.specs.State.{JoinedData}
+use Rattle.replica.specs.State.{OrdererData, JoinedData}
 use Rattle.replica.specs.Desks.{Stands}
 use Rattle.replica.specs.Going.{IsOneParty, IsVotedAll, Rests}
+
+-- The orderer can't begin the view that it moves to: it is active, or not that view's primary; or over the view changes
+-- that it holds nothing is selected with what it claims, or its keys are spent.
+abbrev pub CannotBegin : Configuration → OrdererData → Type 0
+CannotBegin c o = o.log.active ≡ false → logs.primary o.log o.target ≡ o.log.me
+    → SelectsNothing c o.target o.received.held o.claims ⊎ (o.spent ≡ 64)
+
+-- It can't in any configuration of the replica's members, with checkpoints as often.
+abbrev pub HasNoView : JoinedData → Type 0
+HasNoView r = (c : Configuration) → members c ≡ r.desk.membership → c.period ≡ r.desk.period → CannotBegin c r.orderer
 
 -- The replica begins a view by an own new view: what stood stands, and all is said that its log asks for then.
 pub record BeginsView (old : JoinedData) (before : List Output) (new : JoinedData) (after : List Output) : Type 0
@@ -16,10 +28,11 @@ pub record BeginsView (old : JoinedData) (before : List Output) (new : JoinedDat
         → Stands c s old.orderer old.desk [] before → Stands c s new.orderer new.desk [] after
     pub party : IsOneParty old new
     pub target : new.orderer.target ≡ old.orderer.target
+    pub active : new.orderer.log.active ≡ true
     pub voted : Rests old → IsVotedAll new.orderer.log
 
--- So it does, and the view is touched; or nothing changes.
+-- So it does, and the view is touched; or it can't, and nothing changes.
 abbrev pub MayBegin : JoinedData → List Output → Touched → JoinedData → List Output → Type 0
 MayBegin old before touched.View new after = BeginsView old before new after
-MayBegin old before touched.Nothing new after = (new ≡ old) × (after ≡ before)
+MayBegin old before touched.Nothing new after = (new ≡ old) × (after ≡ before) × HasNoView old
 MayBegin old before _ new after = ⊥

@@ -18,6 +18,7 @@ use Rattle.replica_histories.specs.Events.{Start, behind, IsTaken}
 use Rattle.replica.specs.declared.taking.Touched.{Touched}
 use Rattle.replica.specs.declared.taking.Touched.TheVariants as touched
 use Rattle.replica.specs.State.{JoinedData}
+use Rattle.replica.specs.Beginning.{CannotBegin}
 use Rattle.replica.specs.Desks.{given, Stands}
 use Rattle.replica.specs.Going.{IsVotedBut, IsVotedAll, IsOneParty, Rests}
 use Rattle.replica.specs.Numbering.{IsAllNumbered}
@@ -65,13 +66,14 @@ Leaves c s touched.State r outs = IsVotedAll r.orderer.log × IsTaken c (me_of r
     × IsAnswered c (me_of r) s r.desk.executed.state.number
 Leaves c s touched.View r outs = IsVotedAll r.orderer.log × IsTakenAnswered c r s
 
--- In an event with this input, what holds of the past fits the event, with these outputs.
+-- In an event with this input, what holds of the past fits the event, with these outputs. No new view is left that the
+-- replica could send.
 pub record TakesInput (input : Entry) (old : JoinedData) (touched : Touched) (new : JoinedData)
     (outs : List Output) : Type 0 where
   pub party : IsOneParty old new
   pub begins : (c : Configuration) (past : List Entry) (runs : Runs c old past) → members c ≡ old.desk.membership
       → Stands c (event_with c old past runs input) new.orderer new.desk [] outs
-      × Leaves c (event_with c old past runs input) touched new outs
+      × Leaves c (event_with c old past runs input) touched new outs × CannotBegin c new.orderer
 
 -- So it is where bytes are got, or time goes by.
 abbrev pub TakesBytes : List ℕ → JoinedData → Touched → JoinedData → List Output → Type 0

@@ -17,6 +17,7 @@ use Rattle.protocol.specs.Replica.Selection.{may_select}
 use Rattle.protocol.specs.Replica.State.{call_of}
 use Rattle.replica_histories.specs.Numbers.{BegunCall as HistoryCall, begun_in}
 use Rattle.replica_histories.specs.Changes.{AddsBatches}
+use Rattle.replica_histories.specs.Primaries.{SelectsNothing}
 use Rattle.replica_histories.specs.Views.{with_batches}
 use Rattle.replica.specs.declared.waiting.BegunCall.{BegunCall}
 use Rattle.replica.specs.State.{OrdererData, DeskData, JoinedData}
@@ -112,6 +113,11 @@ pub record IsSelection (o : OrdererData) (start : ℕ) (root : List ℕ) (texts 
   pub meets : meets (sized o.received.sizes) o.target (pairs_for o.target o.received.held) start root texts ≡ true
   pub from : AreFrom o.claims.texts texts
 
+-- Where it has moved to such a view, nothing is selected over the view changes that it has.
+abbrev pub HasNoSelection : OrdererData → Type 0
+HasNoSelection o = o.log.active ≡ false → logs.primary o.log o.target ≡ o.log.me
+    → SelectsNothing (sized o.received.sizes) o.target o.received.held o.claims
+
 -- the new view with that start and these batches
 abbrev pub new_view_of : OrdererData → ℕ → List ℕ → List (List ℕ) → NewViewData
 new_view_of o start root texts = record {
@@ -128,7 +134,7 @@ pub record SignsView (o : OrdererData) (new : NewViewData) (frame : List ℕ) : 
   pub by_leaf : leaf_of frame ≡ Some o.spent
   pub right : may_select (configuration_of o.received) new ≡ true
 
--- So it is, and the leaf is spent; or it can't be signed, and nothing changes.
+-- So it is, and the leaf is spent; or all are spent, and nothing changes.
 abbrev pub MaySignView : NewViewData → OrdererData → OrdererData → Option (Vec ℕ Global) → Type 0
-MaySignView new old later None = later ≡ old
+MaySignView new old later None = (later ≡ old) × (old.spent ≡ 64)
 MaySignView new old later (Some frame) = SignsView old new frame.items × (later ≡ record old { spent = old.spent + 1 })

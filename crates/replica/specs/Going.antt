@@ -1,10 +1,11 @@
 -- How a replica goes on within an event.
 use Rattle.std.specs.Prelude.{◌≡◌, ◌≢◌, ℕ, suc, ◌≤◌, Bool, true, false, List, [], Some, None}
-use Rattle.wire.specs.Messages.{MessageData as Message}
+use Rattle.wire.specs.Messages.{MessageData as Message, BatchEntryData as Claim}
 use Rattle.events.specs.declared.output.Output.{Output}
 use Rattle.ordering.specs.Log as logs
 use Rattle.ordering.specs.Log.{LogData}
 use Rattle.protocol.specs.System.Configuration.{Configuration, members}
+use Rattle.protocol.specs.System.Trace.{Has}
 use Rattle.replica_histories.specs.Desk.{Desk}
 use Rattle.replica_histories.specs.Events.{Start}
 use Rattle.replica.specs.State.{OrdererData, DeskData, JoinedData}
@@ -43,10 +44,18 @@ abbrev pub CommitsNoMore : LogData → LogData → Type 0
 CommitsNoMore old new =
     (i : ℕ) (text : List ℕ) → logs.committed_batch new i ≡ Some text → logs.committed_batch old i ≡ Some text
 
+-- A primary has no more to choose from for a new view: the view changes are the same, and it claims no more; and no key
+-- was used.
+pub record KeepsChoice (old new : OrdererData) : Type 0 where
+  pub received : new.received ≡ old.received
+  pub spent : new.spent ≡ old.spent
+  pub logged : (claim : Claim) → Has (λ x. x ≡ claim) new.claims.logged → Has (λ x. x ≡ claim) old.claims.logged
+
 pub record IsSameOrderer (old new : OrdererData) : Type 0 where
   pub endpoint : new.endpoint ≡ old.endpoint
   pub log : IsSameLog old.log new.log
   pub target : new.target ≡ old.target
+  pub choice : old.log.active ≡ false → KeepsChoice old new
 
 -- ---- both parts
 

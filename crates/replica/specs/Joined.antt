@@ -11,6 +11,7 @@ use Rattle.replica_histories.specs.Changes.{FitsChanges}
 use Rattle.replica.specs.declared.replica.Event.{Event}
 use Rattle.replica.specs.Inputs.{input_of}
 use Rattle.replica.specs.State.{OrdererData, DeskData, JoinedData}
+use Rattle.replica.specs.Beginning.{CannotBegin}
 use Rattle.replica.specs.Desks.{IsDeskOf, FitsWaiting, WasSaid, changes_of}
 use Rattle.replica.specs.Numbering.{IsAllNumbered}
 
@@ -31,6 +32,7 @@ pub record Runs (c : Configuration) (r : JoinedData) (history : List Entry) : Ty
   pub said : WasSaid (me_of r) r.orderer.last_checkpoint history
   pub changes : FitsChanges c (me_of r) r.orderer.log (changes_of r.orderer) history
   pub all : IsAllNumbered r
+  pub begun : CannotBegin c r.orderer
 
 -- The history is that of a replica which orders requests, and what the replica holds is what the history says.
 pub record Fits (c : Configuration) (r : JoinedData) (history : List Entry) : Type 0 where

@@ -16,6 +16,7 @@ use Rattle.replica_histories.specs.Changes.{FitsChanges}
 use Rattle.replica.specs.declared.replica.Event.{Event}
 use Rattle.replica.specs.State.{OrdererData, DeskData, OrdererPart, DeskPart, AreOne}
 use Rattle.replica.specs.Flags.{FitsFlags}
+use Rattle.replica.specs.Beginning.{CannotBegin}
 use Rattle.replica.specs.Desks.{IsDeskOf, WasSaid, changes_of}
 use Rattle.replica.specs.Inputs.{input_of}
 use Rattle.replica.specs.Joined.{EventLeads, joined}
@@ -48,6 +49,7 @@ pub record HoldsOrderer (c : Configuration) (me : ℕ) (o : OrdererData) (histor
   pub said : WasSaid me o.last_checkpoint history
   pub changes : FitsChanges c me o.log (changes_of o) history
   pub period : c.period ≡ o.received.sizes.period
+  pub begun : CannotBegin c o
 
 -- ---- what fits
 

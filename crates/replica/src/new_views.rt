@@ -1,6 +1,6 @@
 //! New views: the own ones, and those of others.
 
-ghost use Rattle.std.specs.Prelude.{◌≡◌, ◌↔◌, [], None, true, IfOk, IfSome, IsTrue, OnOk};
+ghost use Rattle.std.specs.Prelude.{◌≡◌, ◌↔◌, [], None, true, IfNone, IfOk, IfSome, IsTrue, OnOk};
 ghost use Rattle.wire.specs.Lists.{Each};
 ghost use Rattle.wire.specs.Spelling.{IsBatch};
 ghost use Rattle.wire.specs.Messages.{new_view};
@@ -10,7 +10,7 @@ ghost use Rattle.view_change.specs.ReceivedView.{configuration_of};
 ghost use Rattle.view_change.specs.Sets.{texts_of};
 ghost use Rattle.replica.specs.Beginning.{MayBegin};
 ghost use Rattle.replica.specs.Entering.{TakesMessage};
-ghost use Rattle.replica.specs.EnteringViews.{IsSelection, MaySignView, new_view_of};
+ghost use Rattle.replica.specs.EnteringViews.{HasNoSelection, IsSelection, MaySignView, new_view_of};
 ghost use Rattle.replica.specs.Saying.{PostsNewView, SaysAlso};
 
 use crate::joined::Joined;
@@ -83,11 +83,12 @@ impl Joined {
 }
 
 impl Orderer {
-    // The selection for the view that the replica moves to, where it is its primary and there is one.
+    // The selection for the view that the replica moves to, if it is its primary and there is one.
     fn selection(&self, alloc: Global) -> Result<Option<Selection>, NoMemory>
         ensures selects { IfOk result (λ o. IfSome o
             (λ s. IsSelection self.now s.start.0 s.root (texts_of s.batches.items))) }
         ensures batches { IfOk result (λ o. IfSome o (λ s. Each (IsBatch 0) (texts_of s.batches.items))) }
+        ensures none { IfOk result (λ o. IfNone o (HasNoSelection self.now)) }
     {
         let view = self.target;
         if self.log.is_active() || self.log.primary(view).0 != self.log.me().0 {
@@ -98,7 +99,7 @@ impl Orderer {
         select(alloc, &set, self.received.sizes(), view, &held)
     }
 
-    // Signs the new view with this selection. Its frame; none, where it can't be signed.
+    // Signs the new view with this selection. Its frame; none, where the keys are spent.
     fn sign_new_view(
         &mut self,
         alloc: Global,

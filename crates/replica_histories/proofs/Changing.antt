@@ -161,7 +161,7 @@ view_changes_fit c me s desk log due outputs vc bytes none_due change posted lea
     (signed_may_send c me past (point_of desk f.of_desk.states f.of_desk.ran) (Sent me bytes) bytes (ViewChange vc) refl posted tt (inl may) leaf (change_is_new me vc bytes past posted.says change.newer))
     (still_fits c me log past e f.of_log q none false (not_at_most (target (e ∷ past)) log.view (let above = change.above in let says = says_view in omega arith)) (λ a. absurd cc) (λ a i. none_due i))
     (ap (λ (h : ℕ). map snapshot_of (kept_states h f.of_desk.states)) (sym f.of_log.low) ∙ f.of_desk.kept) (same_reached c me past e q none log.low desk.state.number due f.low)
-    (open_stays c me desk.transfer desk.state.number past e (asks_none bytes me (ViewChange vc) posted.says refl) tt f.of_desk.opened) (no_root c past bytes me (ViewChange vc) desk.state.number posted.says refl)
+    (open_stays c me desk.transfer desk.state.number past e (asks_none bytes me (ViewChange vc) posted.says refl) tt f.of_desk.opened) (no_root c past bytes me (ViewChange vc) desk.state.number posted.says refl) none
     (pays_none c me s desk log outputs (ViewChange vc) bytes posted.says due refl f) (no_proposal c me past bytes (ViewChange vc) posted.says tt)
   where
     past : List Entry
@@ -230,7 +230,7 @@ view_changes_go_again c me s desk log due outputs vc bytes left last before fres
     (signed_may_send c me past (point_of desk f.of_desk.states f.of_desk.ran) (Sent me bytes) bytes (ViewChange vc) refl posted tt (inr (subst (λ (v : ℕ). v < target past) (sym f.of_log.view) left, last, before)) (leaf_again c me s desk log due outputs bytes f before) (unsent me s (ViewChange vc) bytes outputs f.says.begins posted.says fresh))
     (still_fits c me log past e f.of_log q none log.active (ap (λ (n : ℕ). nat_le n log.view) same ∙ f.of_log.active) (λ a. a) (λ a i. rw a refl))
     (ap (λ (h : ℕ). map snapshot_of (kept_states h f.of_desk.states)) (sym f.of_log.low) ∙ f.of_desk.kept) (same_reached c me past e q none log.low desk.state.number due f.low)
-    (open_stays c me desk.transfer desk.state.number past e (asks_none bytes me (ViewChange vc) posted.says refl) tt f.of_desk.opened) (no_root c past bytes me (ViewChange vc) desk.state.number posted.says refl)
+    (open_stays c me desk.transfer desk.state.number past e (asks_none bytes me (ViewChange vc) posted.says refl) tt f.of_desk.opened) (no_root c past bytes me (ViewChange vc) desk.state.number posted.says refl) none
     (pays_none c me s desk log outputs (ViewChange vc) bytes posted.says due refl f) (no_proposal c me past bytes (ViewChange vc) posted.says tt)
   where
     past : List Entry
@@ -256,7 +256,7 @@ new_views_go_again c me s desk log due outputs new bytes is_active own primary_i
     (unsent me s (NewView new) bytes outputs f.says.begins posted.says fresh))
     (still_fits c me log past e f.of_log q none log.active (ap (λ (n : ℕ). nat_le n log.view) same ∙ f.of_log.active) (λ a. a) (λ a i. rw a refl))
     (ap (λ (h : ℕ). map snapshot_of (kept_states h f.of_desk.states)) (sym f.of_log.low) ∙ f.of_desk.kept) (same_reached c me past e q none log.low desk.state.number due f.low)
-    (open_stays c me desk.transfer desk.state.number past e (asks_none bytes me (NewView new) posted.says refl) tt f.of_desk.opened) (no_root c past bytes me (NewView new) desk.state.number posted.says refl)
+    (open_stays c me desk.transfer desk.state.number past e (asks_none bytes me (NewView new) posted.says refl) tt f.of_desk.opened) (no_root c past bytes me (NewView new) desk.state.number posted.says refl) none
     (pays_none c me s desk log outputs (NewView new) bytes posted.says due refl f) (no_proposal c me past bytes (NewView new) posted.says tt)
   where
     past : List Entry

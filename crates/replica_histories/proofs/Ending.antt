@@ -23,11 +23,10 @@ use Rattle.protocol.proofs.Words.Linking.{Speaks}
 use Rattle.protocol.proofs.Agreement.Voting.{preparing}
 use Rattle.protocol.proofs.Agreement.Commits.{committing, prepared_stays, prepared_remains}
 use Rattle.replica_histories.specs.Desk.{Desk, point_of}
-use Rattle.replica_histories.specs.Events.{Start, behind, Steps, AtEach, IsOnItsWay, IsReached, Fits, IsSettled, IsTaken, EventsEnd}
+use Rattle.replica_histories.specs.Events.{Start, behind, Steps, AtEach, IsOnItsWay, IsReached, Fits, IsSettled, LeavesNoView, IsTaken, EventsEnd}
 use Rattle.replica_histories.specs.Logs.{IsVoted}
-use Rattle.replica_histories.specs.Transfers.{HasQuorum}
 use Rattle.replica_histories.specs.Questions.{AnswersInput, read_reply}
-use Rattle.replica_histories.specs.TransfersQuorums.{QuorumsFetched}
+use Rattle.replica_histories.specs.TransfersQuorums.{IsToFetch, QuorumsFetched}
 use Rattle.replica_histories.proofs.Words.{given_not, primary_same}
 use Rattle.replica_histories.proofs.Certified.{active_view, active_log, committed_there}
 use Rattle.replica_histories.proofs.Settling.{votes_said}
@@ -141,11 +140,11 @@ module _ (c : Configuration) (me : ℕ) (s : Start) (desk : Desk) (log : LogData
 
   -- what was fetched of the quorums
   pub fetched : QuorumsFetched c desk.state.number now
-      × ((k : ℕ) (root : List ℕ) → HasQuorum c now k root → desk.state.number < k → fetching s.before < k → Gives me (Fetch k levels.Root 0) outputs)
+      × ((k : ℕ) (root : List ℕ) → IsToFetch c now k root → desk.state.number < k → fetching s.before < k → Gives me (Fetch k levels.Root 0) outputs)
   fetched = quorums_end c me s desk.state.number outputs f.of_desk.fetches
 
-  pub owes : AnswersInput c me s.before s.input outputs s.old desk.state.number → (outputs ≡ []) ⊎ IsTaken c me s → Owes c me s.before s.input (reverse outputs) now s.old reached
-  owes answered taken = record {
+  pub owes : AnswersInput c me s.before s.input outputs s.old desk.state.number → LeavesNoView c me now → (outputs ≡ []) ⊎ IsTaken c me s → Owes c me s.before s.input (reverse outputs) now s.old reached
+  owes answered none_left taken = record {
     numbers = numbers;
     numbers_once = at_outputs (NumbersOnce c me) s outputs [] f.once tt;
     prepares = λ v i batch none some active backup. given (Prepare v i (sha256 batch)) (prepares v i batch none some active backup);
@@ -158,10 +157,13 @@ module _ (c : Configuration) (me : ℕ) (s : Start) (desk : Desk) (log : LogData
     reads = λ client t op hears is. given (read_reply s.old.state client t op) (answered.1 client t op hears is);
     fetched_digests = parts.0;
     fetched_page = parts.1;
-    fetches = λ k root h above fresh. given (Fetch k levels.Root 0) (fetched.1 k root h above fresh);
+    fetches = λ k root h above fresh. given (Fetch k levels.Root 0) (fetched.1 k root (inl h) above fresh);
+    fetches_start = λ k h above fresh. given (Fetch k levels.Root 0) (fetched.1 k [] (inr h) above fresh);
+    fetches_again = λ k index level tick asked above. given (Fetch k level index) (gave (Fetch k level index) (f.of_desk.fetch_again k index level (tick, asked, above)));
     goes_on_by_digests = λ p k index level digests hears awaited. goes_on k (answered.2 p k index level digests hears awaited);
     goes_on_by_page = λ p k index text hears awaited. goes_on k (answered.3 p k index text hears awaited);
     view_changes = answered.5;
+    new_views = none_left;
     dropped = λ bytes got drops. dropped taken bytes got drops;
   }
     where
@@ -199,12 +201,12 @@ proceed c me s (e ∷ outputs) later mid new is steps owes past =
     (steps.0, steps.2, by_either (is_output e) _ _ steps.3 (proceed c me s outputs (e ∷ later) steps.0 new is steps.1 owes past))
 
 pub events_end : EventsEnd
-events_end c me desk new log after past outputs input held f settled answered is taken = record {
+events_end c me desk new log after past outputs input held f settled answered none_left is taken = record {
   of_desk = record {
     point = point_of new f.of_desk.states f.of_desk.ran;
     proceeds = proceed c me s outputs [] (point_of new f.of_desk.states f.of_desk.ran) (point_of new f.of_desk.states f.of_desk.ran) is f.of_desk.steps
         (subst (λ (xs : List Entry). Owes c me past input (reverse outputs) (xs ++ input ∷ past) held.of_desk.point (point_of new f.of_desk.states f.of_desk.ran)) (sym (reverse-reverse outputs))
-        (owes c me s new after outputs is f settled answered taken)) held.of_desk.proceeds;
+        (owes c me s new after outputs is f settled answered none_left taken)) held.of_desk.proceeds;
     is = refl;
     kept = f.of_desk.kept;
     frames = f.of_desk.frames;

@@ -7,6 +7,7 @@ use Rattle.ordering.specs.Log as logs
 use Rattle.ordering.specs.Log.{LogData}
 use Rattle.tuple_codec.specs.Operations.{Operation}
 use Rattle.terms.specs.declared.order.Mode.TheVariants as modes
+use Rattle.terms.specs.declared.state.Level.{Level}
 use Rattle.terms.specs.declared.state.Level.TheVariants as levels
 use Rattle.wire.specs.Messages.{BodyData as Body, MessageData as Message, CheckpointEntryData as CheckpointEntry, request as Request, checkpoint as Checkpoint, fetch as Fetch}
 use Rattle.signing.specs.Heard.{heard}
@@ -15,10 +16,10 @@ use Rattle.protocol.specs.System.Configuration.{Configuration, members}
 use Rattle.protocol.specs.System.Trace.{Entry, Once, Has}
 use Rattle.protocol.specs.System.Trace.Entry.{Got, Tick}
 use Rattle.protocol.specs.Replica.Selection.{is_quorum}
-use Rattle.protocol.specs.Replica.Certificates.{count_checkpoints, says_checkpoint, checkpoints_of, is_stable}
+use Rattle.protocol.specs.Replica.Certificates.{new_view_from, count_checkpoints, says_checkpoint, checkpoints_of, is_stable}
 use Rattle.protocol.specs.Replica.State.{State, Call, call_in, kept_of, last_time}
 use Rattle.protocol.specs.Replica.RightReplica.{Point, Leaves, IsStep, kept_states, HasSeen, reply_of, with_waiting, waiting_after}
-use Rattle.protocol.specs.Replica.Transfers.{fetching}
+use Rattle.protocol.specs.Replica.Transfers.{fetching, asked_last}
 use Rattle.protocol.proofs.Words.Plain.{Plain, plain_low}
 use Rattle.protocol.proofs.Words.Options.{some_injective}
 use Rattle.protocol.proofs.Words.Reacting.{proceeds_leaves}
@@ -29,18 +30,18 @@ use Rattle.replica_histories.specs.Marks.{checked_log, BringsCheckpoint}
 use Rattle.replica_histories.specs.Events.{Start, IsOnItsWay, IsAsked, MaySayDue, AreUnsaid, SaysOnce, IsFetched, IsReached}
 use Rattle.replica_histories.specs.Transfers.{HasQuorum, FitsOpen, open_number}
 use Rattle.replica_histories.specs.TransfersQuorums.{BringsRoot, QuorumsFetched}
-use Rattle.replica_histories.specs.Inputs.{again_for, asked_by, asked, fetch_due, InputsFit, CheckpointsEnter, TicksFit}
+use Rattle.replica_histories.specs.Inputs.{again_for, asked_by, asked, fetch_due, again_due, InputsFit, CheckpointsEnter, TicksFit}
 use Rattle.replica_histories.proofs.Checking.{checking, log_stable, quorum_counted, own_at_most}
 use Rattle.replica_histories.proofs.Taking.{takes_nothing}
-use Rattle.replica_histories.proofs.Logging.{log_goes, got_read, silent_read}
+use Rattle.replica_histories.proofs.Logging.{none_taken, log_goes, got_read, silent_read}
 use Rattle.replica_histories.proofs.Reaching.{reached_goes}
 use Rattle.replica_histories.proofs.Cutting.{marked, alike, checked, checked_up, checked_reached}
 use Rattle.replica_histories.proofs.Giving.{kept_on}
-use Rattle.replica_histories.proofs.SaidOnce.{time_of, reply_client, fetch_once}
+use Rattle.replica_histories.proofs.SaidOnce.{time_of, reply_client, no_reply, fetch_once}
 use Rattle.replica_histories.proofs.Counting.{CheckpointFree, checkpoint_free}
 use Rattle.replica_histories.proofs.Words.{apart}
-use Rattle.replica_histories.proofs.Transfers.{open_stays, open_above, quorums_want, lower_are_fetched}
-use Rattle.replica_histories.proofs.TransfersQuorums.{unchanged_bring_none, quorums_begin}
+use Rattle.replica_histories.proofs.Transfers.{root_later, open_stays, open_above, asked_fetched, quorums_want, lower_are_fetched}
+use Rattle.replica_histories.proofs.TransfersQuorums.{unchanged_bring_none, none_starts, quorums_begin}
 
 -- ---- what is asked for is due
 
@@ -142,11 +143,13 @@ inputs_fit c me desk new log after due past bytes held none e = record {
     frames = λ frame k. kept_frame frame (e.frames frame k);
     replies = λ r k. absurd k;
     asked = λ k kept a. inl (subst (λ (xs : List Message). Has (λ x. x ≡ reply_of k kept) xs) (sym due_is) (asked_is_due c me past bytes old k kept a));
+    fetch_again = λ k index level h. absurd h.0;
     checkpoints = λ k h multiple. absurd h;
     opened = subst (λ (o : Option TransferData). FitsOpen c me o new.state.number (Got me bytes ∷ past)) (sym e.transfer)
         (subst (λ (st : State). FitsOpen c me desk.transfer st.number (Got me bytes ∷ past)) (sym e.state) (open_stays c me desk.transfer desk.state.number past (Got me bytes) refl tt held.of_desk.opened));
     fetches = quorums_begin c me (record { before = past; input = Got me bytes; old = old }) new.state.number due (subst (λ (st : State). QuorumsFetched c st.number past) (sym e.state) held.of_desk.fetches)
-        (λ k root b quorum above. inl (below_fetched k (unchanged_bring_none c log.low past (Got me bytes) k root unchanged b) (let number = ap (λ (st : State). st.number) e.state in omega arith) held.low));
+        (λ k root b quorum above. inl (below_fetched k (unchanged_bring_none c log.low past (Got me bytes) k root unchanged b) (let number = ap (λ (st : State). st.number) e.state in omega arith) held.low))
+        (λ k start above. none_starts c past (Got me bytes) k none start);
     rightly = λ message k. due_is_right c me past bytes old (point_of new old.snapshots []) (e.state ∙ sym state_is) message (subst (λ (xs : List Message). Has (λ x. x ≡ message) xs) due_is k);
   };
   of_log = fits;
@@ -236,9 +239,11 @@ checkpoints_enter c me desk log past s entry bytes held h none = record {
     frames = λ frame k. let g = held.of_desk.frames frame k in (inr g.0, g.1);
     replies = λ r k. absurd k;
     asked = λ k kept a. absurd (asks_nothing k kept a);
+    fetch_again = λ k index level h. absurd h.0;
     checkpoints = λ k x multiple. absurd x;
     opened = open_stays c me desk.transfer desk.state.number past (Got me bytes) refl tt held.of_desk.opened;
-    fetches = quorums_begin c me (record { before = past; input = Got me bytes; old = old }) desk.state.number (fetch_due desk more entry) held.of_desk.fetches fetched;
+    fetches = quorums_begin c me (record { before = past; input = Got me bytes; old = old }) desk.state.number (fetch_due desk more entry) held.of_desk.fetches fetched
+        (λ k start above. none_starts c past (Got me bytes) k (none_taken c past (Got me bytes) (ap (option_and_then (new_view_from c)) h)) start);
     rightly = λ message k. rightly message k;
   };
   of_log = fits;
@@ -349,7 +354,7 @@ checkpoints_enter c me desk log past s entry bytes held h none = record {
             let over = ltb-true (open_number desk.state.number desk.transfer) entry.number y in
             subst (λ (z : Message). MaySayDue c me (Got me bytes ∷ past) new z) h (entry.digest, (omega arith, quorums_want c (Got me bytes ∷ past) entry.number entry.digest (counted ∙ x)))
 
--- a tick alone owes nothing
+-- a tick alone owes nothing but the fetch of what is open
 pub ticks_fit : TicksFit
 ticks_fit c me desk log past held = record {
   of_desk = record {
@@ -361,24 +366,53 @@ ticks_fit c me desk log past held = record {
     frames = λ frame k. let f = held.of_desk.frames frame k in (inr f.0, f.1);
     replies = λ r k. absurd k;
     asked = λ k kept a. absurd a.2;
+    fetch_again = λ k index level a. inl (again k index level desk.transfer held.of_desk.opened a.1 (subst (λ (st : State). st.number < k) state_is a.2));
     checkpoints = λ k h multiple. absurd h;
     opened = open_stays c me desk.transfer desk.state.number past (Tick me) refl tt held.of_desk.opened;
-    fetches = quorums_begin c me (record { before = past; input = Tick me; old = old }) desk.state.number [] held.of_desk.fetches
-        (λ k root b quorum above. absurd (let bad : None ≡ Some (b.sender, (let x : CheckpointEntry = record { number = k; digest = root } in x)) = b.brings in cc));
-    rightly = λ message k. absurd k;
+    fetches = quorums_begin c me (record { before = past; input = Tick me; old = old }) desk.state.number (again_due desk.transfer) held.of_desk.fetches
+        (λ k root b quorum above. absurd (let bad : None ≡ Some (b.sender, (let x : CheckpointEntry = record { number = k; digest = root } in x)) = b.brings in cc))
+        (λ k start above. none_starts c past (Tick me) k refl start);
+    rightly = λ message k. rightly message desk.transfer held.of_desk.opened k;
   };
-  low = reached_goes c me desk.state.number [] [] log past (Tick me) (silent_read c me log past (Tick me) plain refl) (λ x k. absurd k) held.low;
+  low = reached_goes c me desk.state.number [] (again_due desk.transfer) log past (Tick me) (silent_read c me log past (Tick me) plain refl) (λ x k. absurd k) held.low;
   of_log = log_goes c me log log past (Tick me) held.of_log.fits (silent_read c me log past (Tick me) plain refl)
       (takes_nothing c me None log held.of_log.fits.is_log (λ i w h. refl) (λ i x w h. refl) (λ i x w h. refl) (λ x. refl));
   once = tt;
-  says = fetch_once me (record { before = past; input = Tick me; old = old }) desk.state 0 [] false refl (λ k kept given. absurd given);
+  says = record { begins = refl; unsaid = unsaid desk.transfer; replies = λ k kept way. replies desk.transfer k kept way };
 }
   where
     old : Point
     old = held.of_desk.point
+
+    state_is : old.state ≡ desk.state
+    state_is = ap (λ (p : Point). p.state) held.of_desk.is
 
     plain : Plain c past (Tick me)
     plain = record { view = refl; change = refl; checkpoint = refl; installed = refl }
 
     moves : point_of desk old.snapshots [] ≡ record old { ran = [] }
     moves = same_point old.snapshots desk.state old.state desk.waiting old.waiting (sym (ap (λ (p : Point). p.state) held.of_desk.is)) (sym (ap (λ (p : Point). p.waiting) held.of_desk.is))
+
+    -- what was asked for last of a number above the state's is what is open
+    again : (k index : ℕ) (level : Level) (o : Option TransferData) → FitsOpen c me o desk.state.number past → asked_last past ≡ Some (k, (level, index)) → desk.state.number < k
+        → Has (λ x. x ≡ Fetch k level index) (again_due o)
+    again k index level None f was above = let most = asked_fetched past k (level, index) was in let least = f.0 in absurd (omega (arith, most, least, above))
+    again k index level (Some t) f was above =
+        inl (ap (λ (x : ℕ × (Level × ℕ)). Fetch x.0 x.1.0 x.1.1) (some_injective (t.number, (t.asked.level, t.asked.index)) (k, (level, index)) (sym f.0.asked ∙ was)))
+
+    rightly : (message : Message) (o : Option TransferData) → FitsOpen c me o desk.state.number past → Has (λ x. x ≡ message) (again_due o) → MaySayDue c me (Tick me ∷ past) (point_of desk old.snapshots []) message
+    rightly message None f k = absurd k
+    rightly message (Some t) f (inl k) =
+        subst (λ (x : Message). MaySayDue c me (Tick me ∷ past) (point_of desk old.snapshots []) x) k (t.root, (f.1, root_later c t.number t.root past (Tick me) f.0.aims.root_wanted))
+    rightly message (Some t) f (inr k) = absurd k
+
+    unsaid : (o : Option TransferData) → AreUnsaid me (again_due o) []
+    unsaid None = tt
+    unsaid (Some t) = (λ other way. apart true refl other, tt)
+
+    replies : (o : Option TransferData) (k : ℕ) (kept : Kept) → IsOnItsWay me (again_due o) [] (reply_of k kept) → kept.timestamp ≤ last_time desk.state k
+    replies None k kept (inl h) = absurd h
+    replies None k kept (inr given) = absurd given
+    replies (Some t) k kept (inl (inl same)) = absurd (no_reply (Fetch t.number t.asked.level t.asked.index) k kept refl same)
+    replies (Some t) k kept (inl (inr h)) = absurd h
+    replies (Some t) k kept (inr given) = absurd given

@@ -2,7 +2,7 @@
 use Rattle.std.proofs.Common.{◌≡◌, ℕ, suc, ◌+◌, ◌%◌, ◌^◌, ◌≤◌, ◌⊎◌, inl, inr, Bool, true, false, cond, ◌&&◌, List, [], ◌∷◌, ◌++◌, map, refl, sym, ap, ◌∙◌, subst, arith, Some, None, eqb-true, eq-eqb}
 use Rattle.std.specs.Prelude.{◌==◌, nat_le, nat_lt}
 use Rattle.std.proofs.lemmas.Bool.{and_parts, le-leb}
-use Rattle.wire.specs.Messages.{MessageData as Message, CheckpointEntryData as CheckpointEntry, checkpoint as Checkpoint}
+use Rattle.wire.specs.Messages.{MessageData as Message, CheckpointEntryData as CheckpointEntry, checkpoint as Checkpoint, fetch as Fetch}
 use Rattle.wire.specs.Words.{requests_of}
 use Rattle.ordering.specs.Log as logs
 use Rattle.ordering.specs.Log.{LogData}
@@ -31,7 +31,7 @@ use Rattle.replica_histories.proofs.SaidOnce.{said_so_far, no_reply, ran_times, 
 use Rattle.replica_histories.proofs.Taking.{takes_nothing}
 use Rattle.replica_histories.proofs.Logging.{log_goes, silent_read}
 use Rattle.replica_histories.proofs.Transfers.{open_executes}
-use Rattle.replica_histories.proofs.TransfersQuorums.{quorums_go_on}
+use Rattle.replica_histories.proofs.TransfersQuorums.{none_starts, quorums_go_on}
 
 abbrev reply_to : Ran → Message
 reply_to r = reply_of r.call.client r.kept
@@ -47,10 +47,11 @@ executes_fit c me s desk log outputs batch frames is_state few commits fewer f =
     frames = λ frame h. let g = f.of_desk.frames frame (fewer frame h) in (inr g.0, g.1);
     replies = λ r h. reply r (has_either (λ x. x ≡ r) f.of_desk.ran more h);
     asked = λ k kept h. sent (reply_of k kept) (f.of_desk.asked k kept h);
+    fetch_again = λ j index level h. sent (Fetch j level index) (f.of_desk.fetch_again j index level h);
     checkpoints = λ j h multiple. checked j (st.number % c.period == 0) refl h multiple;
     opened = subst (λ (n : ℕ). FitsOpen c me (still_open n desk.transfer) n (e ∷ past)) (sym number_is) (open_executes c me desk.transfer desk.state.number k past batch (omega arith) f.of_desk.opened);
     fetches = quorums_go_on c me s desk.state.number st.number [] (replies_to more ++ checkpoint_due c st) outputs e grows
-        (λ i root b. absurd (let bad : None ≡ Some (b.sender, (let x : CheckpointEntry = record { number = i; digest = root } in x)) = b.brings in cc)) (λ x h. absurd h) f.of_desk.fetches;
+        (λ i root b. absurd (let bad : None ≡ Some (b.sender, (let x : CheckpointEntry = record { number = i; digest = root } in x)) = b.brings in cc)) (λ i start above. none_starts c past e i refl start) (λ x h. absurd h) f.of_desk.fetches;
     rightly = λ message h. rightly message (has_either (λ x. x ≡ message) (replies_to more) (checkpoint_due c st) h);
   };
   of_log = log_goes c me log log past e f.of_log (silent_read c me log past e plain refl) (takes_nothing c me None log f.of_log.is_log (λ i w h. refl) (λ i x w h. refl) (λ i x w h. refl) (λ x. refl));

@@ -49,7 +49,8 @@ fetch_goes c me s desk log due rest outputs t bytes m next posted pays f =
     (may_send c me past (point_of desk f.of_desk.states f.of_desk.ran) (Sent me bytes) bytes (others c me) (fetch_of t) posted refl tt may (λ signed. absurd cc) (fetch_is_new c me past (point_of desk f.of_desk.states f.of_desk.ran) t.number t.asked.level t.asked.index bytes posted.says may)) fits
     (ap (λ (h : ℕ). map snapshot_of (kept_states h f.of_desk.states)) (sym f.of_log.low) ∙ f.of_desk.kept)
     (reached_sent c me desk.state.number due rest log log past bytes (others c me) (fetch_of t) posted tt placed refl pays.paid f.low)
-    (transfers_ask c me t desk.state.number past bytes posted.says m) (no_root c past bytes me (fetch_of t) desk.state.number posted.says refl) pays (no_proposal c me past bytes (fetch_of t) posted.says tt)
+    (transfers_ask c me t desk.state.number past bytes posted.says m) (no_root c past bytes me (fetch_of t) desk.state.number posted.says refl)
+    (none_taken c past (Sent me bytes) (ap (option_and_then (new_view_from c)) posted.says)) pays (no_proposal c me past bytes (fetch_of t) posted.says tt)
   where
     past : List Entry
     past = behind s outputs
@@ -87,7 +88,7 @@ held_owe_no_fetch c me desk log past entry held = go (logs.is_stable log entry) 
 
     most : HasQuorum c past entry.number entry.digest → open_number desk.state.number desk.transfer < entry.number → ⊥
     most quorum above =
-        let fetched = held.of_desk.fetches entry.number entry.digest quorum (let l = least in omega arith) in
+        let fetched = held.of_desk.fetches entry.number entry.digest (inl quorum) (let l = least in omega arith) in
         let newest = fetched_most c me desk.transfer desk.state.number past held.of_desk.opened in
         omega arith
 
@@ -115,6 +116,7 @@ transfers_change c me s desk log due outputs open_one o f = record {
     frames = f.of_desk.frames;
     replies = f.of_desk.replies;
     asked = f.of_desk.asked;
+    fetch_again = f.of_desk.fetch_again;
     checkpoints = f.of_desk.checkpoints;
     opened = o;
     fetches = f.of_desk.fetches;

@@ -18,7 +18,7 @@ use Rattle.protocol.specs.System.Configuration.{Configuration, primary, is_numbe
 use Rattle.protocol.specs.System.Frames.{IsPosted}
 use Rattle.protocol.specs.System.Trace.{Entry, Once, Has}
 use Rattle.protocol.specs.System.Trace.Entry.{Sent}
-use Rattle.protocol.specs.Replica.Certificates.{are_genuine, logged, batch_from, begun_proposal, entry_proposal, proposal, prepare_from, commit_from, vote_in, prepare_of, commit_of}
+use Rattle.protocol.specs.Replica.Certificates.{are_genuine, new_view_from, taken, logged, batch_from, begun_proposal, entry_proposal, proposal, prepare_from, commit_from, vote_in, prepare_of, commit_of}
 use Rattle.protocol.specs.Replica.State.{State, root_of}
 use Rattle.protocol.specs.Replica.RightReplica.{Point, Executes, kept_states, others, reply_of, IsFor, IsAddressed, HasSeen, HasOwnLeaf, SentInEvent, MaySay, MaySend, MayCheckpoint}
 use Rattle.protocol.specs.Replica.Transfers.{place_from}
@@ -38,13 +38,13 @@ use Rattle.replica_histories.proofs.Words.{apart, passed, HasBatch, has_batch, b
 use Rattle.replica_histories.proofs.Certified.{PreparedIn, active, is_prepared_in, prepared_here}
 use Rattle.replica_histories.proofs.Checking.{executed_at_most}
 use Rattle.replica_histories.proofs.Taking.{takes_nothing, prepare_taken, commit_taken, batch_taken}
-use Rattle.replica_histories.proofs.Logging.{KeepsView, IsPlaced, beside_placed, log_goes, sent_read}
+use Rattle.replica_histories.proofs.Logging.{KeepsView, IsPlaced, begins_none, none_taken, beside_placed, log_goes, sent_read}
 use Rattle.replica_histories.proofs.Reaching.{reached_goes}
 use Rattle.replica_histories.proofs.Cutting.{checked, checked_up, checked_reached}
 use Rattle.replica_histories.proofs.Ending.{steps_leave}
 use Rattle.replica_histories.proofs.SaidOnce.{Pays, pays_none, pays_first, first_unsent, new_by}
 use Rattle.replica_histories.proofs.Transfers.{root_later, open_stays, asks_none}
-use Rattle.replica_histories.proofs.TransfersQuorums.{quorums_go_on, no_root, own_root}
+use Rattle.replica_histories.proofs.TransfersQuorums.{none_starts, quorums_go_on, no_root, own_root}
 
 -- ---- what an output leaves as it is
 
@@ -100,10 +100,11 @@ pub sent_goes : (c : Configuration) (me : ℕ) (s : Start) (desk : Desk) (log af
     → IsReached c me after.low desk.state.number rest (Sent me bytes ∷ behind s outputs)
     → FitsOpen c me transfer desk.state.number (Sent me bytes ∷ behind s outputs)
     → ((k : ℕ) (root : List ℕ) → BringsRoot c (behind s outputs) (Sent me bytes) k root → k ≤ desk.state.number)
+    → taken c (behind s outputs) (Sent me bytes) ≡ None
     → Pays me s desk.state due rest outputs bytes
     → NumbersOnce c me (behind s outputs) (Sent me bytes)
     → Fits c me s (record desk { snapshots = snapshots; transfer = transfer }) after rest (Sent me bytes ∷ outputs)
-sent_goes c me s desk log after due rest outputs bytes snapshots transfer f may fits kept reached opened roots pays once = record {
+sent_goes c me s desk log after due rest outputs bytes snapshots transfer f may fits kept reached opened roots none pays once = record {
   of_desk = record {
     states = f.of_desk.states;
     ran = f.of_desk.ran;
@@ -113,9 +114,10 @@ sent_goes c me s desk log after due rest outputs bytes snapshots transfer f may 
     frames = λ frame h. let k = f.of_desk.frames frame h in (inr k.0, k.1);
     replies = λ r h. on_way me due rest outputs (Sent me bytes) pays.paid (reply_of r.call.client r.kept) (f.of_desk.replies r h);
     asked = λ k kept h. on_way me due rest outputs (Sent me bytes) pays.paid (reply_of k kept) (f.of_desk.asked k kept h);
+    fetch_again = λ k index level h. on_way me due rest outputs (Sent me bytes) pays.paid (Fetch k level index) (f.of_desk.fetch_again k index level h);
     checkpoints = λ k h multiple. checkpoints k h multiple;
     opened = opened;
-    fetches = quorums_go_on c me s desk.state.number desk.state.number due rest outputs (Sent me bytes) (omega arith) roots pays.paid f.of_desk.fetches;
+    fetches = quorums_go_on c me s desk.state.number desk.state.number due rest outputs (Sent me bytes) (omega arith) roots (λ k start above. none_starts c past (Sent me bytes) k none start) pays.paid f.of_desk.fetches;
     rightly = λ x h. due_stays c me past bytes (point_of desk f.of_desk.states f.of_desk.ran) x (f.of_desk.rightly x (pays.fewer x h));
   };
   of_log = fits;
@@ -171,7 +173,7 @@ sent_fits c me s desk log after due rest outputs bytes receivers message f poste
     (log_sent c me log after (behind s outputs) bytes receivers message f.of_log posted keeps takes place)
     (ap (λ (h : ℕ). map snapshot_of (kept_states h f.of_desk.states)) (takes.stays.low ∙ sym f.of_log.low) ∙ f.of_desk.kept)
     (reached_sent c me desk.state.number due rest log after (behind s outputs) bytes receivers message posted keeps place takes.stays.low pays.paid f.low)
-    (open_stays c me desk.transfer desk.state.number (behind s outputs) (Sent me bytes) (asks_none bytes me message posted.says none) tt f.of_desk.opened) roots pays once
+    (open_stays c me desk.transfer desk.state.number (behind s outputs) (Sent me bytes) (asks_none bytes me message posted.says none) tt f.of_desk.opened) roots (none_taken c (behind s outputs) (Sent me bytes) (ap (option_and_then (new_view_from c)) posted.says ∙ begins_none c me message keeps)) pays once
 
 -- a prepare is placed where its number is in the marks and the replica is active, and so is a commit
 differ : (log : LogData) (v i j : ℕ) → logs.is_in_marks log i ≡ true → (v ≢ log.view) ⊎ (logs.is_in_marks log j ≡ false) → ((log.view == v) && (i == j)) ≡ false
@@ -441,7 +443,8 @@ checkpoints_fit c me s desk log rest outputs entry bytes prepares commits posted
     (kept_on log.low (checked_log log me entry).low f.of_desk.states desk.snapshots up (ap (λ (h : ℕ). map snapshot_of (kept_states h f.of_desk.states)) (sym f.of_log.low) ∙ f.of_desk.kept))
     (checked_reached c me log past (Sent me bytes) me entry f.of_log brings known desk.state.number (Checkpoint entry.number entry.digest ∷ rest) rest pays.paid f.low (λ stable. executed))
     (open_stays c me desk.transfer desk.state.number past (Sent me bytes) (asks_none bytes me (Checkpoint entry.number entry.digest) posted.says refl) tt f.of_desk.opened)
-    (own_root c past bytes me entry.number entry.digest desk.state.number posted.says executed) pays (no_proposal c me past bytes (Checkpoint entry.number entry.digest) posted.says tt)
+    (own_root c past bytes me entry.number entry.digest desk.state.number posted.says executed)
+    (none_taken c past (Sent me bytes) (ap (option_and_then (new_view_from c)) posted.says)) pays (no_proposal c me past bytes (Checkpoint entry.number entry.digest) posted.says tt)
   where
     past : List Entry
     past = behind s outputs

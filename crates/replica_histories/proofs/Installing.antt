@@ -1,7 +1,7 @@
 -- An installation: what is held behind it fits.
 use Rattle.std.proofs.Common.{◌≡◌, ℕ, ◌%◌, ◌≤◌, ◌<◌, ◌⊎◌, inl, inr, Bool, true, false, cond, List, [], ◌∷◌, map, refl, sym, ap, ◌∙◌, arith, Some, None}
 use Rattle.std.specs.Prelude.{nat_le}
-use Rattle.wire.specs.Messages.{MessageData as Message, CheckpointEntryData as CheckpointEntry, checkpoint as Checkpoint}
+use Rattle.wire.specs.Messages.{MessageData as Message, CheckpointEntryData as CheckpointEntry, checkpoint as Checkpoint, fetch as Fetch}
 use Rattle.ordering.specs.Log as logs
 use Rattle.ordering.specs.Log.{LogData}
 use Rattle.protocol.specs.System.Trace.{Entry, Has}
@@ -19,7 +19,7 @@ use Rattle.replica_histories.proofs.Cutting.{cut_low, installations_move}
 use Rattle.replica_histories.proofs.Reaching.{reached_asking}
 use Rattle.replica_histories.proofs.Giving.{kept_on}
 use Rattle.replica_histories.proofs.TransfersInstalling.{transfers_install}
-use Rattle.replica_histories.proofs.TransfersQuorums.{quorums_go_on}
+use Rattle.replica_histories.proofs.TransfersQuorums.{none_starts, quorums_go_on}
 
 pub installations_fit : InstallationsFit
 installations_fit c me s desk log outputs t st frames may rests root_is is number pages small rises prepares commits fewer f = record {
@@ -32,10 +32,11 @@ installations_fit c me s desk log outputs t st frames may rests root_is is numbe
     frames = λ frame h. let g = f.of_desk.frames frame (fewer frame h) in (inr g.0, g.1);
     replies = λ r h. sent (reply_of r.call.client r.kept) (f.of_desk.replies r h);
     asked = λ j kept h. sent (reply_of j kept) (f.of_desk.asked j kept h);
+    fetch_again = λ j index level h. sent (Fetch j level index) (f.of_desk.fetch_again j index level h);
     checkpoints = λ j h multiple. checked j h multiple;
     opened = installed.1;
     fetches = quorums_go_on c me s desk.state.number st.number [] [] outputs (Installed me t.number t.root) (let n = number in let l = later in omega arith)
-        (λ i root b. absurd (let bad : None ≡ Some (b.sender, (let x : CheckpointEntry = record { number = i; digest = root } in x)) = b.brings in cc)) (λ x h. absurd h) f.of_desk.fetches;
+        (λ i root b. absurd (let bad : None ≡ Some (b.sender, (let x : CheckpointEntry = record { number = i; digest = root } in x)) = b.brings in cc)) (λ i start above. none_starts c past (Installed me t.number t.root) i refl start) (λ x h. absurd h) f.of_desk.fetches;
     rightly = λ message h. absurd h;
   };
   of_log = fits;

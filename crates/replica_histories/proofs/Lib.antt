@@ -50,5 +50,6 @@ pub mod ChangesPassing
 pub mod ChangesKept
 pub mod ChangesMade
 pub mod OneChange
+pub mod Primaries
 pub mod Resending
 pub mod OwnCheckpoints

@@ -16,7 +16,7 @@ use Rattle.protocol.specs.System.Trace.{Entry, Has}
 use Rattle.protocol.specs.System.Trace.Entry.{Got, Sent}
 use Rattle.protocol.specs.Replica.Certificates.{view, target, taken, is_later, new_view_in, change_sent, change_from, checkpoint_in, commit_of, Committed}
 use Rattle.protocol.specs.Replica.State.{State, call_in, last_time, root_of}
-use Rattle.protocol.specs.Replica.Owed.{IsSaying, Gives}
+use Rattle.protocol.specs.Replica.Owed.{IsSaying, Gives, StartsAhead}
 use Rattle.protocol.specs.Replica.RightReplica.{Point, MaySend, Executes, kept_states, reply_of, with_waiting, waiting_after, StartsAt, IsRootWanted}
 use Rattle.protocol.proofs.Words.Options.{some_injective, and_then_some, then_some_gives}
 use Rattle.protocol.proofs.Words.Elements.{has_weaker}
@@ -74,6 +74,20 @@ module _ (c : Configuration) (me : ℕ) (log : LogData) (past : List Entry) (e :
         go false l =
             let least = lower_are_fetched c me desk.transfer desk.state.number new.start past above (ltb-false (open_number desk.state.number desk.transfer) new.start l) opened in
             inl (omega arith)
+
+    -- one that is above what was fetched is due
+    start_due_then : (k : ℕ) → StartsAhead c k past e → desk.state.number < k → Has (λ x. x ≡ Fetch k levels.Root 0) (start_due desk new)
+    start_due_then k h above = subst (λ (n : ℕ). Has (λ x. x ≡ Fetch n levels.Root 0) (start_due desk new)) same (go (nat_lt (open_number desk.state.number desk.transfer) new.start) refl)
+      where
+        same : new.start ≡ k
+        same = ap (λ (x : NewViewData). x.start) (some_injective new h.0 (sym t ∙ h.1)) ∙ h.2
+
+        go : (b : Bool) → nat_lt (open_number desk.state.number desk.transfer) new.start ≡ b → Has (λ x. x ≡ Fetch new.start levels.Root 0) (cond b (Fetch new.start levels.Root 0 ∷ []) [])
+        go true l = inl refl
+        go false l =
+            let least = lower_are_fetched c me desk.transfer desk.state.number new.start past (omega (arith, above, same)) (ltb-false (open_number desk.state.number desk.transfer) new.start l) opened in
+            let newer = h.3 in
+            absurd (omega (arith, least, newer, same))
 
     -- the low mark is reached where it was, and nothing is committed for the next number
     begun_reached : IsReached c me log.low desk.state.number [] past → (log.low ≤ desk.state.number → (v : ℕ) (batch : List ℕ) → Committed c me past v (suc desk.state.number) batch → ⊥)
@@ -145,10 +159,12 @@ new_views_enter c me desk log past s new bytes held h t = record {
     frames = λ frame k. let g = held.of_desk.frames frame k in (inr g.0, g.1);
     replies = λ r k. absurd k;
     asked = λ k kept a. absurd (asks_nothing k kept a);
+    fetch_again = λ k index level h. absurd h.0;
     checkpoints = λ k x multiple. absurd x;
     opened = open_stays c me desk.transfer desk.state.number past e refl tt held.of_desk.opened;
     fetches = quorums_begin c me (record { before = past; input = e; old = old }) desk.state.number (start_due desk new) held.of_desk.fetches
-        (λ k root b quorum above. absurd (given_not (checkpoint_in c e) _ b.brings q.checkpoint));
+        (λ k root b quorum above. absurd (given_not (checkpoint_in c e) _ b.brings q.checkpoint))
+        (λ k start above. start_due_then c me log past e new f q t desk held.of_desk.opened k start above);
     rightly = λ message k. start_rightly c me log past e new f q t desk held.of_desk.opened old.snapshots (point_of desk old.snapshots []) refl message k;
   };
   of_log = fits;
@@ -201,9 +217,11 @@ new_views_fit c me s desk log outputs new bytes none_due none_next primary_is t 
     frames = λ frame h. let k = f.of_desk.frames frame h in (inr k.0, k.1);
     replies = λ r h. on_way me [] (start_due desk new) outputs e (λ x k. absurd k) (reply_of r.call.client r.kept) (f.of_desk.replies r h);
     asked = λ k kept h. on_way me [] (start_due desk new) outputs e (λ x k. absurd k) (reply_of k kept) (f.of_desk.asked k kept h);
+    fetch_again = λ k index level h. on_way me [] (start_due desk new) outputs e (λ x d. absurd d) (Fetch k level index) (f.of_desk.fetch_again k index level h);
     checkpoints = λ k h multiple. checkpoints k h multiple;
     opened = open_stays c me desk.transfer desk.state.number past e (asks_none bytes me (NewView new) posted.says refl) tt f.of_desk.opened;
-    fetches = quorums_go_on c me s desk.state.number desk.state.number [] (start_due desk new) outputs e (omega arith) (no_root c past bytes me (NewView new) desk.state.number posted.says refl) (λ x k. absurd k) f.of_desk.fetches;
+    fetches = quorums_go_on c me s desk.state.number desk.state.number [] (start_due desk new) outputs e (omega arith) (no_root c past bytes me (NewView new) desk.state.number posted.says refl)
+        (λ k start above. start_due_then c me log past e new f.of_log q t desk f.of_desk.opened k start above) (λ x k. absurd k) f.of_desk.fetches;
     rightly = λ message k. start_rightly c me log past e new f.of_log q t desk f.of_desk.opened f.of_desk.states point refl message k;
   };
   of_log = fits;

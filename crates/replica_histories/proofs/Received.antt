@@ -1,15 +1,16 @@
 -- What is held of the view changes of others is kept by the history.
-use Rattle.std.proofs.Common.{◌≡◌, ◌≢◌, ℕ, zero, suc, ◌≤◌, ◌<◌, ◌⊎◌, inl, inr, Bool, true, false, cond, ◌&&◌, not, List, [], ◌∷◌, length, replicate, max, Option, Some, None, slice_set, refl, sym, ap, ◌∙◌, subst, arith, eqb-true}
+use Rattle.std.proofs.Common.{◌≡◌, ◌≢◌, ℕ, zero, suc, ◌≤◌, ◌<◌, ◌⊎◌, inl, inr, Bool, true, false, cond, ◌&&◌, not, List, [], ◌∷◌, length, replicate, max, Option, Some, None, slice_set, refl, sym, ap, ◌∙◌, subst, arith, eqb-true, eq-eqb}
 use Rattle.std.specs.Prelude.{◌==◌, nat_lt}
 use Rattle.std.specs.Option.{option_map_or}
-use Rattle.std.proofs.lemmas.Bool.{eqb-false, ltb-true, ltb-false}
+use Rattle.std.proofs.lemmas.Bool.{eqb-false, lt-ltb, ltb-true, ltb-false}
 use Rattle.wire.specs.Messages.{ViewChangeData}
 use Rattle.protocol.specs.System.Configuration.{Configuration}
-use Rattle.protocol.specs.System.Trace.{Once}
-use Rattle.protocol.specs.System.Trace.Entry.{Got, Sent}
+use Rattle.protocol.specs.System.Trace.{Entry, Once}
+use Rattle.protocol.specs.System.Trace.Entry.{Invoke, Got, Tick, Executed, Installed, Sent, Accepted}
 use Rattle.protocol.specs.Replica.Selection.{is_within, signed_change}
-use Rattle.protocol.specs.Replica.Certificates.{view, change_taken, latest_change}
+use Rattle.protocol.specs.Replica.Certificates.{view, change_taken, change_at, latest_change}
 use Rattle.protocol.specs.Replica.RightReplica.{HasSeen}
+use Rattle.protocol.specs.Replica.Owed.{BringsChange}
 use Rattle.protocol.proofs.Words.Options.{some_injective}
 use Rattle.view_change.specs.declared.change_fault.ChangeFault.{ChangeFault}
 use Rattle.view_change.specs.declared.change_fault.ChangeFault.TheVariants.{WrongView, OutOfBounds, Duplicate}
@@ -41,10 +42,9 @@ pub received_begin : ReceivedBegin
 received_begin c me n = record {
   latest = λ s other. ap (λ (o : Option HeldData). option_map_or (λ (h : HeldData). h.change.view) o 0) (sym (none_held n s));
   seen = λ s h is. absurd (let bad : None ≡ Some h = sym (none_held n s) ∙ is in cc);
+  placed = λ s h is. absurd (let bad : None ≡ Some h = sym (none_held n s) ∙ is in cc);
+  taken = λ x other once latest. absurd once;
 }
-
-pub received_stays : ReceivedStays
-received_stays c me past e held same f = record { latest = λ s other. same s other ∙ f.latest s other; seen = λ s h is. inr (f.seen s h is) }
 
 pub sent_bring_none : SentBringNone
 sent_bring_none c p s bytes past = omega arith
@@ -58,6 +58,39 @@ unsigned_bring_none c p s bytes past none =
 -- what an entry brings of a replica
 pub taken_is : (c : Configuration) (v s : ℕ) (bytes : List ℕ) (x : ℕ × ViewChangeData) → signed_change c bytes ≡ Some x → change_taken c v s bytes ≡ cond ((x.0 == s) && nat_lt v x.1.view && is_within c x.1) x.1.view 0
 taken_is c v s bytes x signed = ap (λ (o : Option (ℕ × ViewChangeData)). option_map_or (λ (y : ℕ × ViewChangeData). cond ((y.0 == s) && nat_lt v y.1.view && is_within c y.1) y.1.view 0) o 0) signed
+
+-- one that counts is brought
+pub brings_view : (c : Configuration) (x : ℕ × ViewChangeData) (past : List Entry) (e : Entry) → BringsChange c x past e → change_at c past e x.0 ≡ x.1.view
+brings_view c x past (Got p bytes) h = taken_is c (view c past) x.0 bytes x h.0 ∙ rw (eq-eqb x.0 x.0 refl, lt-ltb (view c past) x.1.view h.1.0, h.1.1) refl
+brings_view c x past (Invoke a b d) h = absurd h
+brings_view c x past (Tick a) h = absurd h
+brings_view c x past (Executed a b d) h = absurd h
+brings_view c x past (Installed a b d) h = absurd h
+brings_view c x past (Sent a b) h = absurd h
+brings_view c x past (Accepted a b d) h = absurd h
+
+pub brings_newer : (c : Configuration) (x : ℕ × ViewChangeData) (past : List Entry) (e : Entry) → BringsChange c x past e → latest_change c past x.0 < x.1.view
+brings_newer c x past (Got p bytes) h = h.1.2
+brings_newer c x past (Invoke a b d) h = absurd h
+brings_newer c x past (Tick a) h = absurd h
+brings_newer c x past (Executed a b d) h = absurd h
+brings_newer c x past (Installed a b d) h = absurd h
+brings_newer c x past (Sent a b) h = absurd h
+brings_newer c x past (Accepted a b d) h = absurd h
+
+-- and the latest is no earlier
+once_latest : (c : Configuration) (x : ℕ × ViewChangeData) (history : List Entry) → Once (BringsChange c x) history → x.1.view ≤ latest_change c history x.0
+once_latest c x [] h = absurd h
+once_latest c x (e ∷ past) (inl h) = let is = brings_view c x past e h in omega (arith, is)
+once_latest c x (e ∷ past) (inr h) = let l = once_latest c x past h in omega (arith, l)
+
+pub received_stays : ReceivedStays
+received_stays c me past e held same f =
+    record { latest = λ s other. same s other ∙ f.latest s other; seen = λ s h is. inr (f.seen s h is); placed = f.placed; taken = taken }
+  where
+    taken : (x : ℕ × ViewChangeData) → x.0 ≢ me → Once (BringsChange c x) (e ∷ past) → latest_change c (e ∷ past) x.0 ≡ x.1.view → (h : HeldData) × (held_of held x.0 ≡ Some h) × (h.change ≡ x.1)
+    taken x other (inl b) latest = let stays = same x.0 other in let newer = brings_newer c x past e b in absurd (omega (arith, stays, newer, latest))
+    taken x other (inr once) latest = f.taken x other once (sym (same x.0 other) ∙ latest)
 
 -- it is refused where one of three tests fails
 refused_by : (a b d : Bool) (fault : ChangeFault) → cond (not a) (Some WrongView) (cond (not b) (Some OutOfBounds) (cond (not d) (Some Duplicate) None)) ≡ Some fault → ((a && b) ≡ false) ⊎ (d ≡ false)
@@ -87,6 +120,14 @@ newer held s w h = go (held_of held s) h
     go : (o : Option HeldData) → option_map_or (λ (x : HeldData). nat_lt x.change.view w) o true ≡ true → option_map_or (λ (x : HeldData). x.change.view) o 0 ≤ w
     go None k = omega arith
     go (Some x) k = let l = ltb-true x.change.view w k in omega arith
+
+-- and one that is taken is above what is held
+above_held : (held : List (Option HeldData)) (s w : ℕ) → 0 < w → option_map_or (λ (h : HeldData). nat_lt h.change.view w) (held_of held s) true ≡ true → held_view held s < w
+above_held held s w some h = go (held_of held s) h
+  where
+    go : (o : Option HeldData) → option_map_or (λ (x : HeldData). nat_lt x.change.view w) o true ≡ true → option_map_or (λ (x : HeldData). x.change.view) o 0 < w
+    go None k = some
+    go (Some x) k = ltb-true x.change.view w k
 
 pub refused_bring_none : RefusedBringNone
 refused_bring_none c me s bytes past held x fault signed refused other f =
@@ -119,7 +160,7 @@ refused_bring_none c me s bytes past held x fault signed refused other f =
 -- ---- one that is taken
 
 pub received_takes : ReceivedTakes
-received_takes c me s bytes past held vc signed taken l f = record { latest = latest; seen = seen }
+received_takes c me s bytes past held vc signed taken l f = record { latest = latest; seen = seen; placed = placed; taken = came }
   where
     h : HeldData
     h = record { sender = s; change = vc; frame = bytes }
@@ -163,8 +204,43 @@ received_takes c me s bytes past held vc signed taken l f = record { latest = la
             inl (inl (ap (λ (y : HeldData). y.frame) it))
         go false e = let apart = eqb-false s r e in inr (f.seen r x (sym (put_elsewhere held s r (Some h) (λ same. apart (sym same))) ∙ is))
 
+    placed : (r : ℕ) (x : HeldData) → held_of (with_held h held) r ≡ Some x → x.sender ≡ r
+    placed r x is = go (s == r) refl
+      where
+        go : (b : Bool) → (s == r) ≡ b → x.sender ≡ r
+        go true e =
+            let same : s ≡ r = eqb-true s r e in
+            let it : h ≡ x = some_injective h x (sym (put_there held s (Some h) l) ∙ ap (held_of (with_held h held)) same ∙ is) in
+            sym (ap (λ (y : HeldData). y.sender) it) ∙ same
+        go false e = let apart = eqb-false s r e in f.placed r x (sym (put_elsewhere held s r (Some h) (λ same. apart (sym same))) ∙ is)
+
+    came : (x : ℕ × ViewChangeData) → x.0 ≢ me → Once (BringsChange c x) (Got me bytes ∷ past) → latest_change c (Got me bytes ∷ past) x.0 ≡ x.1.view
+        → (k : HeldData) × (held_of (with_held h held) x.0 ≡ Some k) × (k.change ≡ x.1)
+    came x other (inl b) is_latest =
+        let same : ◌≡◌ {A = ℕ × ViewChangeData} (s, vc) x = some_injective (s, vc) x (sym signed ∙ b.0) in
+        (h, ap (held_of (with_held h held)) (sym (ap (λ (y : ℕ × ViewChangeData). y.0) same)) ∙ put_there held s (Some h) l, ap (λ (y : ℕ × ViewChangeData). y.1) same)
+    came x other (inr once) is_latest = go (s == x.0) refl
+      where
+        brought : change_taken c (view c past) x.0 bytes ≡ cond ((s == x.0) && nat_lt (view c past) vc.view && is_within c vc) vc.view 0
+        brought = taken_is c (view c past) x.0 bytes (s, vc) signed
+
+        go : (b : Bool) → (s == x.0) ≡ b → (k : HeldData) × (held_of (with_held h held) x.0 ≡ Some k) × (k.change ≡ x.1)
+        go true e =
+            let same : s ≡ x.0 = eqb-true s x.0 e in
+            let brings : change_taken c (view c past) x.0 bytes ≡ vc.view = brought ∙ rw (e, tests.0, tests.1) refl in
+            let later = ltb-true (view c past) vc.view tests.0 in
+            let above : held_view held x.0 < vc.view = subst (λ (y : ℕ). held_view held y < vc.view) same (above_held held s vc.view (omega (arith, later)) tests.2) in
+            let was = f.latest x.0 other in
+            let least = once_latest c x past once in
+            absurd (omega (arith, brings, above, was, least, is_latest))
+        go false e =
+            let apart = eqb-false s x.0 e in
+            let brings : change_taken c (view c past) x.0 bytes ≡ 0 = brought ∙ rw e refl in
+            let k = f.taken x other once (omega (arith, brings, is_latest)) in
+            (k.0, put_elsewhere held s x.0 (Some h) (λ same. apart (sym same)) ∙ k.1, k.2)
+
 pub received_own : ReceivedOwn
-received_own c me past held h own l f = record { latest = latest; seen = seen }
+received_own c me past held h own l f = record { latest = latest; seen = seen; placed = placed; taken = came }
   where
     latest : (r : ℕ) → r ≢ me → latest_change c (Sent me h.frame ∷ past) r ≡ held_view (with_held h held) r
     latest r other =
@@ -182,3 +258,19 @@ received_own c me past held h own l f = record { latest = latest; seen = seen }
             let it : h ≡ x = some_injective h x (sym (put_there held h.sender (Some h) (subst (λ (y : ℕ). y < length held) (sym own) l)) ∙ ap (held_of (with_held h held)) same ∙ is) in
             inl (inl (ap (λ (y : HeldData). y.frame) it))
         go false e = let apart = eqb-false h.sender r e in inr (f.seen r x (sym (put_elsewhere held h.sender r (Some h) (λ same. apart (sym same))) ∙ is))
+
+    placed : (r : ℕ) (x : HeldData) → held_of (with_held h held) r ≡ Some x → x.sender ≡ r
+    placed r x is = go (h.sender == r) refl
+      where
+        go : (b : Bool) → (h.sender == r) ≡ b → x.sender ≡ r
+        go true e =
+            let same : h.sender ≡ r = eqb-true h.sender r e in
+            let it : h ≡ x = some_injective h x (sym (put_there held h.sender (Some h) (subst (λ (y : ℕ). y < length held) (sym own) l)) ∙ ap (held_of (with_held h held)) same ∙ is) in
+            sym (ap (λ (y : HeldData). y.sender) it) ∙ same
+        go false e = let apart = eqb-false h.sender r e in f.placed r x (sym (put_elsewhere held h.sender r (Some h) (λ same. apart (sym same))) ∙ is)
+
+    came : (x : ℕ × ViewChangeData) → x.0 ≢ me → Once (BringsChange c x) (Sent me h.frame ∷ past) → latest_change c (Sent me h.frame ∷ past) x.0 ≡ x.1.view
+        → (k : HeldData) × (held_of (with_held h held) x.0 ≡ Some k) × (k.change ≡ x.1)
+    came x other (inl b) is_latest = absurd b
+    came x other (inr once) is_latest =
+        let k = f.taken x other once (omega (arith, is_latest)) in (k.0, put_elsewhere held h.sender x.0 (Some h) (λ same. other (same ∙ own)) ∙ k.1, k.2)

@@ -15,8 +15,9 @@ use Rattle.protocol.proofs.Words.Reacting.{one_of}
 use Rattle.protocol.proofs.Agreement.Voting.{logged_stays}
 use Rattle.replica_histories.specs.Logs.{FitsLog}
 use Rattle.replica_histories.specs.Desk.{Desk}
-use Rattle.replica_histories.specs.Events.{Fits, IsSettled, start_at, HeldAreSettled}
-use Rattle.replica_histories.specs.Inputs.{InputsPass, TicksPass}
+use Rattle.replica_histories.specs.Events.{Fits, IsSettled, LeavesNoView, start_at, HeldAreSettled}
+use Rattle.state_transfer.specs.Transfer.{TransferData}
+use Rattle.replica_histories.specs.Inputs.{again_due, InputsPass, TicksPass}
 use Rattle.replica_histories.proofs.Words.{given_not, marks_are, primary_same}
 use Rattle.replica_histories.proofs.Numbers.{lower_in_marks}
 use Rattle.replica_histories.proofs.Certified.{active, committed_here}
@@ -25,14 +26,15 @@ use Rattle.replica_histories.proofs.Entering.{inputs_fit, ticks_fit}
 
 -- ---- what an event leaves
 
--- nothing is next, and no waiting request is without a number
+-- nothing is next, no waiting request is without a number, and no new view is left
 pub record Rests (c : Configuration) (me : ℕ) (now : List Entry) (new : Point) : Type 0 where
   pub executes : (v : ℕ) (batch : List ℕ) → Committed c me now v (suc new.state.number) batch → ⊥
   pub numbers : (v i : ℕ) (call : Call) → is_active_in c now v ≡ true → primary c v ≡ me → Has (λ x. x ≡ call) new.waiting
       → IsFree c me now new.state.number v i → IsNumbered c me now v call.client call.timestamp
+  pub new_views : LeavesNoView c me now
 
 rests_owed : (c : Configuration) (me : ℕ) (before : List Entry) (input : Entry) (outputs now : List Entry) (old new : Point) → Owes c me before input outputs now old new → Rests c me now new
-rests_owed c me before input outputs now old new o = record { executes = o.executes; numbers = o.numbers }
+rests_owed c me before input outputs now old new o = record { executes = o.executes; numbers = o.numbers; new_views = o.new_views }
 
 turned : (e : Entry) (outputs past : List Entry) → reverse (e ∷ outputs) ++ past ≡ reverse outputs ++ e ∷ past
 turned e outputs past = ap (λ (xs : List Entry). xs ++ past) (reverse-cons e outputs) ∙ append_assoc (reverse outputs) (e ∷ []) past
@@ -51,6 +53,7 @@ unfolding logged
 rests_first c me point is = record {
   executes = λ v batch k. let l : None ≡ Some batch = k.prepared.logged in cc;
   numbers = λ v i call active own waits free. absurd (subst (λ (p : Point). Has (λ x. x ≡ call) p.waiting) is waits);
+  new_views = λ other can. absurd (let left = can.left in omega (arith, left));
 }
 
 pub rests : (c : Configuration) (me : ℕ) (xs : List Entry) (point : Point) → Proceeds c me xs [] point point → Rests c me xs point
@@ -133,12 +136,13 @@ settled_goes c me desk log past e f g s = record {
     on call n = (n.0, of_view n.0 n.1, n.2)
 
 pub inputs_pass : InputsPass
-inputs_pass c me desk log past bytes held none e answered =
+inputs_pass c me desk log past bytes held none e answered none_left =
     let f : Fits c me (start_at c me desk log past held (Got me bytes)) desk log [] [] = inputs_fit c me desk desk log log [] past bytes held none e in
-    events_end c me desk desk log log past [] (Got me bytes) held f (settled_goes c me desk log past (Got me bytes) held.of_log.fits f.of_log (held_are_settled c me desk log past held)) answered refl (inl refl)
+    events_end c me desk desk log log past [] (Got me bytes) held f (settled_goes c me desk log past (Got me bytes) held.of_log.fits f.of_log (held_are_settled c me desk log past held)) answered none_left refl (inl refl)
 
 pub ticks_pass : TicksPass
-ticks_pass c me desk log past held answered =
-    let f : Fits c me (start_at c me desk log past held (Tick me)) desk log [] [] = ticks_fit c me desk log past held in
+ticks_pass c me desk log past held none answered none_left =
+    let f : Fits c me (start_at c me desk log past held (Tick me)) desk log [] [] =
+    subst (λ (o : Option TransferData). Fits c me (start_at c me desk log past held (Tick me)) desk log (again_due o) []) none (ticks_fit c me desk log past held) in
     events_end c me desk desk log log past [] (Tick me) held f (settled_goes c me desk log past (Tick me) held.of_log.fits f.of_log (held_are_settled c me desk log past held))
-    answered refl (inl refl)
+    answered none_left refl (inl refl)

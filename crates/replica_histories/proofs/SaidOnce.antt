@@ -35,7 +35,7 @@ use Rattle.replica_histories.proofs.NumbersWaiting.{call_raises, frames_raise}
 
 -- ---- what an event has sent
 
-sends_says : (me : ℕ) (message : Message) (bytes : List ℕ) (past : List Entry) (e : Entry) → said bytes ≡ Some (record { sender = me; message = message }) → SendsBytes bytes past e → IsSaying me message e
+pub sends_says : (me : ℕ) (message : Message) (bytes : List ℕ) (past : List Entry) (e : Entry) → said bytes ≡ Some (record { sender = me; message = message }) → SendsBytes bytes past e → IsSaying me message e
 sends_says me message bytes past (Sent p sent) says h = subst (λ (x : List ℕ). said x ≡ Some (record { sender = me; message = message })) (sym h) says
 sends_says me message bytes past (Invoke x y z) says h = h
 sends_says me message bytes past (Got x y) says h = h

@@ -1,5 +1,5 @@
 -- What a transfer wants and has is what its replica's history says.
-use Rattle.std.proofs.Common.{◌≡◌, ℕ, zero, suc, ◌+◌, ◌*◌, ◌/◌, ◌%◌, ◌≤◌, ◌<◌, ◌⊎◌, inl, inr, Bool, true, false, List, [], ◌∷◌, replicate, set, get_or, refl, sym, ap, ◌∙◌, subst, arith, Option, Some, None, slice_get}
+use Rattle.std.proofs.Common.{◌≡◌, ℕ, zero, suc, max, ◌+◌, ◌*◌, ◌/◌, ◌%◌, ◌≤◌, ◌<◌, ◌⊎◌, inl, inr, Bool, true, false, List, [], ◌∷◌, replicate, set, get_or, refl, sym, ap, ◌∙◌, subst, arith, Option, Some, None, slice_get}
 use Rattle.std.specs.Prelude.{nat_lt, bytes_eq, option_and_then}
 use Rattle.std.specs.Bool.{then_some}
 use Rattle.std.specs.Option.{option_map_or}
@@ -405,6 +405,26 @@ open_above c me (Some t) number history f = let above = f.1 in omega arith
 pub fetched_most : (c : Configuration) (me : ℕ) (open_one : Option TransferData) (number : ℕ) (history : List Entry) → FitsOpen c me open_one number history → fetching history ≤ open_number number open_one
 fetched_most c me None number history f = f.0
 fetched_most c me (Some t) number history f = let newest = f.0.newest in omega arith
+
+sent_fetched : (o : Option Body) (past : List Entry) (k : ℕ) (place : Level × ℕ) → (asked_last past ≡ Some (k, place) → k ≤ fetching past) → or_else (option_and_then place_from o) (asked_last past) ≡ Some (k, place)
+    → k ≤ max (option_map_or number_of o 0) (fetching past)
+sent_fetched None past k place earlier is = let most = earlier is in omega (arith, most)
+sent_fetched (Some body) past k place earlier is = of body.sender body.message is
+  where
+    of : (sender : ℕ) (message : Message) → or_else (place_from (record { sender = sender; message = message })) (asked_last past) ≡ Some (k, place) → k ≤ max (number_of (record { sender = sender; message = message })) (fetching past)
+    of sender (Fetch n level index) is = let same : n ≡ k = ap (λ (x : ℕ × (Level × ℕ)). x.0) (some_injective (n, (level, index)) (k, place) is) in omega (arith, same)
+    of sender _ is = let most = earlier is in omega (arith, most)
+
+-- of what was asked for last a part was fetched
+pub asked_fetched : (history : List Entry) (k : ℕ) (place : Level × ℕ) → asked_last history ≡ Some (k, place) → k ≤ fetching history
+asked_fetched [] k place h = absurd cc
+asked_fetched (Sent p bytes ∷ past) k place h = sent_fetched (said bytes) past k place (asked_fetched past k place) h
+asked_fetched (Invoke x y z ∷ past) k place h = let most = asked_fetched past k place h in omega (arith, most)
+asked_fetched (Got x y ∷ past) k place h = let most = asked_fetched past k place h in omega (arith, most)
+asked_fetched (Tick x ∷ past) k place h = let most = asked_fetched past k place h in omega (arith, most)
+asked_fetched (Executed x y z ∷ past) k place h = let most = asked_fetched past k place h in omega (arith, most)
+asked_fetched (Installed x y z ∷ past) k place h = let most = asked_fetched past k place h in omega (arith, most)
+asked_fetched (Accepted x y z ∷ past) k place h = let most = asked_fetched past k place h in omega (arith, most)
 
 -- a frame that asks for no part
 pub asks_none : (bytes : List ℕ) (sender : ℕ) (message : Message) → said bytes ≡ Some (record { sender = sender; message = message }) → place_from (record { sender = sender; message = message }) ≡ None → place_sent (Sent sender bytes) ≡ None

@@ -14,16 +14,16 @@ use Rattle.protocol.specs.System.Configuration.{Configuration, replicas, is_numb
 use Rattle.protocol.specs.System.Trace.{Entry, Has}
 use Rattle.protocol.specs.System.Trace.Entry.{Invoke, Got, Tick, Executed, Installed, Sent, Accepted}
 use Rattle.protocol.specs.Replica.Selection.{is_quorum}
-use Rattle.protocol.specs.Replica.Certificates.{brought, checkpoint_from, checkpoint_in, insert_checkpoint, with_checkpoint, checkpoints_of, says_checkpoint, count_checkpoints}
+use Rattle.protocol.specs.Replica.Certificates.{brought, checkpoint_from, checkpoint_in, insert_checkpoint, with_checkpoint, checkpoints_of, says_checkpoint, count_checkpoints, taken}
 use Rattle.protocol.specs.Replica.Transfers.{fetch_sent, fetching}
-use Rattle.protocol.specs.Replica.Owed.{IsSaying, Gives, has_number}
+use Rattle.protocol.specs.Replica.Owed.{IsSaying, Gives, StartsAhead, has_number}
 use Rattle.protocol.specs.Evidence.RefusedMarks.{BringsCheckpoint}
 use Rattle.protocol.proofs.Evidence.RefusingMarksCheckpoints.{first_checkpoint_counts}
 use Rattle.protocol.proofs.Words.Options.{and_then_some, then_some_gives}
 use Rattle.protocol.proofs.Words.Elements.{has_of_any}
 use Rattle.replica_histories.specs.Events.{behind, IsOnItsWay}
 use Rattle.replica_histories.specs.Transfers.{HasQuorum}
-use Rattle.replica_histories.specs.TransfersQuorums.{BringsRoot, QuorumsGrow, CountsStay, UnchangedBringNone, QuorumsFirst, QuorumsStay, QuorumsBegin, QuorumsGoOn, QuorumsEnd}
+use Rattle.replica_histories.specs.TransfersQuorums.{BringsRoot, IsToFetch, QuorumsGrow, CountsStay, UnchangedBringNone, QuorumsFirst, QuorumsStay, QuorumsBegin, QuorumsGoOn, QuorumsEnd}
 use Rattle.replica_histories.proofs.Transfers.{number_of, no_quorum}
 
 -- ---- one more checkpoint among a sender's
@@ -202,31 +202,49 @@ unchanged_bring_none c mark past e k root same b = go (nat_lt mark k) refl
         absurd cc
     go false over = ltb-false mark k over
 
--- ---- all that a quorum says is fetched
+-- ---- all that a quorum says, or a new view starts at, is fetched
+
+-- where none is taken, none starts
+pub none_starts : {A : Type 0} (c : Configuration) (past : List Entry) (e : Entry) (k : ℕ) → taken c past e ≡ None → StartsAhead c k past e → A
+none_starts c past e k none h = absurd (let bad : None ≡ Some h.0 = sym none ∙ h.1 in cc)
 
 pub quorums_first : QuorumsFirst
-quorums_first c number k root h above = absurd (no_quorum c (record { number = k; digest = root }) h)
+quorums_first c number k root (inl h) above = absurd (no_quorum c (record { number = k; digest = root }) h)
+quorums_first c number k root (inr h) above = absurd h
 
 pub quorums_stay : QuorumsStay
-quorums_stay c number later past e grows new was k root h above = go (quorums_grow c past e k root h)
+quorums_stay c number later past e grows new starts was k root h above = at h
   where
-    go : HasQuorum c past k root ⊎ BringsRoot c past e k root → k ≤ fetching (e ∷ past)
-    go (inl q) = let l = was k root q (omega arith) in omega arith
-    go (inr b) = new k root b h above
+    before : IsToFetch c past k root → k ≤ fetching (e ∷ past)
+    before t = let l = was k root t (omega arith) in omega arith
+
+    go : HasQuorum c (e ∷ past) k root → HasQuorum c past k root ⊎ BringsRoot c past e k root → k ≤ fetching (e ∷ past)
+    go q (inl earlier) = before (inl earlier)
+    go q (inr b) = new k root b q above
+
+    at : IsToFetch c (e ∷ past) k root → k ≤ fetching (e ∷ past)
+    at (inl q) = go q (quorums_grow c past e k root q)
+    at (inr (inl start)) = starts k start above
+    at (inr (inr earlier)) = before (inr earlier)
 
 pub quorums_begin : QuorumsBegin
-quorums_begin c me s number due was new k root h above = go (quorums_grow c s.before s.input k root h)
+quorums_begin c me s number due was new starts k root h above = all h
   where
     at : (k ≤ fetching s.before) ⊎ Has (λ x. x ≡ Fetch k levels.Root 0) due → (k ≤ fetching s.before) ⊎ IsOnItsWay me due [] (Fetch k levels.Root 0)
     at (inl l) = inl l
     at (inr d) = inr (inl d)
 
-    go : HasQuorum c s.before k root ⊎ BringsRoot c s.before s.input k root → (k ≤ fetching s.before) ⊎ IsOnItsWay me due [] (Fetch k levels.Root 0)
-    go (inl q) = inl (was k root q above)
-    go (inr b) = at (new k root b h above)
+    go : HasQuorum c (s.input ∷ s.before) k root → HasQuorum c s.before k root ⊎ BringsRoot c s.before s.input k root → (k ≤ fetching s.before) ⊎ IsOnItsWay me due [] (Fetch k levels.Root 0)
+    go q (inl earlier) = inl (was k root (inl earlier) above)
+    go q (inr b) = at (new k root b q above)
+
+    all : IsToFetch c (s.input ∷ s.before) k root → (k ≤ fetching s.before) ⊎ IsOnItsWay me due [] (Fetch k levels.Root 0)
+    all (inl q) = go q (quorums_grow c s.before s.input k root q)
+    all (inr (inl start)) = inr (inl (starts k start above))
+    all (inr (inr earlier)) = inl (was k root (inr earlier) above)
 
 pub quorums_go_on : QuorumsGoOn
-quorums_go_on c me s number later due rest outputs e grows low paid f k root h above = go (quorums_grow c (behind s outputs) e k root h)
+quorums_go_on c me s number later due rest outputs e grows low starts paid f k root h above = all h
   where
     due_now : Has (λ x. x ≡ Fetch k levels.Root 0) rest ⊎ IsSaying me (Fetch k levels.Root 0) e → IsOnItsWay me rest (e ∷ outputs) (Fetch k levels.Root 0)
     due_now (inl d) = inl d
@@ -238,8 +256,13 @@ quorums_go_on c me s number later due rest outputs e grows low paid f k root h a
     at (inr (inr g)) = inr (inr (inr g))
 
     go : HasQuorum c (behind s outputs) k root ⊎ BringsRoot c (behind s outputs) e k root → (k ≤ fetching s.before) ⊎ IsOnItsWay me rest (e ∷ outputs) (Fetch k levels.Root 0)
-    go (inl q) = at (f k root q (omega arith))
+    go (inl q) = at (f k root (inl q) (omega arith))
     go (inr b) = let most = low k root b in absurd (omega arith)
+
+    all : IsToFetch c (e ∷ behind s outputs) k root → (k ≤ fetching s.before) ⊎ IsOnItsWay me rest (e ∷ outputs) (Fetch k levels.Root 0)
+    all (inl q) = go (quorums_grow c (behind s outputs) e k root q)
+    all (inr (inl start)) = inr (inl (starts k start above))
+    all (inr (inr earlier)) = at (f k root (inr earlier) (omega arith))
 
 fetching_grows : (outputs past : List Entry) → fetching past ≤ fetching (outputs ++ past)
 fetching_grows [] past = omega arith

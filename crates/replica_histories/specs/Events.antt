@@ -1,9 +1,10 @@
 -- How what a replica holds meets its history: in the midst of an event, and between two.
-use Rattle.std.specs.Prelude.{◌≡◌, ℕ, suc, ◌%◌, ◌+◌, ◌≤◌, ◌⊎◌, Bool, true, false, List, [], ◌∷◌, ◌++◌, Some, None, is_some, ⊤, map}
+use Rattle.std.specs.Prelude.{◌≡◌, ℕ, suc, ◌%◌, ◌+◌, ◌≤◌, ◌<◌, ◌⊎◌, Bool, true, false, List, [], ◌∷◌, ◌++◌, Some, None, is_some, ⊤, map}
 use Rattle.tuple_codec.specs.Operations.{Operation}
 use Rattle.terms.specs.declared.order.Mode.TheVariants as modes
+use Rattle.terms.specs.declared.state.Level.{Level}
 use Rattle.terms.specs.declared.state.Level.TheVariants as levels
-use Rattle.wire.specs.Messages.{BodyData as Body, MessageData as Message, request as Request, reply as Reply, checkpoint as Checkpoint, fetch as Fetch}
+use Rattle.wire.specs.Messages.{BodyData as Body, MessageData as Message, NewViewData, request as Request, reply as Reply, checkpoint as Checkpoint, fetch as Fetch}
 use Rattle.signing.specs.Heard.{heard}
 use Rattle.reply_cache.specs.Replies.{Kept}
 use Rattle.ordering.specs.Log as logs
@@ -13,9 +14,9 @@ use Rattle.protocol.specs.System.Trace.{Entry, Once, Has, is_output, Hears}
 use Rattle.protocol.specs.System.Trace.Entry.{Got, Tick}
 use Rattle.protocol.specs.Replica.Certificates.{low, Committed}
 use Rattle.protocol.specs.Replica.State.{State, Call, Ran, kept_of, last_time, root_of}
-use Rattle.protocol.specs.Replica.RightReplica.{Point, Leaves, Executes, kept_states, HasSeen, MayReplyOrdered, MayCheckpoint, MayInstall, reply_of, IsFree}
-use Rattle.protocol.specs.Replica.Transfers.{fetching}
-use Rattle.protocol.specs.Replica.Owed.{IsNumbered, NumbersOnce, Counts, Proceeds}
+use Rattle.protocol.specs.Replica.RightReplica.{Point, Leaves, Executes, kept_states, HasSeen, MayReplyOrdered, MayCheckpoint, MayInstall, IsTick, reply_of, IsFree}
+use Rattle.protocol.specs.Replica.Transfers.{fetching, asked_last}
+use Rattle.protocol.specs.Replica.Owed.{IsNumbered, NumbersOnce, Counts, AreKeysSpent, CanBeginView, Proceeds}
 use Rattle.replica_histories.specs.Desk.{Desk, snapshot_of, point_of, desk_from}
 use Rattle.replica_histories.specs.Logs.{FitsLog}
 use Rattle.replica_histories.specs.Transfers.{FitsOpen}
@@ -58,6 +59,11 @@ pub record SaysOnce (me : ℕ) (s : Start) (st : State) (due : List Message) (ou
   pub unsaid : AreUnsaid me due outputs
   pub replies : (k : ℕ) (kept : Kept) → IsOnItsWay me due outputs (reply_of k kept) → kept.timestamp ≤ last_time st k
 
+-- a tick began the event, and this place of an open transfer was asked for last
+abbrev pub IsAskedOpen : Start → ℕ → Level → ℕ → Type 0
+IsAskedOpen s k level index =
+    IsTick s.input × (asked_last s.before ≡ Some (k, (level, index))) × (s.old.state.number < k)
+
 -- each frame that is held was seen and is genuine
 abbrev pub FitsFrames : Configuration → ℕ → Desk → List Entry → Type 0
 FitsFrames c me desk history =
@@ -84,6 +90,8 @@ pub record FitsDesk (c : Configuration) (me : ℕ) (s : Start) (desk : Desk) (du
       → Has (λ st. (st.number ≡ k) × IsOnItsWay me due outputs (Checkpoint k (root_of st))) states
   pub opened : FitsOpen c me desk.transfer desk.state.number (behind s outputs)
   pub fetches : FetchesQuorums c me s desk.state.number due outputs
+  pub fetch_again : (k index : ℕ) (level : Level) → IsAskedOpen s k level index
+      → IsOnItsWay me due outputs (Fetch k level index)
   pub rightly : (message : Message) → Has (λ x. x ≡ message) due
       → MaySayDue c me (behind s outputs) (point_of desk states ran) message
 
@@ -119,6 +127,10 @@ pub record IsSettled (c : Configuration) (me : ℕ) (desk : Desk) (log : LogData
   pub numbers : (i : ℕ) (call : Call) → log.active ≡ true → logs.primary log log.view ≡ log.me
       → Has (λ x. x ≡ call) desk.waiting
       → IsFree c me history desk.state.number log.view i → IsNumbered c me history log.view call.client call.timestamp
+
+-- no new view is left that the replica could send, unless its keys are spent
+abbrev pub LeavesNoView : Configuration → ℕ → List Entry → Type 0
+LeavesNoView c me history = (new : NewViewData) → CanBeginView c me history new → AreKeysSpent history
 
 -- a rule takes the input
 abbrev pub IsTaken : Configuration → ℕ → Start → Type 0
@@ -161,14 +173,15 @@ start_at c me desk log past held input = record { before = past; input = input; 
 
 -- ---- laws
 
--- Where both fit an event, nothing is due, nothing is left owed, and what was asked is answered, they hold of the
--- longer history.
+-- Where both fit an event, nothing is due, nothing is left owed, what was asked is answered, and no new view is left to
+-- send, they hold of the longer history.
 abbrev pub EventsEnd : Type 0
 EventsEnd =
     (c : Configuration) (me : ℕ) (desk new : Desk) (log after : LogData) (past outputs : List Entry) (input : Entry)
     (held : Holds c me desk log past)
     → Fits c me (start_at c me desk log past held input) new after [] outputs
     → IsSettled c me new after (outputs ++ input ∷ past) → AnswersInput c me past input outputs held.of_desk.point new.state.number
+    → LeavesNoView c me (outputs ++ input ∷ past)
     → is_output input ≡ false
     → (outputs ≡ []) ⊎ IsTaken c me (start_at c me desk log past held input)
     → Holds c me new after (outputs ++ input ∷ past)

@@ -10,6 +10,7 @@ use Rattle.wire.specs.Messages.{BodyData as Body, MessageData as Message, reques
 use Rattle.signing.specs.Heard.{heard}
 use Rattle.reply_cache.specs.Replies.{Kept}
 use Rattle.ordering.specs.declared.votes.Vote.{Vote}
+use Rattle.state_transfer.specs.Transfer.{TransferData}
 use Rattle.ordering.specs.declared.dropped.Dropped.{Dropped}
 use Rattle.ordering.specs.Log as logs
 use Rattle.ordering.specs.Log.{LogData}
@@ -27,7 +28,7 @@ use Rattle.replica_histories.specs.Logs.{FitsLog, Takes}
 use Rattle.replica_histories.specs.Marks.{checked_log}
 use Rattle.replica_histories.specs.Transfers.{open_number}
 use Rattle.replica_histories.specs.Questions.{AnswersInput}
-use Rattle.replica_histories.specs.Events.{Fits, Holds, start_at}
+use Rattle.replica_histories.specs.Events.{Fits, LeavesNoView, Holds, start_at}
 
 -- ---- what a request asks for
 
@@ -89,11 +90,15 @@ CheckpointsEnter =
     → Fits c me (start_at c me desk log past held (Got me bytes)) (desk_from (checked_log log s entry).low desk)
     (checked_log log s entry) (fetch_due desk (logs.with_checkpoint_of log s entry) entry) []
 
--- A tick begins an event, and changes nothing of itself.
+-- The fetch of an open transfer's place is due again.
+abbrev pub again_due : Option TransferData → List Message
+again_due transfer = option_map_or (λ t. Fetch t.number t.asked.level t.asked.index ∷ []) transfer []
+
+-- A tick begins an event, and changes nothing of itself. It makes the last fetch due again.
 abbrev pub TicksFit : Type 0
 TicksFit =
     (c : Configuration) (me : ℕ) (desk : Desk) (log : LogData) (past : List Entry) (held : Holds c me desk log past)
-    → Fits c me (start_at c me desk log past held (Tick me)) desk log [] []
+    → Fits c me (start_at c me desk log past held (Tick me)) desk log (again_due desk.transfer) []
 
 -- ---- which messages count
 
@@ -207,17 +212,19 @@ OthersDrop =
 -- ---- inputs that pass
 
 -- Bytes that change neither desk nor log, make nothing due and fetch nothing that is kept leave both as they hold, with
--- no output; so does a tick by which the replica need not move.
+-- no output; so does a tick by which the replica need not move, while no transfer is open.
 abbrev pub InputsPass : Type 0
 InputsPass =
     (c : Configuration) (me : ℕ) (desk : Desk) (log : LogData) (past : List Entry) (bytes : List ℕ)
     (held : Holds c me desk log past)
     → taken c past (Got me bytes) ≡ None → Enters c me bytes desk desk log log []
     → AnswersInput c me past (Got me bytes) [] held.of_desk.point desk.state.number
+    → LeavesNoView c me (Got me bytes ∷ past)
     → Holds c me desk log (Got me bytes ∷ past)
 
 abbrev pub TicksPass : Type 0
 TicksPass =
     (c : Configuration) (me : ℕ) (desk : Desk) (log : LogData) (past : List Entry)
-    (held : Holds c me desk log past) → AnswersInput c me past (Tick me) [] held.of_desk.point desk.state.number
+    (held : Holds c me desk log past) → desk.transfer ≡ None
+    → AnswersInput c me past (Tick me) [] held.of_desk.point desk.state.number → LeavesNoView c me (Tick me ∷ past)
     → Holds c me desk log (Tick me ∷ past)

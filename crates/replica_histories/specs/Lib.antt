@@ -17,4 +17,5 @@ pub mod Views
 pub mod Claims
 pub mod Received
 pub mod Changes
+pub mod Primaries
 pub mod Resending

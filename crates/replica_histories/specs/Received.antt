@@ -9,6 +9,7 @@ use Rattle.protocol.specs.System.Trace.Entry.{Got, Sent}
 use Rattle.protocol.specs.Replica.Selection.{signed_change}
 use Rattle.protocol.specs.Replica.Certificates.{view, latest_change}
 use Rattle.protocol.specs.Replica.RightReplica.{HasSeen, sought_view, JoinsOthers}
+use Rattle.protocol.specs.Replica.Owed.{BringsChange}
 use Rattle.view_change.specs.declared.change_fault.ChangeFault.{ChangeFault}
 use Rattle.view_change.specs.ReceivedData.{HeldData, held_of, refusal_of, with_held, AreHeldFrom, later_views, IsJoined}
 
@@ -16,11 +17,15 @@ use Rattle.view_change.specs.ReceivedData.{HeldData, held_of, refusal_of, with_h
 abbrev pub held_view : List (Option HeldData) → ℕ → ℕ
 held_view held s = option_map_or (λ h. h.change.view) (held_of held s) 0
 
--- Of each other replica the latest view change that counted is held; and each frame that is held was seen.
+-- Of each other replica the latest view change that counted is held, and it is the one that came; each is held in its
+-- sender's place, and each frame that is held was seen.
 pub record FitsReceived (c : Configuration) (me : ℕ) (history : List Entry)
     (held : List (Option HeldData)) : Type 0 where
   pub latest : (s : ℕ) → s ≢ me → latest_change c history s ≡ held_view held s
   pub seen : (s : ℕ) (h : HeldData) → held_of held s ≡ Some h → Once (HasSeen h.frame) history
+  pub placed : (s : ℕ) (h : HeldData) → held_of held s ≡ Some h → h.sender ≡ s
+  pub taken : (x : ℕ × ViewChangeData) → x.0 ≢ me → Once (BringsChange c x) history
+      → latest_change c history x.0 ≡ x.1.view → (h : HeldData) × (held_of held x.0 ≡ Some h) × (h.change ≡ x.1)
 
 -- ---- laws
 

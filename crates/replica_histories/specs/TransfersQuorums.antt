@@ -1,13 +1,13 @@
--- A quorum of checkpoints above the executed number starts a transfer: its root is fetched in the event that makes the
--- quorum (Castro and Liskov, TOCS 2002, on state transfer).
+-- A quorum of checkpoints above the executed number starts a transfer, and so does a new view that starts there: its root
+-- is fetched in the event that makes the quorum, or takes the new view (Castro and Liskov, TOCS 2002, on state transfer).
 use Rattle.std.specs.Prelude.{◌≡◌, ℕ, ◌≤◌, ◌<◌, ◌⊎◌, true, false, List, [], ◌∷◌, filter, nat_lt, Some, None}
 use Rattle.terms.specs.declared.state.Level.TheVariants as levels
 use Rattle.wire.specs.Messages.{MessageData as Message, CheckpointEntryData as CheckpointEntry, fetch as Fetch}
 use Rattle.protocol.specs.System.Configuration.{Configuration}
-use Rattle.protocol.specs.System.Trace.{Entry, Has}
+use Rattle.protocol.specs.System.Trace.{Entry, Once, Has}
 use Rattle.protocol.specs.Replica.Certificates.{checkpoint_in, checkpoints_of, count_checkpoints}
 use Rattle.protocol.specs.Replica.Transfers.{fetching}
-use Rattle.protocol.specs.Replica.Owed.{IsSaying, Gives, has_number}
+use Rattle.protocol.specs.Replica.Owed.{IsSaying, Gives, StartsAhead, has_number}
 use Rattle.replica_histories.specs.Running.{Start, behind, IsOnItsWay}
 use Rattle.replica_histories.specs.Transfers.{HasQuorum}
 
@@ -19,15 +19,20 @@ pub record BringsRoot (c : Configuration) (past : List Entry) (e : Entry) (k : �
   pub first : has_number k (checkpoints_of c past sender) ≡ false
   pub kept : has_number k (checkpoints_of c (e ∷ past) sender) ≡ true
 
--- Between events: what a quorum says above the executed number was fetched, or something above it.
+-- The state of the number is to be fetched: a quorum of checkpoints has this root for it, or a new view started there,
+-- above what was fetched then.
+abbrev pub IsToFetch : Configuration → List Entry → ℕ → List ℕ → Type 0
+IsToFetch c history k root = HasQuorum c history k root ⊎ Once (StartsAhead c k) history
+
+-- Between events: such a state above the executed number was fetched, or one above it.
 abbrev pub QuorumsFetched : Configuration → ℕ → List Entry → Type 0
 QuorumsFetched c number history =
-    (k : ℕ) (root : List ℕ) → HasQuorum c history k root → number < k → k ≤ fetching history
+    (k : ℕ) (root : List ℕ) → IsToFetch c history k root → number < k → k ≤ fetching history
 
 -- In an event: it was fetched before, or its root is fetched in the event, or that is due.
 abbrev pub FetchesQuorums : Configuration → ℕ → Start → ℕ → List Message → List Entry → Type 0
 FetchesQuorums c me s number due outputs =
-    (k : ℕ) (root : List ℕ) → HasQuorum c (behind s outputs) k root → number < k
+    (k : ℕ) (root : List ℕ) → IsToFetch c (behind s outputs) k root → number < k
     → (k ≤ fetching s.before) ⊎ IsOnItsWay me due outputs (Fetch k levels.Root 0)
 
 -- ---- laws
@@ -56,29 +61,34 @@ UnchangedBringNone =
 abbrev pub QuorumsFirst : Type 0
 QuorumsFirst = (c : Configuration) (number : ℕ) → QuorumsFetched c number []
 
--- From one entry to the next all is fetched, where the quorum is that the entry makes.
+-- From one entry to the next all is fetched, where the quorum is that the entry makes, and the start of the new view that
+-- it takes.
 abbrev pub QuorumsStay : Type 0
 QuorumsStay =
     (c : Configuration) (number later : ℕ) (past : List Entry) (e : Entry) → number ≤ later
     → ((k : ℕ) (root : List ℕ) → BringsRoot c past e k root → HasQuorum c (e ∷ past) k root → later < k
     → k ≤ fetching (e ∷ past))
+    → ((k : ℕ) → StartsAhead c k past e → later < k → k ≤ fetching (e ∷ past))
     → QuorumsFetched c number past → QuorumsFetched c later (e ∷ past)
 
--- An input begins an event so, where the fetch is due of the quorum that it makes.
+-- An input begins an event so, where the fetch is due of the quorum that it makes, and of the start of the new view that
+-- it brings.
 abbrev pub QuorumsBegin : Type 0
 QuorumsBegin =
     (c : Configuration) (me : ℕ) (s : Start) (number : ℕ) (due : List Message) → QuorumsFetched c number s.before
     → ((k : ℕ) (root : List ℕ) → BringsRoot c s.before s.input k root → HasQuorum c (s.input ∷ s.before) k root
     → number < k → (k ≤ fetching s.before) ⊎ Has (λ x. x ≡ Fetch k levels.Root 0) due)
+    → ((k : ℕ) → StartsAhead c k s.before s.input → number < k → Has (λ x. x ≡ Fetch k levels.Root 0) due)
     → FetchesQuorums c me s number due []
 
--- An output goes on with it: a checkpoint that it brings is at or below the executed number, and of what was due it
--- says what is due no more.
+-- An output goes on with it: a checkpoint that it brings is at or below the executed number, the fetch is due of the start
+-- of the new view that it is, and of what was due it says what is due no more.
 abbrev pub QuorumsGoOn : Type 0
 QuorumsGoOn =
     (c : Configuration) (me : ℕ) (s : Start) (number later : ℕ) (due rest : List Message) (outputs : List Entry)
     (e : Entry)
     → number ≤ later → ((k : ℕ) (root : List ℕ) → BringsRoot c (behind s outputs) e k root → k ≤ later)
+    → ((k : ℕ) → StartsAhead c k (behind s outputs) e → later < k → Has (λ x. x ≡ Fetch k levels.Root 0) rest)
     → ((message : Message) → Has (λ x. x ≡ message) due → Has (λ x. x ≡ message) rest ⊎ IsSaying me message e)
     → FetchesQuorums c me s number due outputs → FetchesQuorums c me s later rest (e ∷ outputs)
 
@@ -88,5 +98,5 @@ QuorumsEnd =
     (c : Configuration) (me : ℕ) (s : Start) (number : ℕ) (outputs : List Entry)
     → FetchesQuorums c me s number [] outputs
     → QuorumsFetched c number (behind s outputs)
-    × ((k : ℕ) (root : List ℕ) → HasQuorum c (behind s outputs) k root → number < k → fetching s.before < k
+    × ((k : ℕ) (root : List ℕ) → IsToFetch c (behind s outputs) k root → number < k → fetching s.before < k
     → Gives me (Fetch k levels.Root 0) outputs)

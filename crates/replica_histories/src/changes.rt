@@ -1,6 +1,7 @@
 //! Laws of what a replica holds for changes of its view.
 
 ghost use Rattle.replica_histories.specs.Changes.{ChangesBegin, ChangesStay, CheckpointsAreNoted, CheckpointsAreLatest, CommitsAreClaimed, BatchesAreClaimed, ChangesAreSent, ChangesAreTaken, ViewsAreBegun, SentKeep, SilentKeep, GotKeep, HeardKeep, OthersBringNone, HeardAreSigned, OwnAreSigned, ClaimsAreAbove, OutputsPass, InputsEnter, AllAreSpent, NextLeafIsOwn};
+ghost use Rattle.replica_histories.specs.Primaries.{ClaimedSelectNothing, FewerSelectNothing, NoViewsAreLeft};
 
 /// The logs fit the histories before each entry and behind it.
 pub fn entries_pass()
@@ -49,4 +50,12 @@ pub fn changes_are_made()
 pub fn leaves_are_spent()
     ensures all { AllAreSpent }
     ensures next { NextLeafIsOwn }
+{}
+
+/// A primary that selects nothing over the view changes that it holds for the view that it moves to, with a batch of each
+/// digest that it claims, has no new view left to send by its history (Castro and Liskov, TOCS 2002, on view changes).
+pub fn no_views_are_left()
+    ensures claimed { ClaimedSelectNothing }
+    ensures fewer { FewerSelectNothing }
+    ensures none { NoViewsAreLeft }
 {}

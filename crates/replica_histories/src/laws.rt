@@ -177,7 +177,8 @@ pub fn fetches_are_answered()
 {}
 
 /// An entry makes a quorum for the checkpoint alone that it brings; and each quorum above the executed number has its
-/// root fetched in the event that makes it (Castro and Liskov, TOCS 2002, on state transfer).
+/// root fetched in the event that makes it, as has the start of a new view in the event that takes it (Castro and Liskov,
+/// TOCS 2002, on state transfer).
 pub fn quorums_are_fetched()
     ensures grow { QuorumsGrow }
     ensures same { CountsStay }

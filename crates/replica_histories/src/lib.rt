@@ -35,15 +35,17 @@
 //! ([`entries_pass`]): it stays where an entry brings nothing about ([`entries_keep_changes`]), claims what is logged
 //! and committed ([`changes_stay`]), and has the view changes that are sent and taken, and the new view that begins the
 //! view ([`changes_are_made`]). The view change that it has to say is one ([`views_change`]), others move it to a view
-//! exactly where the history says so ([`changes_are_held`]), and each key that is spent signed what was sent. That it
-//! sends a new view where it may is beyond these laws.
+//! exactly where the history says so ([`changes_are_held`]), and each key that is spent signed what was sent. Where it
+//! selects nothing over what it holds, no new view is left that it could send by its history ([`no_views_are_left`]).
 #![tactic(auto)]
 
 mod changes;
 mod laws;
 mod views;
 
-pub use changes::{changes_are_made, changes_stay, entries_keep_changes, entries_pass};
+pub use changes::{
+    changes_are_made, changes_stay, entries_keep_changes, entries_pass, no_views_are_left,
+};
 pub use laws::{
     events_end, fetches_are_answered, fetches_fit, histories_are_replicas, inputs_fit, inputs_pass,
     kept_are_one, marks_move, messages_count, messages_drop, numbers_are_given, numbers_stay,

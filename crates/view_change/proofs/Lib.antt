@@ -8,7 +8,7 @@ mod Gaps
 mod Holding
 mod Judging
 pub mod Keeping
-mod Larger
+pub mod Larger
 mod Mapped
 pub mod Opening
 mod Placing

@@ -20,8 +20,10 @@ use Rattle.protocol.specs.Evidence.Examples.{four}
 use Rattle.protocol.specs.Evidence.FirstOperation.{FirstFrames, first_answer}
 use Rattle.protocol.specs.Evidence.ExamplesOfKept.{KeptReplyGoesAgain}
 use Rattle.protocol.proofs.Words.Moving.{no_reason}
+use Rattle.protocol.proofs.Words.Starts.{starts_low}
 use Rattle.protocol.proofs.Points.Keeping.{executed_kept}
 use Rattle.protocol.proofs.Words.Options.{some_injective}
+use Rattle.protocol.proofs.Evidence.FirstBatch.{still}
 use Rattle.protocol.proofs.Evidence.FirstReplicasStages.{Stage, got, sent, stage_request, stage_reply}
 use Rattle.protocol.proofs.Evidence.FirstReplicasOwing.{ready, is_prepared, prepared_ready}
 use Rattle.protocol.proofs.Evidence.FirstReplicasSteps as steps
@@ -151,7 +153,10 @@ module _ (o : Part) where
       goes_on_by_digests = λ s n index level digests brings awaited. absurd (is_ordered (record { sender = s; message = Meta n level index digests }) brings);
       goes_on_by_page = λ s n index text brings awaited. absurd (is_ordered (record { sender = s; message = Page n index text }) brings);
       fetches = λ n root quorum above newer. absurd (no_quorum (record { number = n; digest = root }) quorum);
+      fetches_start = λ n starts above newer. absurd (let most = starts_low c me n now starts in let low = (still c me now at_now.plain).low_is in omega (arith, most, low, above));
+      fetches_again = λ n index level tick asked_for above. absurd tick;
       view_changes = λ vc bytes moves may within says. absurd (no_reason c me past w.request (done c batch).waiting vc.view (λ s x asks. is_ordered (record { sender = s; message = ViewChange x }) asks) moves);
+      new_views = λ new can. absurd (let left = can.left in let sent = (still c me now at_now.plain).target_is in omega (arith, left, sent));
       dropped = λ bytes same drops. absurd (not_dropped (subst (λ (bs : List ℕ). IsDropped c me past (done c batch) bs) (sym (same_bytes bytes same)) drops));
     }
 

@@ -1,5 +1,5 @@
 -- The definitions accept a replica that answers a fetch in the beginning.
-use Rattle.std.proofs.Common.{◌≡◌, ℕ, ◌+◌, Bool, true, false, ◌⊎◌, inl, inr, List, [], ◌∷◌, refl, sym, ap, ◌∙◌, subst, Option, Some}
+use Rattle.std.proofs.Common.{◌≡◌, ℕ, ◌+◌, Bool, true, false, ◌⊎◌, inl, inr, List, [], ◌∷◌, refl, sym, ap, ◌∙◌, subst, arith, Option, Some}
 use Rattle.std.specs.Prelude.{option_and_then}
 use Rattle.std.specs.Option.{option_map_or}
 use Rattle.protocol.specs.System.Configuration.{Configuration, members}
@@ -19,6 +19,7 @@ use Rattle.protocol.specs.Replica.Owed.{Owes, IsReplica, GivesTo}
 use Rattle.protocol.specs.Evidence.Examples.{four}
 use Rattle.protocol.specs.Evidence.ExamplesOfAnswers.{IsAnswer, FirstFetchIsAnswered}
 use Rattle.protocol.proofs.Words.Moving.{no_reason}
+use Rattle.protocol.proofs.Words.Starts.{starts_low}
 use Rattle.protocol.proofs.Evidence.FirstBatch.{still}
 use Rattle.protocol.proofs.Words.Options.{some_injective}
 use Rattle.protocol.proofs.Evidence.FirstReplicasStages.{none, Stage, first_stage, got, sent, stage_fetch, stage_meta}
@@ -116,7 +117,10 @@ module _ (clients : ℕ) (seed : List ℕ) (me other : ℕ) (fetch digests : Lis
       goes_on_by_digests = λ s n index level digests brings awaited. absurd (only_fetch (record { sender = s; message = Meta n level index digests }) brings);
       goes_on_by_page = λ s n index text brings awaited. absurd (only_fetch (record { sender = s; message = Page n index text }) brings);
       fetches = λ k root quorum above newer. absurd (no_quorum (record { number = k; digest = root }) quorum);
+      fetches_start = λ n starts above newer. absurd (let most = starts_low c me n now starts in let low = (still c me now stage.plain).low_is in omega (arith, most, low, above));
+      fetches_again = λ n index level tick asked_for above. absurd tick;
       view_changes = λ vc bytes moves may within says. absurd (no_reason c me [] fetch [] vc.view (λ s x asks. only_fetch (record { sender = s; message = ViewChange x }) asks) moves);
+      new_views = λ new can. absurd (let left = can.left in let sent = (still c me now stage.plain).target_is in omega (arith, left, sent));
       dropped = λ bytes same drops. absurd (drops asked (subst (λ (bs : List ℕ). heard (members c) me bs ≡ Some asked) (same_bytes bytes same) hears) (kept_at [] (low_first c me) (λ st. Rattle.std.specs.Prelude.⊤) tt));
     }
 

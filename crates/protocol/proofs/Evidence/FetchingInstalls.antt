@@ -10,20 +10,21 @@ use Rattle.terms.specs.declared.state.Level.TheVariants as levels
 use Rattle.wire.specs.Messages.{BodyData as Body, CheckpointEntryData as CheckpointEntry, request as Request, view_change as ViewChange, fetch as Fetch, meta as Meta, page as Page}
 use Rattle.signing.specs.Heard.{heard}
 use Rattle.protocol.specs.System.Configuration.{Configuration, members}
-use Rattle.protocol.specs.System.Trace.{Entry, history_of, Always, Has}
+use Rattle.protocol.specs.System.Trace.{Entry, history_of, Once, Always, Has}
 use Rattle.protocol.specs.System.Trace.Entry.{Got, Installed}
 use Rattle.protocol.specs.Replica.Selection.{is_quorum}
-use Rattle.protocol.specs.Replica.Certificates.{low, is_in_marks, logged, proposal, checkpoints_of, says_checkpoint, count_checkpoints}
+use Rattle.protocol.specs.Replica.Certificates.{target, low, is_in_marks, logged, proposal, checkpoints_of, says_checkpoint, count_checkpoints}
 use Rattle.protocol.specs.Replica.State.{State, IsState, opening, root_of, all_pages, page_text}
 use Rattle.protocol.specs.Replica.Transfers.{in_place}
 use Rattle.protocol.specs.Replica.RightReplica.{Point, first_point, Executes, IsInstalled, IsStep}
-use Rattle.protocol.specs.Replica.Owed.{IsDropped, TransferGoesOn, Owes, IsPromptReplica}
+use Rattle.protocol.specs.Replica.Owed.{IsDropped, StartsAhead, TransferGoesOn, Owes, IsPromptReplica}
 use Rattle.protocol.specs.Space.Linear.{reached}
 use Rattle.protocol.specs.System.Run.{IsRun}
 use Rattle.protocol.specs.Evidence.Examples.{four}
 use Rattle.protocol.specs.Evidence.Listed.{state_at, texts_from}
 use Rattle.protocol.specs.Evidence.Fetched.{FetchFrames, AreFetchFrames, with_first, AreDifferentPages, fetching_pages, FetchedAreInstalled}
 use Rattle.protocol.proofs.Words.Moving.{no_reason}
+use Rattle.protocol.proofs.Words.Starts.{starts_low}
 use Rattle.protocol.proofs.Words.Options.{some_injective}
 use Rattle.protocol.proofs.Words.Taking.{same_all}
 use Rattle.protocol.proofs.Evidence.RefusingMarksLow.{checkpoints_with}
@@ -112,6 +113,11 @@ module _ (clients : ℕ) (seed : List ℕ) (st : State) (w : FetchFrames) (n : �
       let is = (agreed clients seed root past p3 ready.asked 16 ready.stage m (subst (λ (x : ℕ). is_quorum c x ≡ true) (same_count m) quorum)).0 in
       omega (arith, is, above, number)
 
+  -- no new view starts above the state
+  no_start : (k : ℕ) → Once (StartsAhead c k) now → st.number < k → ⊥
+  no_start k (inl h) above = absurd (let bad : None ≡ Some h.0 = h.1 in cc)
+  no_start k (inr h) above = let most = starts_low c 0 k past h in let low = ready.stage.low_is in omega (arith, most, low, above)
+
   -- ---- what it owes
 
   given_is : (other : Body) → heard (members c) 0 (w.page n) ≡ Some other → IsGiven other.message
@@ -149,7 +155,10 @@ module _ (clients : ℕ) (seed : List ℕ) (st : State) (w : FetchFrames) (n : �
     fetches = λ k digest quorum above later. absurd (no_newer k digest quorum above);
     goes_on_by_digests = λ s k index level digests brings awaited. goes_on k (of_16 k (record { sender = s; message = Meta k level index digests }) brings refl);
     goes_on_by_page = λ s k index text brings awaited. goes_on k (of_16 k (record { sender = s; message = Page k index text }) brings refl);
+    fetches_start = λ k starts above later. absurd (no_start k starts above);
+    fetches_again = λ k index level tick was above. absurd tick;
     view_changes = λ vc other moves may within says. absurd (no_reason c 0 before (w.page n) [] vc.view (λ s x asks. given_is (record { sender = s; message = ViewChange x }) asks) moves);
+    new_views = λ new can. absurd (let left = can.left in let sent = ready.stage.target_is in let same : target now ≡ target past = omega arith in omega (arith, left, sent, same));
     dropped = λ other is drops. absurd (subst (λ (bytes : List ℕ). IsDropped c 0 before first_point bytes) (sym (same_bytes other is)) drops ready.body ready.hears ready.counts);
   }
     where

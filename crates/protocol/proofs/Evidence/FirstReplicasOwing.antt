@@ -20,6 +20,7 @@ use Rattle.protocol.specs.Replica.Owed.{Gives, AtOutputs, IsNumbered, NumbersOnc
 use Rattle.protocol.specs.Replica.Selection.{is_quorum}
 use Rattle.protocol.specs.Evidence.Examples.{four}
 use Rattle.protocol.proofs.Words.Moving.{no_reason}
+use Rattle.protocol.proofs.Words.Starts.{starts_low}
 use Rattle.protocol.proofs.Evidence.FirstBatch.{still, same_digest}
 use Rattle.protocol.proofs.Evidence.FirstReplicasStages.{here, only_here, Stage}
 use Rattle.protocol.proofs.Words.Options.{some_injective, then_some_gives}
@@ -188,8 +189,11 @@ module _ (clients : ℕ) (seed batch : List ℕ) (me : ℕ) where
     goes_on_by_page = λ s n index text brings awaited.
         absurd (subst (λ (x : Body). IsUnanswered old x.message) (heard_is bytes due.body (record { sender = s; message = Page n index text }) due.hears brings) due.unanswered);
     fetches = λ n root quorum above later. absurd (no_checkpoints now l' p' k' st (record { number = n; digest = root }) quorum);
+    fetches_start = λ n starts above later. absurd (let most = starts_low c me n now starts in let low = (still c me now st.plain).low_is in omega (arith, most, low, above));
+    fetches_again = λ n index level tick asked above. absurd tick;
     view_changes = λ vc other moves may within says.
         absurd (no_reason c me before bytes old.waiting vc.view (λ s x asks. subst (λ (y : Body). IsUnanswered old y.message) (heard_is bytes due.body (record { sender = s; message = ViewChange x }) due.hears asks) due.unanswered) moves);
+    new_views = λ new can. absurd (let left = can.left in let sent = (still c me now st.plain).target_is in omega (arith, left, sent));
     dropped = λ other is drops. due.dropped (subst (λ (bs : List ℕ). IsDropped c me before old bs) (sym (same_bytes other is)) drops);
   }
     where

@@ -15,7 +15,7 @@ use Rattle.authenticator.specs.Membership.{has_sender}
 use Rattle.signing.specs.Signatures.{public_key}
 use Rattle.signing.specs.Heard.{signs, has_signature, heard, signed_body}
 use Rattle.signing.proofs.Heard.{signed_is_heard, signed_was_signed}
-use Rattle.protocol.specs.System.Configuration.{Configuration, members}
+use Rattle.protocol.specs.System.Configuration.{Configuration, primary, members}
 use Rattle.wire.specs.Words.{frame_of, said}
 use Rattle.protocol.specs.System.Frames.{IsSealed}
 use Rattle.protocol.specs.System.Trace.{Entry, Has}
@@ -31,7 +31,7 @@ use Rattle.protocol.proofs.Words.Linking.{signed_said}
 use Rattle.protocol.proofs.Words.Moving.{no_time}
 use Rattle.protocol.proofs.Words.Options.{some_injective}
 use Rattle.protocol.proofs.Evidence.JoiningChangesOwing.{IsOfChange, Due, owes, none_logged, none_checked, same_checkpoints, logs_nothing, moves_nothing}
-use Rattle.protocol.proofs.Words.Plain.{Plain, taken_none}
+use Rattle.protocol.proofs.Words.Plain.{Plain, low_same, taken_none}
 
 -- ---- a signed frame is sealed, and for all
 
@@ -73,7 +73,7 @@ module _ (clients : ℕ) (seed : List ℕ) (me one other : ℕ) (first second ow
   abbrev c : Configuration
   c = four clients seed
 
-  abbrev changing : ℕ → Body
+  abbrev pub changing : ℕ → Body
   changing s = record { sender = s; message = ViewChange beginning_change }
 
   abbrev h1 : List Entry
@@ -86,10 +86,10 @@ module _ (clients : ℕ) (seed : List ℕ) (me one other : ℕ) (first second ow
   now = Sent me own ∷ h2
 
   module _ (differ : one ≢ other) (first_other : one ≢ me) (second_other : other ≢ me) (x : ChangesInBeginning c one first) (y : ChangesInBeginning c other second) (z : ChangesInBeginning c me own) where
-    hears : (s : ℕ) (bytes : List ℕ) → s ≢ me → ChangesInBeginning c s bytes → heard (members c) me bytes ≡ Some (changing s)
+    pub hears : (s : ℕ) (bytes : List ℕ) → s ≢ me → ChangesInBeginning c s bytes → heard (members c) me bytes ≡ Some (changing s)
     hears s bytes other is = signed_is_heard (members c) me bytes (changing s) is other
 
-    says : said own ≡ Some (changing me)
+    pub says : said own ≡ Some (changing me)
     says = signed_said c own (changing me) z
 
     -- a view change that is got changes neither view nor low mark
@@ -101,10 +101,10 @@ module _ (clients : ℕ) (seed : List ℕ) (me one other : ℕ) (first second ow
       installed = refl;
     }
 
-    still1 : Still c me h1
+    pub still1 : Still c me h1
     still1 = still c me h1 (plain [] one first first_other x, tt)
 
-    still2 : Still c me h2
+    pub still2 : Still c me h2
     still2 = still c me h2 (plain h1 other second second_other y, (plain [] one first first_other x, tt))
 
     -- ---- nothing is logged
@@ -115,10 +115,10 @@ module _ (clients : ℕ) (seed : List ℕ) (me one other : ℕ) (first second ow
     logs2 : (v i : ℕ) → logged c me h2 v i ≡ None
     logs2 v i = logs_nothing c me h1 (Got me second) (changing other) (hears other second second_other y) tt (taken_none c h1 (Got me second) (plain h1 other second second_other y)) v i ∙ logs1 v i
 
-    takes_own : taken c h2 (Sent me own) ≡ None
+    pub takes_own : taken c h2 (Sent me own) ≡ None
     takes_own = ap (option_and_then (λ (new : NewViewData). then_some (is_later (view c h2) (target h2) new) new)) (ap (option_and_then (new_view_from c)) says)
 
-    logs3 : (v i : ℕ) → logged c me now v i ≡ None
+    pub logs3 : (v i : ℕ) → logged c me now v i ≡ None
     logs3 v i = logs_nothing c me h2 (Sent me own) (changing me) says tt takes_own v i ∙ logs2 v i
 
     unprepared : (past : List Entry) → ((v i : ℕ) → logged c me past v i ≡ None) → (v i : ℕ) (batch : List ℕ) → Prepared c me past v i batch → ⊥
@@ -130,7 +130,7 @@ module _ (clients : ℕ) (seed : List ℕ) (me one other : ℕ) (first second ow
     checks2 : (s : ℕ) → checkpoints_of c h2 s ≡ []
     checks2 s = same_checkpoints c h1 (Got me second) (changing other) (hears other second second_other y) tt s ∙ checks1 s
 
-    checks3 : (s : ℕ) → checkpoints_of c now s ≡ []
+    pub checks3 : (s : ℕ) → checkpoints_of c now s ≡ []
     checks3 s = same_checkpoints c h2 (Sent me own) (changing me) says tt s ∙ checks2 s
 
     -- ---- the second view change counts
@@ -140,10 +140,10 @@ module _ (clients : ℕ) (seed : List ℕ) (me one other : ℕ) (first second ow
         ap (λ (o : Option (ℕ × ViewChangeData)). option_map_or (λ (p : ℕ × ViewChangeData). cond ((p.0 == other) && nat_lt v p.1.view && is_within c p.1) p.1.view 0) o 0) (ap (option_and_then change_in) x)
         ∙ ap (λ (b : Bool). cond (b && nat_lt v 1 && is_within c beginning_change) 1 0) (ne_eqb one other differ)
 
-    latest : latest_change c h1 other ≡ 0
+    pub latest : latest_change c h1 other ≡ 0
     latest = ap (max 0) (not_of_other (view c []))
 
-    counts : (view c h1 < 1) × (is_within c beginning_change ≡ true) × (latest_change c h1 other < 1)
+    pub counts : (view c h1 < 1) × (is_within c beginning_change ≡ true) × (latest_change c h1 other < 1)
     counts = (subst (λ (n : ℕ). n < 1) (sym still1.view_is) (omega arith), refl, subst (λ (n : ℕ). n < 1) (sym latest) (omega arith))
 
     -- ---- nothing is executed or numbered
@@ -152,7 +152,7 @@ module _ (clients : ℕ) (seed : List ℕ) (me one other : ℕ) (first second ow
     none_executed k (inl h) = h
     none_executed k (inr h) = h
 
-    numbers_none : NumbersOnce c me h2 (Sent me own)
+    pub numbers_none : NumbersOnce c me h2 (Sent me own)
     numbers_none v i batch is fresh = absurd (
         subst (λ (b : Body). IsOfChange b.message) (some_injective (changing me) (record { sender = me; message = PrePrepare v i batch }) (sym says ∙ is)) tt)
 
@@ -204,14 +204,14 @@ module _ (clients : ℕ) (seed : List ℕ) (me one other : ℕ) (first second ow
     unfolding view
     first_view = refl
 
-    of_first : latest_change c h2 one ≡ 1
+    pub of_first : latest_change c h2 one ≡ 1
     of_first =
         let a : change_taken c (view c []) one first ≡ 1 = taken_of (view c []) one one first x ∙ rw (eq-eqb one one refl, first_view) refl in
         let most = at_most_one one in
         let is = changes_of one in
         omega arith
 
-    of_second : latest_change c h2 other ≡ 1
+    pub of_second : latest_change c h2 other ≡ 1
     of_second =
         let b : change_taken c (view c h1) other second ≡ 1 = taken_of (view c h1) other other second y ∙ rw (eq-eqb other other refl, still1.view_is) refl in
         let most = at_most_one other in
@@ -285,8 +285,11 @@ module _ (clients : ℕ) (seed : List ℕ) (me one other : ℕ) (first second ow
         let few = (count_only (is_ahead c me h1) one 4 only_one).0 in
         absurd (omega (arith, many, few))
 
+    pub target_one : target now ≡ 1
+    target_one = let was = still2.target_is in let sent : target now ≡ max 1 (target h2) = ap (λ (o : Option Body). max (option_map_or change_from o 0) (target h2)) says in omega (arith, was, sent)
+
     -- both move the replica to view 1, for which it has sent its view change
-    moved : (v : ℕ) → HasToMove c me h1 (Got me second) [] v → v ≤ target now
+    pub moved : (v : ℕ) → HasToMove c me h1 (Got me second) [] v → v ≤ target now
     moved v (inl t) = absurd (no_time c me me h1 second [] v t)
     moved v (inr (taken, joined)) =
         let s = joined.of_one in
@@ -301,33 +304,37 @@ module _ (clients : ℕ) (seed : List ℕ) (me one other : ℕ) (first second ow
       hears = hears one first first_other x;
       of_change = tt;
       checkpoints_are = checks1;
+      low_is = still1.low_is;
       unprepared = unprepared h1 logs1;
       numbers_once = tt;
       prepares = λ v i batch none some active backup. absurd (let bad : None ≡ Some batch = sym (logs1 v i) ∙ some in cc);
       none_executed = λ k h. h;
       view_changes = λ v moves. absurd (no_reason_alone v moves);
+      no_view = λ new can. let left = can.left in let sent = still1.target_is in omega (arith, left, sent);
       dropped = λ drops. refl;
     }
 
-    due2 : Due c me h1 second (Sent me own ∷ []) now
-    due2 = record {
+    due2 : me ≢ 1 → Due c me h1 second (Sent me own ∷ []) now
+    due2 backup = record {
       body = changing other;
       hears = hears other second second_other y;
       of_change = tt;
       checkpoints_are = checks3;
+      low_is = low_same c me h2 (Sent me own) (ap (option_and_then checkpoint_from) says) refl (ap (option_and_then (new_view_from c)) says) ∙ still2.low_is;
       unprepared = unprepared now logs3;
       numbers_once = (numbers_none, tt);
       prepares = λ v i batch none some active backup. absurd (let bad : None ≡ Some batch = sym (logs3 v i) ∙ some in cc);
       none_executed = none_executed;
       view_changes = λ v moves. moved v moves;
+      no_view = λ new can. backup (sym can.primary ∙ ap (primary c) (can.view ∙ target_one));
       dropped = λ drops. absurd (drops (changing other) (hears other second second_other y) counts);
     }
 
-    owes1 : Owes c me [] (Got me first) [] h1 first_point first_point
+    pub owes1 : Owes c me [] (Got me first) [] h1 first_point first_point
     owes1 = owes clients seed me [] first [] h1 due1
 
-    owes2 : Owes c me h1 (Got me second) (Sent me own ∷ []) now first_point first_point
-    owes2 = owes clients seed me h1 second (Sent me own ∷ []) now due2
+    owes2 : me ≢ 1 → Owes c me h1 (Got me second) (Sent me own ∷ []) now first_point first_point
+    owes2 backup = owes clients seed me h1 second (Sent me own ∷ []) now (due2 backup)
 
     is_new : IsNewViewChange c me h2 first_point beginning_change
     is_new = record {
@@ -358,18 +365,18 @@ module _ (clients : ℕ) (seed : List ℕ) (me one other : ℕ) (first second ow
       once = λ here. here;
     }
 
-    gets1 : IsStep c me [] first_point (Got me first) first_point
+    pub gets1 : IsStep c me [] first_point (Got me first) first_point
     gets1 = record { own = refl; may = tt; moves = moves_nothing c me first (changing one) (hears one first first_other x) tt }
 
-    gets2 : IsStep c me h1 first_point (Got me second) first_point
+    pub gets2 : IsStep c me h1 first_point (Got me second) first_point
     gets2 = record { own = refl; may = tt; moves = moves_nothing c me second (changing other) (hears other second second_other y) tt }
 
-    sends : IsStep c me h2 first_point (Sent me own) first_point
+    pub sends : IsStep c me h2 first_point (Sent me own) first_point
     sends = record { own = refl; may = may; moves = refl }
 
-    is_right : IsReplica c me now
-    is_right = inl (first_point, (first_point, sends, (first_point, gets2, (owes2, (first_point, gets1, (owes1, (refl, refl)))))))
+    is_right : me ≢ 1 → IsReplica c me now
+    is_right backup = inl (first_point, (first_point, sends, (first_point, gets2, (owes2 backup, (first_point, gets1, (owes1, (refl, refl)))))))
 
 pub view_changes_are_joined : ViewChangesAreJoined
-view_changes_are_joined clients seed me one other first second own differ first_other second_other x y z =
-    is_right clients seed me one other first second own differ first_other second_other x y z
+view_changes_are_joined clients seed me one other first second own differ first_other second_other backup x y z =
+    is_right clients seed me one other first second own differ first_other second_other x y z backup

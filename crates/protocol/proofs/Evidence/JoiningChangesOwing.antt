@@ -1,5 +1,5 @@
 -- What a replica owes at a view change or a new view that it gets in the beginning, and what an entry leaves alone.
-use Rattle.std.proofs.Common.{◌≡◌, ◌≢◌, ℕ, ◌+◌, ◌≤◌, inl, Bool, true, false, cond, List, [], ◌∷◌, refl, sym, ap, ◌∙◌, subst, Option, Some, None}
+use Rattle.std.proofs.Common.{◌≡◌, ◌≢◌, ℕ, ◌+◌, ◌≤◌, inl, Bool, true, false, cond, List, [], ◌∷◌, refl, sym, ap, ◌∙◌, subst, arith, Option, Some, None}
 use Rattle.std.specs.Prelude.{option_and_then, ⊤}
 use Rattle.std.specs.Option.{option_map_or}
 use Rattle.sha2.specs.Sha256.{sha256}
@@ -8,7 +8,7 @@ use Rattle.quorum.proofs.Counting.{count_none}
 use Rattle.protocol.specs.System.Configuration.{Configuration, primary, members}
 use Rattle.terms.specs.declared.order.Mode.TheVariants as modes
 use Rattle.terms.specs.declared.state.Level.TheVariants as levels
-use Rattle.wire.specs.Messages.{BodyData as Body, MessageData as Message, CheckpointEntryData as CheckpointEntry, request as Request, prepare as Prepare, view_change as ViewChange, new_view as NewView, fetch as Fetch, meta as Meta, page as Page}
+use Rattle.wire.specs.Messages.{BodyData as Body, MessageData as Message, NewViewData, CheckpointEntryData as CheckpointEntry, request as Request, prepare as Prepare, view_change as ViewChange, new_view as NewView, fetch as Fetch, meta as Meta, page as Page}
 use Rattle.signing.specs.Heard.{heard}
 use Rattle.protocol.specs.System.Trace.{Entry, Has}
 use Rattle.protocol.specs.System.Trace.Entry.{Got}
@@ -16,9 +16,10 @@ use Rattle.protocol.specs.Replica.Selection.{is_quorum}
 use Rattle.protocol.specs.Replica.Certificates.{brought, target, taken, is_active_in, is_in_marks, low, counts_at, logged, proposal, begun_proposal, entry_proposal, batch_begun, batch_from, checkpoints_of, with_checkpoint, checkpoint_from, checkpoint_in, says_checkpoint, count_checkpoints, Prepared}
 use Rattle.protocol.specs.Replica.State.{Call, opening, call_in}
 use Rattle.protocol.specs.Replica.RightReplica.{Point, first_point, waiting_after, with_waiting, Executes}
-use Rattle.protocol.specs.Replica.Owed.{Gives, AtOutputs, NumbersOnce, HasToMove, IsDropped, Owes}
+use Rattle.protocol.specs.Replica.Owed.{Gives, AtOutputs, NumbersOnce, HasToMove, CanBeginView, IsDropped, Owes}
 use Rattle.protocol.specs.Evidence.Examples.{four}
 use Rattle.protocol.proofs.Words.Options.{some_injective, or_else_alone}
+use Rattle.protocol.proofs.Words.Starts.{starts_low}
 
 -- messages of a view change
 abbrev pub IsOfChange : Message → Type 0
@@ -112,12 +113,14 @@ pub record Due (c : Configuration) (me : ℕ) (before : List Entry) (bytes : Lis
   pub hears : heard (members c) me bytes ≡ Some body
   pub of_change : IsOfChange body.message
   pub checkpoints_are : (s : ℕ) → checkpoints_of c now s ≡ []
+  pub low_is : low c me now ≡ 0
   pub unprepared : (v i : ℕ) (batch : List ℕ) → Prepared c me now v i batch → ⊥
   pub numbers_once : AtOutputs (NumbersOnce c me) (Got me bytes ∷ before) outputs
   pub prepares : (v i : ℕ) (batch : List ℕ) → logged c me before v i ≡ None → logged c me now v i ≡ Some batch → is_active_in c now v ≡ true → primary c v ≢ me
       → Gives me (Prepare v i (sha256 batch)) outputs
   pub none_executed : (k : ℕ) → Has (λ e. Executes k [] e) outputs → ⊥
   pub view_changes : (v : ℕ) → HasToMove c me before (Got me bytes) [] v → v ≤ target now
+  pub no_view : (new : NewViewData) → CanBeginView c me now new → ⊥
   pub dropped : IsDropped c me before first_point bytes → outputs ≡ []
 
 module _ (clients : ℕ) (seed : List ℕ) (me : ℕ) where
@@ -147,7 +150,10 @@ module _ (clients : ℕ) (seed : List ℕ) (me : ℕ) where
     goes_on_by_digests = λ s n index level digests brings awaited. absurd (only (record { sender = s; message = Meta n level index digests }) brings);
     goes_on_by_page = λ s n index text brings awaited. absurd (only (record { sender = s; message = Page n index text }) brings);
     fetches = λ k root quorum above newer. absurd (no_quorum now due.checkpoints_are (record { number = k; digest = root }) quorum);
+    fetches_start = λ k starts above newer. absurd (let most = starts_low c me k now starts in let low = due.low_is in omega (arith, most, low, above));
+    fetches_again = λ k index level tick asked above. absurd tick;
     view_changes = λ vc other moves may within says. inl (due.view_changes vc.view moves);
+    new_views = λ new can. absurd (due.no_view new can);
     dropped = λ other is drops. due.dropped (subst (λ (bs : List ℕ). IsDropped c me before first_point bs) (sym (same_bytes other is)) drops);
   }
     where

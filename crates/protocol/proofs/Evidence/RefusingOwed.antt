@@ -8,20 +8,21 @@ use Rattle.protocol.specs.System.Trace.{Entry, is_output, Once, Has, AreOutputs,
 use Rattle.protocol.specs.System.Trace.Entry.{Invoke, Got, Tick, Executed, Installed, Sent, Accepted}
 use Rattle.protocol.specs.Replica.State.{State, root_of, Call}
 use Rattle.protocol.specs.Replica.RightReplica.{Point, Leaves, Executes, IsInstalled, IsRootWanted, TimesOut, JoinsOthers}
-use Rattle.protocol.specs.Replica.Transfers.{fetch_sent}
+use Rattle.protocol.specs.Replica.Transfers.{fetch_sent, fetching}
 use Rattle.wire.specs.Words.{requests_of, said}
-use Rattle.wire.specs.Messages.{pre_prepare as PrePrepare, checkpoint as Checkpoint, reply as Reply, ViewChangeData, view_change as ViewChange}
+use Rattle.wire.specs.Messages.{pre_prepare as PrePrepare, checkpoint as Checkpoint, reply as Reply, ViewChangeData, NewViewData, view_change as ViewChange}
 use Rattle.terms.specs.declared.state.Level.TheVariants as levels
 use Rattle.terms.specs.declared.order.Mode.TheVariants as modes
 use Rattle.tuple_codec.specs.Operations.{Outcome}
 use Rattle.protocol.specs.Replica.Selection.{is_within}
-use Rattle.protocol.specs.Replica.Certificates.{logged, Committed, view, latest_change}
-use Rattle.protocol.specs.Replica.Owed.{AtOutputs, HasRequest, IsNumbered, AreDifferent, NumbersOnce, TransferGoesOn, Owes, Proceeds, IsReplica, Gives, HasToMove}
-use Rattle.protocol.specs.Evidence.Refused.{GoesOn, NumbersNoneTwice, NumbersNoneTogether, AnswersReads, AnswersDigestFetches, AnswersPageFetches, AnswersAgain, AnswersRan, PreparesLogged, CommitsPrepared, ExecutesCommitted, NumbersWaiting, FetchesAhead, SendsCheckpoints, AsksOn, InstallsFetched, newest_number, MovesForReasons}
+use Rattle.protocol.specs.Replica.Certificates.{logged, Committed, taken, view, latest_change}
+use Rattle.protocol.specs.Replica.Owed.{AtOutputs, HasRequest, IsNumbered, AreDifferent, NumbersOnce, StartsAhead, TransferGoesOn, Owes, Proceeds, IsReplica, Gives, HasToMove}
+use Rattle.protocol.specs.Evidence.Refused.{GoesOn, NumbersNoneTwice, NumbersNoneTogether, AnswersReads, AnswersDigestFetches, AnswersPageFetches, AnswersAgain, AnswersRan, PreparesLogged, CommitsPrepared, ExecutesCommitted, NumbersWaiting, FetchesAhead, FetchesStarts, FetchesAgain, SendsCheckpoints, AsksOn, InstallsFetched, newest_number, MovesForReasons}
 use Rattle.protocol.proofs.Words.Reacting.{one_of, proceeds_leaves}
 use Rattle.protocol.proofs.Evidence.Refusing.{newest_state}
 use Rattle.protocol.proofs.Evidence.Gaps.{some_is_free}
 use Rattle.protocol.proofs.Words.Elements.{has_reverse, has_reversed}
+use Rattle.protocol.proofs.Words.Temporal.{once_weaker}
 
 -- ---- the event of a replica that goes on
 
@@ -180,6 +181,18 @@ fetches_ahead c me k root input outputs past quorum above newer goes =
     let e = event_of c me outputs input past goes in
     has_reverse _ outputs (e.owes.fetches k root quorum
     (subst (λ (n : ℕ). n < k) (sym (newest_state c me (outputs ++ input ∷ past) e.new e.behind)) above) newer)
+
+pub fetches_starts : FetchesStarts
+fetches_starts c me k new input outputs past starts at above newer goes =
+    let e = event_of c me outputs input past goes in
+    has_reverse _ outputs (e.owes.fetches_start k
+    (once_weaker (λ earlier x. (taken c earlier x ≡ Some new) × (fetching earlier < k)) (StartsAhead c k) (λ earlier x h. (new, h.0, at, h.1)) (outputs ++ input ∷ past) starts)
+    (subst (λ (n : ℕ). n < k) (sym (newest_state c me (outputs ++ input ∷ past) e.new e.behind)) above) newer)
+
+pub fetches_again : FetchesAgain
+fetches_again c me k index level outputs past asked above goes =
+    let e = event_of c me outputs (Tick me) past goes in
+    has_reverse _ outputs (e.owes.fetches_again k index level tt asked (subst (λ (n : ℕ). n < k) (sym (newest_state c me past e.old e.before)) above))
 
 pub moves_for_reasons : MovesForReasons
 moves_for_reasons c me input outputs past goes =

@@ -16,7 +16,7 @@ use Rattle.wire.specs.Words.{receivers_of}
 use Rattle.protocol.specs.System.Trace.{Entry, Has}
 use Rattle.protocol.specs.System.Trace.Entry.{Got, Sent}
 use Rattle.protocol.specs.Replica.Selection.{may_select, change_in}
-use Rattle.protocol.specs.Replica.Certificates.{view, view_after, target, is_later, new_view_in, new_view_from, taken, is_active_in, checkpoints_of, is_stable, stable_at, started_at, low, is_in_marks, counts_at, logged, begun_proposal, batch_begun, prepare_of, prepare_from, vote_in, Prepared}
+use Rattle.protocol.specs.Replica.Certificates.{view, view_after, target, is_later, new_view_in, new_view_from, taken, change_from, is_active_in, checkpoint_from, checkpoints_of, is_stable, stable_at, started_at, low, is_in_marks, counts_at, logged, begun_proposal, batch_begun, prepare_of, prepare_from, vote_in, Prepared}
 use Rattle.protocol.specs.Replica.RightReplica.{first_point, others, IsAddressed, Executes, MayPrepare, MaySend, IsStep}
 use Rattle.protocol.specs.Replica.Owed.{Owes, IsReplica, NumbersOnce, Gives}
 use Rattle.protocol.specs.Evidence.Examples.{four}
@@ -24,6 +24,7 @@ use Rattle.protocol.specs.Evidence.ExamplesOfChanges.{holding_view, IsForOthers,
 use Rattle.signing.proofs.Heard.{signed_is_heard}
 use Rattle.protocol.proofs.Words.Moving.{no_reason}
 use Rattle.protocol.proofs.Words.Options.{some_injective}
+use Rattle.protocol.proofs.Words.Plain.{low_same}
 use Rattle.protocol.proofs.Evidence.Selecting.{prepared_is_selected}
 use Rattle.protocol.proofs.Evidence.JoiningChangesOwing.{Due, owes, none_if, none_logged, none_checked, brings_no_checkpoint, same_checkpoints, logs_begun, logs_nothing, moves_nothing}
 use Rattle.protocol.proofs.Words.Posting.{unsigned_have_no_leaf}
@@ -187,11 +188,13 @@ module _ (clients : ℕ) (seed : List ℕ) (me : ℕ) (batch root a b d new_view
       hears = hears;
       of_change = tt;
       checkpoints_are = checks;
+      low_is = low_same c me h1 (Sent me prepare) (ap (option_and_then checkpoint_from) x.says) refl (ap (option_and_then (new_view_from c)) x.says) ∙ low_is;
       unprepared = unprepared;
       numbers_once = (numbers_none, tt);
       prepares = λ v i given none some active_there other. gives v i given (only v i given (sym (logs v i) ∙ some));
       none_executed = none_executed;
       view_changes = λ v moves. absurd (no_reason c me [] new_view [] v (λ s vc asks. absurd (let bad : None ≡ Some (s, vc) = ap change_in (some_injective begins (record { sender = s; message = ViewChange vc }) (sym hears ∙ asks)) in cc)) moves);
+      no_view = λ other can. let left = can.left in let sent : target now ≡ 0 = ap (λ (o : Option Body). max (option_map_or change_from o 0) 0) x.says in omega (arith, left, sent);
       dropped = λ drops. absurd (drops begins hears takes);
     }
 

@@ -22,6 +22,7 @@ use Rattle.protocol.specs.Replica.Owed.{Gives, AtOutputs, NumbersOnce, Counts, I
 use Rattle.protocol.specs.Evidence.Examples.{four}
 use Rattle.protocol.specs.Evidence.FirstOperation.{IsFrom}
 use Rattle.protocol.proofs.Words.Moving.{no_reason}
+use Rattle.protocol.proofs.Words.Starts.{starts_low}
 use Rattle.protocol.proofs.Words.Options.{some_injective}
 use Rattle.protocol.proofs.Evidence.TransferringStages.{Stage, agreed}
 use Rattle.protocol.proofs.Words.Posting.{macs_have_no_leaf}
@@ -82,7 +83,10 @@ module _ (clients : ℕ) (seed root : List ℕ) where
     goes_on_by_digests = λ s n index level digests brings awaited. inl (due.parts n (part_is n (record { sender = s; message = Meta n level index digests }) brings refl));
     goes_on_by_page = λ s n index text brings awaited. inl (due.parts n (part_is n (record { sender = s; message = Page n index text }) brings refl));
     fetches = λ n digest quorum above later. due.fetches n digest quorum later;
+    fetches_start = λ n starts above later. absurd (let most = starts_low c 0 n now starts in let low = st.low_is in omega (arith, most, low, above));
+    fetches_again = λ n index level tick was above. absurd tick;
     view_changes = λ vc other moves may within says. absurd (no_reason c 0 before bytes [] vc.view (λ s x asks. given_is (record { sender = s; message = ViewChange x }) asks) moves);
+    new_views = λ new can. absurd (let left = can.left in let sent = st.target_is in omega (arith, left, sent));
     dropped = λ other is drops. due.dropped (subst (λ (bs : List ℕ). IsDropped c 0 before first_point bs) (sym (same_bytes other is)) drops);
   }
     where

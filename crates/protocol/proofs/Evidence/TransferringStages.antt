@@ -16,7 +16,7 @@ use Rattle.wire.specs.Words.{said}
 use Rattle.protocol.specs.System.Trace.{Entry}
 use Rattle.protocol.specs.System.Trace.Entry.{Got, Sent}
 use Rattle.protocol.specs.Replica.Selection.{is_quorum}
-use Rattle.protocol.specs.Replica.Certificates.{brought, view, target, low, new_view_in, new_view_from, installed_at, started_at, stable_at, is_stable, taken, is_later, is_in_marks, counts_at, logged, proposal, begun_proposal, entry_proposal, batch_begun, batch_from, checkpoint_in, checkpoint_from, insert_checkpoint, with_checkpoint, checkpoints_of, says_checkpoint, count_checkpoints}
+use Rattle.protocol.specs.Replica.Certificates.{brought, view, target, low, new_view_in, new_view_from, change_from, change_sent, installed_at, started_at, stable_at, is_stable, taken, is_later, is_in_marks, counts_at, logged, proposal, begun_proposal, entry_proposal, batch_begun, batch_from, checkpoint_in, checkpoint_from, insert_checkpoint, with_checkpoint, checkpoints_of, says_checkpoint, count_checkpoints}
 use Rattle.protocol.specs.Replica.Transfers.{asked_last, place_from, fetching, fetch_sent}
 use Rattle.protocol.specs.Evidence.Examples.{four}
 use Rattle.protocol.proofs.Evidence.RefusingMarksLow.{checkpoints_with, no_checkpoints}
@@ -33,6 +33,13 @@ none_begins c sender (Fetch k level index) h = refl
 none_begins c sender (Meta k level index digests) h = refl
 none_begins c sender (Page k index text) h = refl
 none_begins c sender _ h = absurd h
+
+none_changes : (sender : ℕ) (message : Message) → IsPart message → change_from (record { sender = sender; message = message }) ≡ 0
+none_changes sender (Checkpoint k root) h = refl
+none_changes sender (Fetch k level index) h = refl
+none_changes sender (Meta k level index digests) h = refl
+none_changes sender (Page k index text) h = refl
+none_changes sender _ h = absurd h
 
 none_proposes : (c : Configuration) (me v i sender : ℕ) (message : Message) → IsPart message → batch_from c me v i (record { sender = sender; message = message }) ≡ None
 none_proposes c me v i sender (Checkpoint k root) h = refl
@@ -86,25 +93,27 @@ module _ (clients : ℕ) (seed root : List ℕ) where
     pub checkpoints_are : (s : ℕ) → checkpoints_of c past s ≡ marks_if (p s)
     pub asked_is : asked_last past ≡ asked
     pub fetching_is : fetching past ≡ k
+    pub target_is : target past ≡ 0
 
   -- an entry that brings a message of a transfer
   record Brings (e : Entry) (body : Body) : Type 0 where
     pub brings : brought c e ≡ Some body
     pub no_view : new_view_in c e ≡ None
+    pub no_change : change_sent e ≡ 0
     pub installs : installed_at e ≡ 0
     pub part : IsPart body.message
 
   got : (bytes : List ℕ) (body : Body) → heard (members c) 0 bytes ≡ Some body → IsPart body.message → Brings (Got 0 bytes) body
-  got bytes body h part = record { brings = h; no_view = ap (option_and_then (new_view_from c)) h ∙ none_begins c body.sender body.message part; installs = refl; part = part }
+  got bytes body h part = record { brings = h; no_view = ap (option_and_then (new_view_from c)) h ∙ none_begins c body.sender body.message part; no_change = refl; installs = refl; part = part }
 
   sent : (bytes : List ℕ) (body : Body) → said bytes ≡ Some body → IsPart body.message → Brings (Sent 0 bytes) body
-  sent bytes body h part = record { brings = h; no_view = ap (option_and_then (new_view_from c)) h ∙ none_begins c body.sender body.message part; installs = refl; part = part }
+  sent bytes body h part = record { brings = h; no_view = ap (option_and_then (new_view_from c)) h ∙ none_begins c body.sender body.message part; no_change = ap (λ (o : Option Body). option_map_or change_from o 0) h ∙ none_changes body.sender body.message part; installs = refl; part = part }
 
   -- ---- from one entry to the next
 
   pub first_stage : Stage [] (λ s. false) None 0
   unfolding low logged
-  first_stage = record { low_is = refl; logged_is = λ v i. refl; checkpoints_are = no_checkpoints c; asked_is = refl; fetching_is = refl }
+  first_stage = record { low_is = refl; logged_is = λ v i. refl; checkpoints_are = no_checkpoints c; asked_is = refl; fetching_is = refl; target_is = refl }
 
   low_with : (e : Entry) (past : List Entry) → low c 0 (e ∷ past) ≡ max (low c 0 past) (max (stable_at c 0 past e) (max (installed_at e) (started_at c past e)))
   unfolding low
@@ -148,6 +157,7 @@ module _ (clients : ℕ) (seed root : List ℕ) where
     checkpoints_are = checkpoints;
     asked_is = asks;
     fetching_is = fetches;
+    target_is = let was = st.target_is in let none = x.no_change in omega arith;
   }
     where
       checkpoints : (s : ℕ) → checkpoints_of c (e ∷ past) s ≡ marks_if (q s)

@@ -6,10 +6,10 @@ use Rattle.wire.specs.Messages.{FrameData as Frame, MessageData as Message, View
 use Rattle.protocol.specs.System.Configuration.{Configuration, members}
 use Rattle.signing.specs.Heard.{signed_body}
 use Rattle.wire.specs.Words.{frame_of, said, receivers_of}
-use Rattle.protocol.specs.System.Frames.{IsSealed}
+use Rattle.protocol.specs.System.Frames.{IsSealed, leaf_of}
 use Rattle.protocol.specs.System.Trace.Entry.{Got, Sent}
 use Rattle.protocol.specs.Replica.Selection.{signed_change}
-use Rattle.protocol.specs.Replica.State.{opening}
+use Rattle.protocol.specs.Replica.State.{opening, root_of}
 use Rattle.protocol.specs.Replica.RightReplica.{checkpoint_of, others}
 use Rattle.protocol.specs.Replica.Owed.{IsReplica}
 use Rattle.protocol.specs.Evidence.Examples.{four, holding}
@@ -26,13 +26,31 @@ ChangesInBeginning c sender bytes =
     signed_body (members c) bytes ≡ Some (record { sender = sender; message = ViewChange beginning_change })
 
 -- A replica that gets the view changes of two different replicas for view 1 in the beginning, and sends its own at the
--- second, is a right one.
+-- second, is a right one, unless it is the primary of view 1, which has a new view to send then.
 abbrev pub ViewChangesAreJoined : Type 0
 ViewChangesAreJoined =
     (clients : ℕ) (seed : List ℕ) (me one other : ℕ) (first second own : List ℕ) → one ≢ other → one ≢ me → other ≢ me
+    → me ≢ 1
     → ChangesInBeginning (four clients seed) one first → ChangesInBeginning (four clients seed) other second
     → ChangesInBeginning (four clients seed) me own
     → IsReplica (four clients seed) me (Sent me own ∷ Got me second ∷ Got me first ∷ [])
+
+-- The new view 1 over three view changes, which starts at 0 with this root and has no batch.
+abbrev pub beginning_view : List ℕ → List ℕ → List ℕ → List ℕ → NewViewData
+beginning_view root a b d =
+    record { view = 1; changes = a ∷ b ∷ d ∷ []; start = 0; root = root; batches = [] }
+
+-- The primary of view 1 gets the view changes of two others for that view in the beginning. It is a right one if it sends
+-- its own at the second, and then the new view over all three, signed by another of its keys.
+abbrev pub ItsViewIsBegun : Type 0
+ItsViewIsBegun =
+    (clients : ℕ) (seed first second own new_view : List ℕ)
+    → ChangesInBeginning (four clients seed) 2 first → ChangesInBeginning (four clients seed) 3 second
+    → ChangesInBeginning (four clients seed) 1 own
+    → signed_body (members (four clients seed)) new_view
+    ≡ Some (record { sender = 1; message = NewView (beginning_view (root_of opening) own first second) })
+    → leaf_of own ≢ leaf_of new_view
+    → IsReplica (four clients seed) 1 (Sent 1 new_view ∷ Sent 1 own ∷ Got 1 second ∷ Got 1 first ∷ [])
 
 -- The new view 1 over three view changes, which starts at 0 with this root and has the batch for number 1.
 abbrev pub holding_view : List ℕ → List ℕ → List ℕ → List ℕ → List ℕ → NewViewData

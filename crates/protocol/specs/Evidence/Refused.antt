@@ -17,7 +17,7 @@ use Rattle.authenticator.specs.Authentic.{mac_of}
 use Rattle.signing.specs.Heard.{has_signature, heard}
 use Rattle.protocol.specs.System.Frames.{leaf_of}
 use Rattle.protocol.specs.System.Trace.{Entry, is_output, Once, Always, Has, AreOutputs, Hears}
-use Rattle.protocol.specs.System.Trace.Entry.{Got, Executed, Installed, Sent, Accepted}
+use Rattle.protocol.specs.System.Trace.Entry.{Got, Tick, Executed, Installed, Sent, Accepted}
 use Rattle.wire.specs.Spelling.{has_children}
 use Rattle.protocol.specs.Replica.Selection.{is_quorum, is_within, changes_of, null_batch}
 use Rattle.protocol.specs.Replica.Certificates.{count_checkpoints, latest_change, low, is_in_marks, is_active_in, logged, taken, target, view, Prepared, Committed}
@@ -600,6 +600,21 @@ FetchesAhead =
     → is_quorum c (count_checkpoints c (outputs ++ input ∷ past) (record { number = k; digest = root })) ≡ true
     → newest_number (outputs ++ input ∷ past) < k → fetching past < k → GoesOn c me outputs input past
     → Gives me (Fetch k levels.Root 0) outputs
+
+-- A new view that starts above the state and above the open transfer, and starts none.
+abbrev pub FetchesStarts : Type 0
+FetchesStarts =
+    (c : Configuration) (me k : ℕ) (new : NewViewData) (input : Entry) (outputs past : List Entry)
+    → Once (λ earlier e. (taken c earlier e ≡ Some new) × (fetching earlier < k)) (outputs ++ input ∷ past)
+    → new.start ≡ k → newest_number (outputs ++ input ∷ past) < k → fetching past < k → GoesOn c me outputs input past
+    → Gives me (Fetch k levels.Root 0) outputs
+
+-- A tick, at which the last fetch of an open transfer is not sent again.
+abbrev pub FetchesAgain : Type 0
+FetchesAgain =
+    (c : Configuration) (me k index : ℕ) (level : Level) (outputs past : List Entry)
+    → asked_last past ≡ Some (k, (level, index)) → newest_number past < k → GoesOn c me outputs (Tick me) past
+    → Gives me (Fetch k level index) outputs
 
 -- A reason to move to a view, and no view change for it or for a later one, while a frame says one and a key is left.
 abbrev pub MovesForReasons : Type 0

@@ -19,12 +19,12 @@ use Rattle.signing.specs.Heard.{heard}
 use Rattle.protocol.specs.System.Frames.{leaf_of}
 use Rattle.protocol.specs.System.Trace.{Entry, party_of, is_output, Once, Has, either, Hears}
 use Rattle.protocol.specs.System.Trace.Entry.{Got, Tick, Sent}
-use Rattle.protocol.specs.Replica.Selection.{is_quorum, is_within}
+use Rattle.protocol.specs.Replica.Selection.{is_quorum, is_within, changes_of, null_batch, may_select, signed_change}
 use Rattle.protocol.specs.Replica.Certificates.{view, target, is_active_in, taken, latest_change, checkpoints_of, count_checkpoints, low, is_in_marks, entry_proposal, logged, prepare_from, commit_from, vote_in, prepare_of, commit_of, Prepared, Committed}
 use Rattle.reply_cache.specs.Replies.{Kept}
 use Rattle.protocol.specs.Replica.State.{State, Call, call_of, Ran, kept_of, last_time, tuples, root_of, page_text, all_pages}
 use Rattle.protocol.specs.Replica.Transfers.{fetch_sent, fetching, asked_last, in_place, GotBelow}
-use Rattle.protocol.specs.Replica.RightReplica.{Point, first_point, IsFree, reply_of, IsStep, IsInstalled, KeptState, Executes, IsRootWanted, digests_at, SentBefore, TimesOut, JoinsOthers, IsNewViewChange}
+use Rattle.protocol.specs.Replica.RightReplica.{Point, first_point, IsFree, reply_of, IsStep, IsInstalled, KeptState, Executes, IsRootWanted, digests_at, SentBefore, IsTick, TimesOut, JoinsOthers, IsNewViewChange}
 use Rattle.wire.specs.Lists.{Each}
 
 -- ---- words on outputs
@@ -135,6 +135,11 @@ CanInstall c me past old k root =
     (new : Point) × IsInstalled c me past old k root new
     × ((client : ℕ) → last_time old.state client ≤ last_time new.state client)
 
+-- a new view that is taken here, or sent, starts at the number, above what was fetched
+abbrev pub StartsAhead : Configuration → ℕ → List Entry → Entry → Type 0
+StartsAhead c k past e =
+    (new : NewViewData) × (taken c past e ≡ Some new) × (new.start ≡ k) × (fetching past < k)
+
 -- The transfer of the state of this number goes on: its next part is asked for. Or nothing is left to fetch, and the
 -- executed number reaches it, if the state can be installed. past: the past with the part; old: the point before it.
 abbrev pub TransferGoesOn : Configuration → ℕ → List Entry → Point → List Entry → ℕ → ℕ → Type 0
@@ -205,6 +210,35 @@ HasToMove c me before input waiting v =
 -- each of the replica's 64 one-time keys has signed a frame that was sent
 abbrev pub AreKeysSpent : List Entry → Type 0
 AreKeysSpent past = (leaf : ℕ) → leaf < 64 → (bytes : List ℕ) × (leaf_of bytes ≡ Some leaf) × SentBefore bytes past
+
+-- ---- new views that are due (Castro and Liskov, TOCS 2002, 4.5.2)
+
+-- a view change of the sender counts here
+abbrev pub BringsChange : Configuration → ℕ × ViewChangeData → List Entry → Entry → Type 0
+BringsChange c x past (Got p bytes) = (signed_change c bytes ≡ Some x) × IsLatestChange c past x.0 x.1
+BringsChange c x past _ = ⊥
+
+-- It is the latest view change of its sender that the replica has: another's that counted, or the own one.
+abbrev pub HasLatestChange : Configuration → ℕ → List Entry → ℕ × ViewChangeData → Type 0
+HasLatestChange c me past x =
+    ((x.0 ≢ me) × Once (BringsChange c x) past × (latest_change c past x.0 ≡ x.1.view))
+    ⊎ ((x.0 ≡ me) × Once (λ earlier e. IsSaying me (ViewChange x.1) e) past × (target past ≡ x.1.view))
+
+-- the batch is logged for a number in the marks, or it is the null batch
+abbrev pub HasBatch : Configuration → ℕ → List Entry → List ℕ → Type 0
+HasBatch c me past batch =
+    (batch ≡ null_batch)
+    ⊎ ((v i : ℕ) × (logged c me past v i ≡ Some batch) × (is_in_marks c (low c me past) i ≡ true))
+
+-- The replica has moved to a view that it is the primary of, and is not active in it. The new view meets the rules over
+-- view changes and batches that it has.
+pub record CanBeginView (c : Configuration) (me : ℕ) (past : List Entry) (new : NewViewData) : Type 0 where
+  pub left : view c past < target past
+  pub view : new.view ≡ target past
+  pub primary : primary c new.view ≡ me
+  pub selected : may_select c new ≡ true
+  pub changes : Each (HasLatestChange c me past) (changes_of c new)
+  pub batches : Each (HasBatch c me past) new.batches
 
 -- ---- what goes again once a request that waits comes again: what was sent may be lost (own)
 
@@ -296,6 +330,12 @@ pub record Owes (c : Configuration) (me : ℕ) (before : List Entry) (input : En
   pub fetches : (k : ℕ) (root : List ℕ)
       → is_quorum c (count_checkpoints c now (record { number = k; digest = root })) ≡ true
       → new.state.number < k → fetching before < k → Gives me (Fetch k levels.Root 0) outputs
+  -- so does a new view that starts there
+  pub fetches_start : (k : ℕ) → Once (StartsAhead c k) now → new.state.number < k → fetching before < k
+      → Gives me (Fetch k levels.Root 0) outputs
+  -- a tick makes the replica send the fetch of an open transfer again
+  pub fetches_again : (k index : ℕ) (level : Level) → IsTick input → asked_last before ≡ Some (k, (level, index))
+      → old.state.number < k → Gives me (Fetch k level index) outputs
   -- a part that the transfer awaits brings it on
   pub goes_on_by_digests : (s k index : ℕ) (level : Level) (digests : List (List ℕ))
       → Hears c me (record { sender = s; message = Meta k level index digests }) before input
@@ -311,6 +351,8 @@ pub record Owes (c : Configuration) (me : ℕ) (before : List Entry) (input : En
       → IsNewViewChange c me (input ∷ before) old vc → is_within c vc ≡ true
       → said bytes ≡ Some (record { sender = me; message = ViewChange vc })
       → (vc.view ≤ target now) ⊎ AreKeysSpent before
+  -- no new view is left that the replica could send, unless its keys are spent
+  pub new_views : (new : NewViewData) → CanBeginView c me now new → AreKeysSpent now
   pub dropped : (bytes : List ℕ) → input ≡ Got me bytes → IsDropped c me before old bytes → outputs ≡ []
 
 -- ---- histories

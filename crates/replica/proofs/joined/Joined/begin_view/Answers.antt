@@ -5,6 +5,7 @@ use Rattle.replica.specs.State.{OrdererData, JoinedData}
 use Rattle.replica.specs.JoinedView.{joined_data}
 use Rattle.replica.specs.EnteringViews.{IsSelection, new_view_of}
 use Rattle.replica.proofs.ChangingViews.{of_some}
+use Rattle.replica.proofs.Choosing.{unselected, unsigned}
 use Rattle.replica.proofs.OwnViews.{begins_so, signs_in, selects_few, starts_small}
 use Rattle.wire.specs.Lists.{Each}
 use Rattle.wire.specs.Spelling.{IsBatch}
@@ -45,3 +46,13 @@ sign_new_view-requires-clause-batches c =
 pub enter-requires-clause-batches : goal.enter-requires-clause-batches
 enter-requires-clause-batches c =
     of_some (λ (x : Selection). Each (IsBatch 0) (texts_of x.batches.items)) c.in_ok-selection.field-0 c.in-Some.selection c.in-Some.is c.in_ok-selection.ensures.batches
+
+pub returns-in_default-clause-ok : goal.returns-in_default-clause-ok
+returns-in_default-clause-ok c = rw (← c.self.view_is)
+    (unselected (joined_data c.self.inside) c.args.outputs.now.items c.in_ok-selection.field-0 c.self.invariant c.keeps.ensures.own c.in_default.is c.in_ok-selection.ensures.none)
+
+pub returns-in_default-2-clause-ok : goal.returns-in_default-2-clause-ok
+returns-in_default-2-clause-ok c =
+    let s = c.in-Some.selection in
+    rw (← c.self.view_is)
+    (unsigned (joined_data c.self.inside) c.sign_new_view.new.self (new_view_of c.self.inside.orderer s.start.0 s.root (texts_of s.batches.items)) c.in_ok-frame.field-0 c.args.outputs.now.items c.in_default-2.is c.in_ok-frame.ensures.signs)

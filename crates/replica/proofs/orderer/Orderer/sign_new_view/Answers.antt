@@ -10,5 +10,5 @@ use Rattle.replica.proofs.orderer.Orderer.sign_new_view.Goals as goal
 pub returns-clause-signs : goal.returns-clause-signs
 returns-clause-signs c = rw (← c.self.view_is)
     (signs_view (orderer_data c.self.inside) c.sign.new.self c.args.selection.now.start.0 c.args.selection.now.root (texts_of c.args.selection.now.batches.items) (message_data c.new_view_message.result)
-    (new_view_data c.in_ok-message.message) c.sign.result c.in_ok-message.ensures.made c.in_ok-message.ensures.right c.new_view_message.ensures.says
+    (new_view_data c.in_ok-message.message) c.sign.result c.in_ok-message.ensures.made c.in_ok-message.ensures.said c.in_ok-message.ensures.right c.new_view_message.ensures.says
     (subst (λ (o : OrdererData). IfOk c.sign.result (MaySign (message_data c.new_view_message.result) o c.sign.new.self)) (sym c.self.view_is) c.sign.ensures.ok))

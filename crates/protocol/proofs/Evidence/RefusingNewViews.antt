@@ -1,9 +1,9 @@
 -- The definitions refuse a primary that could send a new view, and does not.
-use Rattle.std.proofs.Common.{◌≡◌, ◌≢◌, ℕ, ◌<◌, inl, inr, true, List, [], ◌∷◌, bytes_eq, refl, sym, ap, ◌∙◌, subst, arith, Some}
+use Rattle.std.proofs.Common.{◌≡◌, ◌≢◌, ℕ, ◌<◌, ◌⊎◌, inl, inr, true, List, [], ◌∷◌, ◌++◌, bytes_eq, refl, sym, ap, ◌∙◌, subst, arith, Some}
 use Rattle.std.specs.Prelude.{option_and_then}
 use Rattle.std.proofs.lemmas.Slice.Eq.{bytes_eq-Decides}
 use Rattle.wire.specs.Lists.{Each}
-use Rattle.wire.specs.Messages.{ViewChangeData, NewViewData}
+use Rattle.wire.specs.Messages.{ViewChangeData, NewViewData, view_change as ViewChange}
 use Rattle.protocol.specs.System.Configuration.{Configuration}
 use Rattle.protocol.specs.System.Frames.{leaf_of}
 use Rattle.protocol.specs.System.Trace.{Entry}
@@ -12,16 +12,46 @@ use Rattle.protocol.specs.Replica.Selection.{change_in, changes_of, may_select, 
 use Rattle.protocol.specs.Replica.Certificates.{view, view_after, target, new_view_from, latest_change}
 use Rattle.protocol.specs.Replica.State.{opening, root_of}
 use Rattle.protocol.specs.Replica.RightReplica.{SentBefore}
-use Rattle.protocol.specs.Replica.Owed.{AreKeysSpent, BringsChange, HasLatestChange, CanBeginView}
+use Rattle.protocol.specs.Replica.Owed.{IsSaying, AreKeysSpent, BringsChange, HasLatestChange, CanBeginView}
 use Rattle.protocol.specs.Evidence.Examples.{four}
 use Rattle.protocol.specs.Evidence.ExamplesOfChanges.{beginning_change, beginning_view, ChangesInBeginning}
-use Rattle.protocol.specs.Evidence.RefusedNewViews.{SendsNewViews, BeginsItsView}
+use Rattle.protocol.specs.Evidence.Refused.{GoesOn}
+use Rattle.protocol.specs.Evidence.RefusedNewViews.{CameLast, SentLast, SendsNewViews, BeginsItsView}
+use Rattle.protocol.proofs.Words.Elements.{each_weaker}
 use Rattle.protocol.proofs.Words.Options.{some_injective}
+use Rattle.protocol.proofs.Words.Temporal.{once_weaker}
 use Rattle.protocol.proofs.Evidence.RefusingOwed.{event_of}
 use Rattle.protocol.proofs.Evidence.JoiningChanges as joining
 
+none_left : (c : Configuration) (me : ℕ) (new : NewViewData) (input : Entry) (outputs past : List Entry) → CanBeginView c me (outputs ++ input ∷ past) new → GoesOn c me outputs input past
+    → AreKeysSpent (outputs ++ input ∷ past)
+none_left c me new input outputs past can goes = (event_of c me outputs input past goes).owes.new_views new can
+
+-- the bytes come, while the view change is above the view and its sender's last
+abbrev Comes : Configuration → ℕ → ℕ × ViewChangeData → List ℕ → List Entry → Entry → Type 0
+Comes c me x bytes past e = (e ≡ Got me bytes) × (view c past < x.1.view) × (latest_change c past x.0 < x.1.view)
+
+-- what came or was sent last is the latest
+is_latest : (c : Configuration) (me : ℕ) (now : List Entry) (x : ℕ × ViewChangeData) → CameLast c me now x ⊎ SentLast me now x → HasLatestChange c me now x
+is_latest c me now x (inl (bytes, other, signed, within, came, latest)) = inl (other, once_weaker (Comes c me x bytes) (BringsChange c x) brings now came, latest)
+  where
+    brings : (past : List Entry) (e : Entry) → Comes c me x bytes past e → BringsChange c x past e
+    brings past e (is, above, newer) = subst (λ (y : Entry). BringsChange c x past y) (sym is) (signed, (above, within, newer))
+is_latest c me now x (inr (bytes, own, says, sent, at)) =
+    inr (own, once_weaker (λ past e. e ≡ Sent me bytes) (λ past e. IsSaying me (ViewChange x.1) e) (λ past e is. subst (λ (y : Entry). IsSaying me (ViewChange x.1) y) (sym is) says) now sent, at)
+
 pub sends_new_views : SendsNewViews
-sends_new_views c me new input outputs past can goes = (event_of c me outputs input past goes).owes.new_views new can
+sends_new_views c me new input outputs past above view primary selected changes batches goes =
+    none_left c me new input outputs past
+    (record {
+      left = let is = view in omega (arith, above, is);
+      view = view;
+      primary = primary;
+      selected = selected;
+      changes = each_weaker (λ x. CameLast c me (outputs ++ input ∷ past) x ⊎ SentLast me (outputs ++ input ∷ past) x) (HasLatestChange c me (outputs ++ input ∷ past)) (is_latest c me (outputs ++ input ∷ past)) (changes_of c new) changes;
+      batches = batches;
+    })
+    goes
 
 -- ---- over three view changes in the beginning
 
@@ -138,4 +168,4 @@ module _ (clients : ℕ) (seed first second own : List ℕ) (x : ChangesInBeginn
 pub begins_its_view : BeginsItsView
 begins_its_view clients seed first second own x y z goes =
     one_sent own first second
-    (sends_new_views (four clients seed) 1 (new_with (root_of opening) own first second) (Got 1 second) (Sent 1 own ∷ []) (Got 1 first ∷ []) (can clients seed first second own x y z) goes)
+    (none_left (four clients seed) 1 (new_with (root_of opening) own first second) (Got 1 second) (Sent 1 own ∷ []) (Got 1 first ∷ []) (can clients seed first second own x y z) goes)
