@@ -9,13 +9,12 @@ use Rattle.terms.specs.declared.parties.Party.{Party}
 use Rattle.terms.specs.declared.parties.Party.TheVariants as parties
 use Rattle.terms.specs.declared.parties.ReplicaId.{ReplicaId}
 use Rattle.terms.specs.Parties.{party_number}
-use Rattle.tuple_codec.specs.Operations.{Operation, IsOperation, out, rdp, inp, cas, rd_all}
-use Rattle.tuple_codec.specs.Spelling.{operation_spelling, tuple_spelling, template_spelling}
-use Rattle.tuple_tree.specs.Values.{TupleTree, TemplateTree, IsTuple, IsTemplate}
+use Rattle.tuple_codec.specs.Operations.{Operation, IsOperation}
+use Rattle.tuple_codec.specs.Spelling.{operation_spelling}
 use Rattle.wire.specs.Lists.{ascends, leads}
 use Rattle.wire.specs.Messages.{BodyData as Body, request as Request}
 use Rattle.wire.specs.Spelling.{SpellsFrame, body_spelling, fields_spelling, mode_byte}
-use Rattle.wire.proofs.Lengths.{tuple_spelling_length, template_spelling_length}
+use Rattle.tuple_codec.proofs.Lengths.{operation_short}
 use Rattle.authenticator.specs.Membership.{Membership}
 use Rattle.authenticator.specs.Sealing.{sealed_for, IsSealable, IsTooLong}
 use Rattle.protocol.specs.System.Configuration.{Configuration, members, replicas}
@@ -64,19 +63,6 @@ may_seal sender t faults mode op receivers a b is few all =
 
 -- ---- and its frame is short
 
-tuple_length : (t : TupleTree) → IsTuple t → length (tuple_spelling t) ≤ 1024
-tuple_length t is = let e = tuple_spelling_length t in let l = is.length in omega (arith, e, l)
-
-template_length : (p : TemplateTree) → IsTemplate p → length (template_spelling p) ≤ 1024
-template_length p is = let e = template_spelling_length p in let l = is.length in omega (arith, e, l)
-
-operation_length : (op : Operation) → IsOperation op → length (operation_spelling op) ≤ 2050
-operation_length (out t) is = let l = tuple_length t is in omega (arith, l)
-operation_length (rdp p) is = let l = template_length p is in omega (arith, l)
-operation_length (inp p) is = let l = template_length p is in omega (arith, l)
-operation_length (cas p t) is = let l = template_length p is.0 in let k = tuple_length t is.1 in let e = length-append (template_spelling p) (tuple_spelling t) in omega (arith, l, k, e)
-operation_length (rd_all n p) is = let l = template_length p is.2 in omega (arith, l)
-
 pub request_is_short : (me t : ℕ) (mode : Mode) (op : Operation) → IsOperation op → IsShort (request_body me t mode op)
 request_is_short me t mode op is =
     let body = body_spelling (request_body me t mode op) in
@@ -84,7 +70,7 @@ request_is_short me t mode op is =
     let whole = length-append (to_be_bytes w32 (length body)) body in
     let behind = length-append (to_be_bytes w16 me) fields in
     let rest = length-append (to_be_bytes w64 t) (mode_byte mode ∷ operation_spelling op) in
-    let l = operation_length op is in
+    let l = operation_short op is in
     omega (arith, whole, behind, rest, l)
 
 -- no receiver among ten makes it too long

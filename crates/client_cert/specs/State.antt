@@ -11,7 +11,7 @@ use Rattle.authenticator.specs.Membership.{Membership}
 use Rattle.quorum.specs.Quorum.{count_below}
 use Rattle.protocol.specs.System.Frames.{same_mode}
 use Rattle.protocol.specs.Client.RightClient.{Vote}
-use Rattle.events.specs.Codes.{operation_code}
+use Rattle.tuple_codec.specs.OperationsCode.{operation_code}
 
 -- a replica's reply: the number of its state, and the bytes that spell its answer
 pub record Ballot : Type 0 where

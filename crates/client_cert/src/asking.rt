@@ -4,8 +4,6 @@ ghost use Rattle.std.specs.Prelude.{◌≡◌, ◌≤◌, IfOk, map};
 ghost use Rattle.std.specs.List.{range_with_len};
 ghost use Rattle.terms.specs.Parties.{party_number};
 ghost use Rattle.tuple_codec.specs.OperationView.{operation_of};
-ghost use Rattle.tuple_codec.specs.Operations.{IsOperation};
-ghost use Rattle.tuple_tree.specs.Values.{IsTuple, IsTemplate};
 ghost use Rattle.wire.specs.Views.{body_data};
 ghost use Rattle.protocol.specs.Client.RightClient.{first_mode};
 ghost use Rattle.client_cert.specs.Asking.{AsksAs, IsSealableForAll, IsShort, SealsForAll};
@@ -15,7 +13,6 @@ use events::Stop;
 use std::alloc::{AllocError, Global};
 use terms::{ClientId, Mode, Party, ReplicaId, Timestamp};
 use tuple_codec::Op;
-use tuple_tree::{Template, Tuple};
 use wire::{Body, Message, Request};
 
 /// The operation, which comes back, and the bytes of its request, sealed for all replicas.
@@ -34,7 +31,7 @@ pub(crate) fn seal_request(
     ensures sealed { IfOk result.1 (AsksAs ring.old client mode timestamp (operation_of op)) }
     ensures same { ring.new ≡ ring.old }
 {
-    note_op(&op);
+    op.note_valid();
     let _number = note_timestamp(timestamp);
     let message = Message::Request(Request {
         timestamp,
@@ -88,22 +85,6 @@ pub(crate) fn all_replicas(alloc: Global, count: u8) -> Result<Vec<Party>, Alloc
     Ok(parties)
 }
 
-/// Each operation that the program holds is within the limits.
-pub(crate) fn note_op(op: &Op<Global>)
-    ensures { IsOperation (operation_of op.now) }
-{
-    match op {
-        Op::Out(tuple) => note_tuple(tuple),
-        Op::Rdp(template) => note_template(template),
-        Op::Inp(template) => note_template(template),
-        Op::Cas(template, tuple) => {
-            note_template(template);
-            note_tuple(tuple);
-        }
-        Op::RdAll(_max, template) => note_template(template),
-    }
-}
-
 // A timestamp fits its bytes.
 fn note_timestamp(timestamp: Timestamp) -> u64
     ensures { result ≡ timestamp.0 }
@@ -111,25 +92,14 @@ fn note_timestamp(timestamp: Timestamp) -> u64
     timestamp.0
 }
 
-fn note_tuple(tuple: &Tuple<Global>)
-    ensures { IsTuple tuple.now }
-{
-    let _depth = tuple.depth();
-}
-
-fn note_template(template: &Template<Global>)
-    ensures { IsTemplate template.now }
-{
-    let _depth = template.depth();
-}
-
 /// The mode in which an operation is asked for first: a read at once from the executed state, any other in its place in
 /// the order.
 pub(crate) fn first_mode(op: &Op<Global>) -> Mode
     ensures { result ≡ first_mode (operation_of op.now) }
 {
-    match op {
-        Op::Rdp(_) | Op::RdAll(_, _) => Mode::ReadOnly,
-        Op::Out(_) | Op::Inp(_) | Op::Cas(_, _) => Mode::Ordered,
+    if op.is_read() {
+        Mode::ReadOnly
+    } else {
+        Mode::Ordered
     }
 }

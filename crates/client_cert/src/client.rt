@@ -10,7 +10,7 @@ ghost use Rattle.client_cert.specs.Fits.{Fits};
 ghost use Rattle.client_cert.specs.Steps.{CallLeads, CallStops, EventLeads, SendsAsMeant};
 ghost use Rattle.client_cert.specs.Steps.{Asks, BytesLead, Keeps, RetryLeads};
 
-use crate::asking::{all_replicas, first_mode, note_op};
+use crate::asking::{all_replicas, first_mode};
 use crate::call::{Call, request};
 use crate::hearing::{Turned, weigh};
 use authenticator::Ring;
@@ -138,7 +138,7 @@ impl Client {
         if self.call.is_some() {
             return Err(InvokeFault::Busy);
         }
-        note_op(&op);
+        op.note_valid();
         let mode = first_mode(&op);
         if self.calls >= MAX_CALLS {
             self.calls += 1;

@@ -5,10 +5,9 @@ use Rattle.std.specs.Int.{w64, to_be_bytes}
 use Rattle.std.proofs.lemmas.Bool.{cases_eq, ltb-true, ltb-false}
 use Rattle.std.proofs.lemmas.List.Elements.{All-head, All-tail, All-filter}
 use Rattle.std.proofs.lemmas.List.Sums.{length-filter}
-use Rattle.tuple_tree.specs.Values.{TupleTree, IsTuple}
-use Rattle.tuple_codec.specs.Operations.{Outcome, done, found, absent, swapped, all, full, refused, IsOutcome, AreTuples}
-use Rattle.tuple_codec.specs.Spelling.{tuple_spelling, tuples_spelling, outcome_spelling}
-use Rattle.wire.proofs.Lengths.{tuple_spelling_length}
+use Rattle.tuple_tree.specs.Values.{IsTuple}
+use Rattle.tuple_codec.specs.Spelling.{tuple_spelling, outcome_spelling}
+use Rattle.tuple_codec.proofs.Lengths.{tuple_short, outcome_short}
 use Rattle.space.specs.Births.{Entry, SpaceState, IsState as IsSpace}
 use Rattle.space.specs.Pages.{entry_text, entries_text, on_page, page_text as tuple_page}
 use Rattle.reply_cache.specs.Replies.{Kept, IsReply}
@@ -24,9 +23,6 @@ pub pages_determine : PagesDetermine
 pages_determine s t h k e = protocol-determine s t h k (λ i l. sym (page_there s i l) ∙ ap (λ ps. get_or ps i []) e ∙ page_there t i l)
 
 -- ---- tuples
-
-tuple_short : (t : TupleTree) → IsTuple t → length (tuple_spelling t) ≤ 1024
-tuple_short t h = let n = tuple_spelling_length t in let l = h.length in omega arith
 
 entry_short : (e : Entry) → IsTuple e.1 → length (entry_text e) ≤ 1032
 entry_short e h = let l = tuple_short e.1 h in let n = length-append (to_be_bytes w64 e.0) (tuple_spelling e.1) in omega arith
@@ -48,23 +44,6 @@ tuples_short s page h =
     omega arith
 
 -- ---- replies
-
-spellings_short : (ts : List TupleTree) → AreTuples ts → length (tuples_spelling ts) ≤ 1024 * length ts
-spellings_short [] h = omega arith
-spellings_short (t ∷ ts) h =
-    let first = tuple_short t h.0 in
-    let rest = spellings_short ts h.1 in
-    let n = length-append (tuple_spelling t) (tuples_spelling ts) in
-    omega arith
-
-outcome_short : (o : Outcome) → IsOutcome o → length (outcome_spelling o) ≤ 65538
-outcome_short done h = omega arith
-outcome_short (found t) h = let l = tuple_short t h in omega arith
-outcome_short absent h = omega arith
-outcome_short (swapped b) h = omega arith
-outcome_short (all ts) h = let l = spellings_short ts h.1 in let n = h.0 in omega arith
-outcome_short full h = omega arith
-outcome_short refused h = omega arith
 
 reply_short : (o : Option Kept) → IsReply o → length (reply_text o) ≤ 66048
 reply_short None h = omega arith

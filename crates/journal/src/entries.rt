@@ -10,7 +10,6 @@ ghost use Rattle.events.specs.EntryView.{entry_of_kind};
 ghost use Rattle.wire.specs.Marks.{asks_read, answers_read};
 ghost use Rattle.protocol.specs.System.Reads.{is_beside, orders, without_reads};
 
-use crate::operations::{copy_op, is_same_answer, is_same_op};
 use events::{Entry, EntryKind};
 use std::alloc::Global;
 use terms::{ClientId, Digest, NoMemory, Number, Party, ReplicaId, Timestamp};
@@ -108,7 +107,7 @@ fn copy_kind(alloc: Global, kind: &EntryKind) -> Result<EntryKind, NoMemory>
 {
     match kind {
         EntryKind::Invoke(client, timestamp, op) => {
-            Ok(EntryKind::Invoke(*client, *timestamp, copy_op(alloc, op)?))
+            Ok(EntryKind::Invoke(*client, *timestamp, op.copy_in(alloc)?))
         }
         EntryKind::Got(party, bytes) => {
             Ok(EntryKind::Got(*party, Vec::from_slice(alloc, bytes.as_slice())?))
@@ -160,7 +159,7 @@ fn is_invoke(kind: &EntryKind, client: ClientId, timestamp: Timestamp, op: &Op<G
 {
     match kind {
         EntryKind::Invoke(other, time, told) => {
-            client.number == other.number && timestamp.0 == time.0 && is_same_op(op, told)
+            client.number == other.number && timestamp.0 == time.0 && op.same(told)
         }
         _ => false,
     }
@@ -229,7 +228,7 @@ fn is_accepted(
 {
     match kind {
         EntryKind::Accepted(other, time, told) => {
-            client.number == other.number && timestamp.0 == time.0 && is_same_answer(answer, told)
+            client.number == other.number && timestamp.0 == time.0 && answer.same(told)
         }
         _ => false,
     }

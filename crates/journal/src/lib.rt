@@ -25,7 +25,6 @@ mod locked;
 mod matching;
 mod naming;
 mod opening;
-mod operations;
 mod order_share;
 mod parties;
 mod share;

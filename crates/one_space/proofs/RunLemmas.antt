@@ -1,17 +1,16 @@
 -- A run so far.
-use Rattle.std.proofs.Common.{◌≡◌, ℕ, ◌+◌, ◌^◌, ◌<◌, ◌≤◌, Bool, true, false, cond, List, [], ◌++◌, Option, None, Some, IfSome, IfOk, Result, Ok, Err, MatchResult, MatchBool, OnOk, IfErr, ◌==◌, refl, sym, ap, subst, ◌∙◌, arith, append_assoc, append-nil, is_some, zero, suc}
+use Rattle.std.proofs.Common.{◌≡◌, ℕ, ◌+◌, ◌^◌, ◌<◌, ◌≤◌, Bool, true, false, cond, List, [], ◌++◌, Option, None, Some, IfSome, IfOk, Result, Ok, Err, MatchResult, MatchBool, OnOk, IfErr, ◌==◌, refl, sym, ap, subst, ◌∙◌, arith, append_assoc, append-nil}
 use Rattle.std.specs.Str.Lines.{lines}
 use Rattle.std.specs.Io.KnownBytes.{Appends, prepend_known}
 use Rattle.std.specs.Io.Buffered.{reader_inner, reader_buffer, reader_capacity, reader_remaining}
 use Rattle.std.specs.declared.io.buffered.BufReader.{BufReader}
 use Rattle.std.proofs.KnownBytes.{Appends-nil, Appends-trans}
-use Rattle.tuple_tree.specs.Values.{TupleTree}
-use Rattle.tuple_codec.specs.Operations.{Operation, out, rdp, inp, cas, rd_all}
+use Rattle.tuple_codec.specs.Operations.{Operation}
 use Rattle.tuple_codec.specs.OperationView.{operation_of}
 use Rattle.tuple_text.specs.Lines.{IsLine}
 use Rattle.tuple_text.specs.declared.faults.LineFault.TheVariants.{TooLong}
-use Rattle.space.specs.Applying.{outcome, tuples_after, has_room, first_match}
-use Rattle.space.specs.Births.{SpaceState, tuples_of, state_after, with_tuple, with_birth, first_passing, has_page_room}
+use Rattle.space.specs.Applying.{Contents, no_tuples, outcome, tuples_after}
+use Rattle.space.specs.Births.{SpaceState, tuples_of, state_after}
 use Rattle.one_space.specs.Run.{Ending, complete, refused_at, cut_short, result_line, Runs, at_end, stops, skips, answers, refuses, is_late}
 use Rattle.one_space.specs.NextLines.{Gives, Fails, BeginsWith, IsNextLine}
 use Rattle.one_space.specs.declared.pieces.ReadFault.{ReadFault}
@@ -25,16 +24,17 @@ use Rattle.one_space.specs.declared.session.LocalFault.{LocalFault}
 use Rattle.one_space.specs.declared.session.LocalFault.TheVariants as local
 use Rattle.tuple_codec.specs.declared.operations.Op.{Op}
 use Rattle.std.specs.declared.alloc.Global.{Global}
+use Rattle.space.proofs.Batches.{next_after}
 use Rattle.space.proofs.Keeping.{tuples_of-state_after}
 
-pub starts_out : (known old : Option (List ℕ)) → IfSome known (λ bytes. Along bytes known old old 1 [] [])
+pub starts_out : (known old : Option (List ℕ)) → IfSome known (λ bytes. Along bytes known old old 1 no_tuples [])
 starts_out None old = tt
 starts_out (Some bytes) old = record { rest = bytes; done = []; known_is = refl; wrote = Appends-nil old; leads = λ more ending r. r }
 
-module _ (bytes : List ℕ) (known old new : Option (List ℕ)) (n : ℕ) (ts : List TupleTree) (pending : List ℕ) (along : Along bytes known old new n ts pending) where
+module _ (bytes : List ℕ) (known old new : Option (List ℕ)) (n : ℕ) (ts : Contents) (pending : List ℕ) (along : Along bytes known old new n ts pending) where
   -- nothing more is written
   adds : (ending : Ending) → Runs n ts (lines along.rest) [] ending → AddsResults bytes ending old new pending
-  adds ending r = (along.done, subst (λ w. Runs 1 [] (lines bytes) w ending) (append-nil (along.done ++ pending)) (along.leads [] ending r), along.wrote)
+  adds ending r = (along.done, subst (λ w. Runs 1 no_tuples (lines bytes) w ending) (append-nil (along.done ++ pending)) (along.leads [] ending r), along.wrote)
 
   pub at_last : lines along.rest ≡ [] → AddsResults bytes complete old new pending
   at_last e = adds complete (subst (λ ls. Runs n ts ls [] complete) (sym e) at_end)
@@ -60,7 +60,7 @@ module _ (bytes : List ℕ) (known old new : Option (List ℕ)) (n : ℕ) (ts : 
     leads = λ more ending r. along.leads more ending (subst (λ ls. Runs n ts ls more ending) (sym given.1.split) (skips below given.2 r));
   }
 
-  pub past_operation : (left : Option (List ℕ)) (o : Operation) (first : List ℕ) (more_pending : List ℕ) (after : List TupleTree) → n < 2 ^ 48 → IsNextLine first along.rest left
+  pub past_operation : (left : Option (List ℕ)) (o : Operation) (first : List ℕ) (more_pending : List ℕ) (after : Contents) → n < 2 ^ 48 → IsNextLine first along.rest left
       → IsLine o first → after ≡ tuples_after ts o → more_pending ≡ pending ++ result_line (outcome ts o) → Along bytes left old new (n + 1) after more_pending
   past_operation left o first more_pending after below given is_line e w = record {
     rest = given.rest;
@@ -70,13 +70,13 @@ module _ (bytes : List ℕ) (known old new : Option (List ℕ)) (n : ℕ) (ts : 
     leads = λ more ending r.
         let answered = along.leads (result_line (outcome ts o) ++ more) ending
         (subst (λ ls. Runs n ts ls (result_line (outcome ts o) ++ more) ending) (sym given.split) (answers o below is_line (subst (λ us. Runs (n + 1) us (lines given.rest) more ending) e r))) in
-        subst (λ l. Runs 1 [] (lines bytes) l ending)
+        subst (λ l. Runs 1 no_tuples (lines bytes) l ending)
         (sym (append_assoc (along.done ++ pending) (result_line (outcome ts o)) more) ∙ ap (λ l. l ++ more) (append_assoc along.done pending (result_line (outcome ts o)) ∙ ap (λ l. along.done ++ l) (sym w)))
         answered;
   }
 
 -- A front of what was pending went to the writer.
-pub moved : (bytes : List ℕ) (known old new written : Option (List ℕ)) (n : ℕ) (ts : List TupleTree) (pending still : List ℕ)
+pub moved : (bytes : List ℕ) (known old new written : Option (List ℕ)) (n : ℕ) (ts : Contents) (pending still : List ℕ)
     → Along bytes known old new n ts pending → MovesOn new written pending still → Along bytes known old written n ts still
 moved bytes known old new written n ts pending still along moves = record {
   rest = along.rest;
@@ -84,7 +84,7 @@ moved bytes known old new written n ts pending still along moves = record {
   known_is = along.known_is;
   wrote = Appends-trans old new written along.done moves.gone along.wrote moves.wrote;
   leads = λ more ending r.
-      subst (λ l. Runs 1 [] (lines bytes) (l ++ more) ending) (ap (λ l. along.done ++ l) (sym moves.split) ∙ sym (append_assoc along.done moves.gone still)) (along.leads more ending r);
+      subst (λ l. Runs 1 no_tuples (lines bytes) (l ++ more) ending) (ap (λ l. along.done ++ l) (sym moves.split) ∙ sym (append_assoc along.done moves.gone still)) (along.leads more ending r);
 }
 
 -- Nothing went to the writer, or all.
@@ -99,7 +99,7 @@ moves_all old new held still appended none = record {
 }
 
 -- what a step of the run says of the bytes that are left, where they are known
-pub known_of : (P : List ℕ → Type 0) (bytes : List ℕ) (known old new : Option (List ℕ)) (n : ℕ) (ts : List TupleTree) (pending : List ℕ)
+pub known_of : (P : List ℕ → Type 0) (bytes : List ℕ) (known old new : Option (List ℕ)) (n : ℕ) (ts : Contents) (pending : List ℕ)
     (along : Along bytes known old new n ts pending) → IfSome known P → P along.rest
 known_of P bytes known old new n ts pending along h = subst (λ o. IfSome o P) along.known_is h
 
@@ -107,42 +107,18 @@ pub each_known : (P Q : List ℕ → Type 0) (start : Option (List ℕ)) → ((b
 each_known P Q None f h = tt
 each_known P Q (Some bytes) f h = f bytes h
 
-pub at_number : (start known old new : Option (List ℕ)) (n m : ℕ) (ts : List TupleTree) (pending : List ℕ) → n ≡ m
+pub at_number : (start known old new : Option (List ℕ)) (n m : ℕ) (ts : Contents) (pending : List ℕ) → n ≡ m
     → IfSome start (λ bytes. Along bytes known old new n ts pending)
     → IfSome start (λ bytes. Along bytes known old new m ts pending)
 at_number start known old new n m ts pending e h =
     subst (λ k. IfSome start (λ bytes. Along bytes known old new k ts pending)) e h
 
 -- an operation raises the next birth number by 257 at the most
-first_passing_below : (test : ℕ → Bool) (n start : ℕ) → first_passing test n start ≤ start + n
-unfolding first_passing
-first_passing_below test zero start = omega arith
-first_passing_below test (suc n) start = at (test start) (first_passing_below test n (start + 1))
-  where
-    at : (b : Bool) → first_passing test n (start + 1) ≤ start + 1 + n → cond b start (first_passing test n (start + 1)) ≤ start + suc n
-    at true h = omega arith
-    at false h = omega arith
-
-with_tuple_next : (s : SpaceState) (t : TupleTree) → (with_tuple s t).next ≤ s.next + 257
-with_tuple_next s t = at (has_room (tuples_of s))
-  where
-    at : (b : Bool) → (cond b (with_birth s t) s).next ≤ s.next + 257
-    at true = omega (arith, first_passing_below (has_page_room s.entries) 256 s.next)
-    at false = omega arith
-
 pub state_after_next : (s : SpaceState) (o : Operation) → (state_after s o).next ≤ s.next + 257
-state_after_next s (out t) = with_tuple_next s t
-state_after_next s (rdp p) = omega arith
-state_after_next s (inp p) = omega arith
-state_after_next s (cas p t) = at (is_some (first_match p (tuples_of s)))
-  where
-    at : (b : Bool) → (cond b s (with_tuple s t)).next ≤ s.next + 257
-    at true = omega arith
-    at false = with_tuple_next s t
-state_after_next s (rd_all n p) = omega arith
+state_after_next s o = omega (arith, next_after s o)
 
 -- What reading the next line tells of the bytes that are left.
-module _ (bytes : List ℕ) (known old new : Option (List ℕ)) (n : ℕ) (ts : List TupleTree) (pending : List ℕ) (along : Along bytes known old new n ts pending)
+module _ (bytes : List ℕ) (known old new : Option (List ℕ)) (n : ℕ) (ts : Contents) (pending : List ℕ) (along : Along bytes known old new n ts pending)
     (left : Option (List ℕ)) (result : Result NextLine NoLine) (read : IfSome known (λ xs. MatchResult result (λ x. Gives x xs left) (λ why. Fails why xs))) where
   told : MatchResult result (λ x. Gives x along.rest left) (λ why. Fails why along.rest)
   told = known_of (λ xs. MatchResult result (λ x. Gives x xs left) (λ why. Fails why xs)) bytes known old new n ts pending along read
@@ -181,7 +157,7 @@ module _ (bytes : List ℕ) (known old new : Option (List ℕ)) (n : ℕ) (ts : 
       subst (λ p. AddsResults bytes cut_short old new p) (sym e) (cut bytes known old new n ts pending along)
 
 -- What is left behind the last line that there may be.
-module _ (bytes : List ℕ) (known old new : Option (List ℕ)) (n : ℕ) (ts : List TupleTree) (pending : List ℕ)
+module _ (bytes : List ℕ) (known old new : Option (List ℕ)) (n : ℕ) (ts : Contents) (pending : List ℕ)
     (along : Along bytes known old new n ts pending) (result : Result Bool ReadFault)
     (more : IfSome known (λ xs. IfOk result (λ is_more.
     MatchBool is_more (BeginsWith (λ _. Unit {0}) xs) (lines xs ≡ [])))) where
@@ -212,7 +188,7 @@ module _ (bytes : List ℕ) (known old new : Option (List ℕ)) (n : ℕ) (ts : 
 module _ (start old new written : Option (List ℕ)) (pending : List ℕ) (appended : Appends new written pending) where
   all_written : (bytes : List ℕ) (ending : Ending) → AddsResults bytes ending old new pending → AddsResults bytes ending old written []
   all_written bytes ending a =
-      (a.0 ++ pending, subst (λ w. Runs 1 [] (lines bytes) w ending) (sym (append-nil (a.0 ++ pending))) a.1, Appends-trans old new written a.0 pending a.2 appended)
+      (a.0 ++ pending, subst (λ w. Runs 1 no_tuples (lines bytes) w ending) (sym (append-nil (a.0 ++ pending))) a.1, Appends-trans old new written a.0 pending a.2 appended)
 
   pub written_at_last : (e : Ending) → IfSome start (λ bytes. AddsResults bytes e old new pending) → IfSome start (λ bytes. AddsResults bytes e old written [])
   written_at_last e h =

@@ -1,8 +1,8 @@
 -- What a run over a reader's bytes leaves with its writer.
 use Rattle.std.specs.Prelude.{◌≡◌, ℕ, List, [], ◌++◌, Option, Some, IfSome, Result, MatchResult, Contains}
-use Rattle.tuple_tree.specs.Values.{TupleTree}
 use Rattle.std.specs.Str.Lines.{lines}
 use Rattle.std.specs.Io.KnownBytes.{Appends}
+use Rattle.space.specs.Applying.{Contents, no_tuples}
 use Rattle.one_space.specs.Run.{Ending, complete, refused_at, cut_short, Runs}
 use Rattle.one_space.specs.declared.input.NoLine.{NoLine}
 use Rattle.one_space.specs.declared.input.NoLine.TheVariants as no
@@ -14,7 +14,7 @@ use Rattle.one_space.specs.declared.session.LocalFault.TheVariants.{Refused, NoM
 -- The result lines of a run over the bytes that ends so were added, but for the last ones, which are pending.
 abbrev pub AddsResults : List ℕ → Ending → Option (List ℕ) → Option (List ℕ) → List ℕ → Type 0
 AddsResults bytes ending old new pending =
-    (done : List ℕ) × Runs 1 [] (lines bytes) (done ++ pending) ending × Appends old new done
+    (done : List ℕ) × Runs 1 no_tuples (lines bytes) (done ++ pending) ending × Appends old new done
 
 abbrev pub StopsBy : LocalFault → List ℕ → Option (List ℕ) → Option (List ℕ) → List ℕ → Type 0
 StopsBy (Refused line fault) bytes old new pending = AddsResults bytes (refused_at line fault) old new pending
@@ -42,14 +42,14 @@ fault_at line (no.Read error) = Read error
 -- What was written and is pending, and any run over the lines that are left from number n on, make a run from the
 -- start.
 pub record Along
-    (bytes : List ℕ) (known old new : Option (List ℕ)) (n : ℕ) (ts : List TupleTree) (pending : List ℕ)
+    (bytes : List ℕ) (known old new : Option (List ℕ)) (n : ℕ) (ts : Contents) (pending : List ℕ)
     : Type 0 where
   pub rest : List ℕ
   pub done : List ℕ
   pub known_is : known ≡ Some rest
   pub wrote : Appends old new done
   pub leads : (more : List ℕ) (ending : Ending) → Runs n ts (lines rest) more ending
-      → Runs 1 [] (lines bytes) ((done ++ pending) ++ more) ending
+      → Runs 1 no_tuples (lines bytes) ((done ++ pending) ++ more) ending
 
 -- A front of these bytes went to the writer, and the others are left.
 pub record MovesOn (old new : Option (List ℕ)) (bytes left : List ℕ) : Type 0 where

@@ -2,10 +2,9 @@
 use Rattle.std.specs.Prelude.{◌≡◌, ℕ, ◌+◌, ◌^◌, Bool, MatchBool, List, ◌++◌, Option, Result, OnOk, MatchResult, Vec}
 use Rattle.std.specs.Io.KnownBytes.{Appends}
 use Rattle.std.specs.declared.alloc.Global.{Global}
-use Rattle.tuple_tree.specs.Values.{TupleTree}
 use Rattle.tuple_codec.specs.OperationView.{operation_of}
 use Rattle.tuple_codec.specs.declared.operations.Op.{Op}
-use Rattle.space.specs.Applying.{outcome}
+use Rattle.space.specs.Applying.{Contents, outcome}
 use Rattle.space.specs.Births.{SpaceState, tuples_of}
 use Rattle.one_space.specs.Endings.{Along, AddsResults, StopsBy, EndsRun, MovesOn}
 use Rattle.one_space.specs.Run.{complete, result_line}
@@ -17,7 +16,7 @@ use Rattle.one_space.specs.declared.session.Session.{Session}
 pub record Moment : Type 0 where
   pub left : Option (List ℕ)
   pub written : Option (List ℕ)
-  pub tuples : List TupleTree
+  pub tuples : Contents
   pub pending : List ℕ
 
 abbrev pub moment_of : Option (List ℕ) → Option (List ℕ) → Session → Moment

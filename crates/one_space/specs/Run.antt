@@ -1,14 +1,13 @@
 -- What the lines of a script come to. They run on one space, which is empty at first, and each operation writes its
 -- outcome on a line of its own, until a line is refused.
 use Rattle.std.specs.Prelude.{◌≢◌, ℕ, ◌+◌, ◌^◌, ◌<◌, ◌≤◌, List, [], ◌∷◌, ◌++◌}
-use Rattle.tuple_tree.specs.Values.{TupleTree}
 use Rattle.tuple_codec.specs.Operations.{Operation, Outcome}
 use Rattle.tuple_text.specs.Lines.{IsLine, IsSkipped}
 use Rattle.tuple_text.specs.Faults.{Refuses}
 use Rattle.tuple_text.specs.Written.{outcome_text}
 use Rattle.tuple_text.specs.declared.faults.LineFault.{LineFault}
 use Rattle.tuple_text.specs.declared.faults.LineFault.TheVariants.{NoMemory, TooLong}
-use Rattle.space.specs.Applying.{outcome, tuples_after}
+use Rattle.space.specs.Applying.{Contents, outcome, tuples_after}
 
 -- A run ends behind the last line, at a refused line of this number, or is cut short before some line.
 pub data Ending : Type 0 where
@@ -21,15 +20,15 @@ result_line r = outcome_text r ++ 10 ∷ []
 
 -- Where the first of these lines has number n and the space holds these tuples, the oldest first, so many bytes are
 -- written, and the run ends so. Numbers of lines stay below 2 to the power of 48.
-pub data Runs : ℕ → List TupleTree → List (List ℕ) → List ℕ → Ending → Type 0 where
-  at_end : {n : ℕ} {ts : List TupleTree} → Runs n ts [] [] complete
-  stops : {n : ℕ} {ts : List TupleTree} {ls : List (List ℕ)} → Runs n ts ls [] cut_short
-  skips : {n : ℕ} {ts : List TupleTree} {l : List ℕ} {ls : List (List ℕ)} {written : List ℕ} {ending : Ending}
+pub data Runs : ℕ → Contents → List (List ℕ) → List ℕ → Ending → Type 0 where
+  at_end : {n : ℕ} {ts : Contents} → Runs n ts [] [] complete
+  stops : {n : ℕ} {ts : Contents} {ls : List (List ℕ)} → Runs n ts ls [] cut_short
+  skips : {n : ℕ} {ts : Contents} {l : List ℕ} {ls : List (List ℕ)} {written : List ℕ} {ending : Ending}
       → n < 2 ^ 48 → IsSkipped l → Runs (n + 1) ts ls written ending → Runs n ts (l ∷ ls) written ending
-  answers : {n : ℕ} {ts : List TupleTree} {l : List ℕ} {ls : List (List ℕ)} {written : List ℕ} {ending : Ending}
+  answers : {n : ℕ} {ts : Contents} {l : List ℕ} {ls : List (List ℕ)} {written : List ℕ} {ending : Ending}
       → (o : Operation) → n < 2 ^ 48 → IsLine o l → Runs (n + 1) (tuples_after ts o) ls written ending
       → Runs n ts (l ∷ ls) (result_line (outcome ts o) ++ written) ending
-  refuses : {n : ℕ} {ts : List TupleTree} {l : List ℕ} {ls : List (List ℕ)} {fault : LineFault}
+  refuses : {n : ℕ} {ts : Contents} {l : List ℕ} {ls : List (List ℕ)} {fault : LineFault}
       → n < 2 ^ 48 → fault ≢ NoMemory → Refuses fault l → Runs n ts (l ∷ ls) [] (refused_at n fault)
-  is_late : {n : ℕ} {ts : List TupleTree} {l : List ℕ} {ls : List (List ℕ)}
+  is_late : {n : ℕ} {ts : Contents} {l : List ℕ} {ls : List (List ℕ)}
       → 2 ^ 48 ≤ n → Runs n ts (l ∷ ls) [] (refused_at n TooLong)

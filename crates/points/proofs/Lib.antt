@@ -1,4 +1,3 @@
-pub mod Calling
 pub mod Holding
 pub mod Collecting
 pub mod Counting

@@ -1,5 +1,4 @@
 pub mod Batching
-pub mod Calls
 pub mod Leveling
 pub mod Numbering
 pub mod Places

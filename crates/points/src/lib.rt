@@ -12,7 +12,6 @@ ghost use Rattle.protocol.specs.Space.Linear.{points};
 ghost use Rattle.points.specs.PointView.{items_of};
 
 mod batches;
-mod calls;
 mod levels;
 mod places;
 mod point;

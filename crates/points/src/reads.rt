@@ -12,7 +12,7 @@ ghost use Rattle.points.specs.Seating.{IsRead, answers, number_in, read_number, 
 ghost use Rattle.points.specs.Sorting.{HoldsReads};
 
 use crate::places::Places;
-use crate::point::{Placed, Point, copy_op};
+use crate::point::{Placed, Point};
 use crate::seats::{Seat, Seats, note, seat_of};
 use crate::sorting::Reads;
 use authenticator::Ring;
@@ -98,7 +98,7 @@ fn read_at(
         return Ok(None);
     };
     let position = seat.invoked.max(places.position(number));
-    let op = copy_op(alloc, call.op)?;
+    let op = call.op.copy_in(alloc)?;
     let answer = answer.copy_in(alloc)?;
     Ok(Some(Placed {
         point: Point {

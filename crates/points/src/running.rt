@@ -10,9 +10,9 @@ ghost use Rattle.points.specs.Numbering.{AscendsFrom};
 ghost use Rattle.points.specs.PointView.{placings_of};
 ghost use Rattle.points.specs.Running.{Runs, RunsAll, RunsEach, so_far};
 
-use crate::calls::read_call;
 use crate::places::Places;
 use crate::point::{Placed, Point};
+use execution::read_call;
 use reply_cache::ReplyCache;
 use space::Space;
 use std::alloc::Global;

@@ -3,52 +3,14 @@ use Rattle.std.proofs.Common.{◌≡◌, ℕ, ◌+◌, ◌*◌, ◌≤◌, false
 use Rattle.std.specs.Prelude.{IsTrue}
 use Rattle.std.specs.Int.{w16, w32, w64, to_be_bytes}
 use Rattle.terms.specs.declared.order.Mode.TheVariants as modes
-use Rattle.tuple_tree.specs.Values.{TupleTree, TemplateTree, IsTuple, IsTemplate}
-use Rattle.tuple_codec.specs.Operations.{Operation, out, rdp, inp, cas, rd_all, IsOperation, Outcome, done, found, absent, swapped, all, full, refused, IsOutcome, AreTuples}
-use Rattle.tuple_codec.specs.Spelling.{tuple_spelling, template_spelling, tuples_spelling, operation_spelling, outcome_spelling}
+use Rattle.tuple_codec.specs.Spelling.{operation_spelling, outcome_spelling}
 use Rattle.wire.specs.Lists.{Each, each_spelling}
 use Rattle.wire.specs.Messages.{MacData, NewViewData, AuthenticatorData as Authenticator, macs, signature, BodyData, MessageData as Message, request, pre_prepare, prepare, commit, checkpoint, view_change, new_view, reply, fetch, meta, page}
 use Rattle.wire.specs.Spelling.{IsAuthenticator, IsBatch, IsCarried, IsDigest, IsMac, IsMessage, IsNewView, IsPlain, batches_spelling, is_view_change, pieces_spelling, authenticator_is_signed, authenticator_spelling, body_spelling, fields_spelling, frame_limit, is_ordered_request, is_signed, mac_spelling, mode_byte, level_byte, piece}
-use Rattle.wire.proofs.Lengths.{tuple_spelling_length, template_spelling_length}
+use Rattle.tuple_codec.proofs.Lengths.{operation_short, outcome_short}
 use Rattle.authenticator.specs.Sealing.{IsSealable, IsTooLong, sealed_for}
 use Rattle.authenticator.proofs.Sealing.{sealed-short}
 use Rattle.posting.specs.Endpoint.{FitsFrame, SignedExceeds, says}
-
--- ---- operations and answers
-
-tuple_short : (t : TupleTree) → IsTuple t → length (tuple_spelling t) ≤ 1024
-tuple_short t is = let e = tuple_spelling_length t in let l = is.length in omega (arith, e, l)
-
-template_short : (p : TemplateTree) → IsTemplate p → length (template_spelling p) ≤ 1024
-template_short p is = let e = template_spelling_length p in let l = is.length in omega (arith, e, l)
-
-operation_short : (op : Operation) → IsOperation op → length (operation_spelling op) ≤ 2049
-operation_short (out t) is = let l = tuple_short t is in omega (arith, l)
-operation_short (rdp p) is = let l = template_short p is in omega (arith, l)
-operation_short (inp p) is = let l = template_short p is in omega (arith, l)
-operation_short (cas p t) is =
-    let l = template_short p is.0 in
-    let k = tuple_short t is.1 in
-    let e = length-append (template_spelling p) (tuple_spelling t) in
-    omega (arith, l, k, e)
-operation_short (rd_all n p) is = let l = template_short p is.2 in omega (arith, l)
-
-tuples_short : (ts : List TupleTree) → AreTuples ts → length (tuples_spelling ts) ≤ 1024 * length ts
-tuples_short [] are = omega arith
-tuples_short (t ∷ ts) are =
-    let first = tuple_short t are.0 in
-    let rest = tuples_short ts are.1 in
-    let n = length-append (tuple_spelling t) (tuples_spelling ts) in
-    omega (arith, first, rest, n)
-
-outcome_short : (o : Outcome) → IsOutcome o → length (outcome_spelling o) ≤ 65538
-outcome_short done is = omega arith
-outcome_short (found t) is = let l = tuple_short t is in omega (arith, l)
-outcome_short absent is = omega arith
-outcome_short (swapped b) is = omega arith
-outcome_short (all ts) is = let l = tuples_short ts is.1 in let n = is.0 in omega (arith, l, n)
-outcome_short full is = omega arith
-outcome_short refused is = omega arith
 
 -- ---- batches
 

@@ -14,7 +14,7 @@ use crate::joined::Joined;
 use crate::orderer::Orderer;
 use crate::waiting::BegunCall;
 use events::{Outputs, Stop};
-use execution::read_call;
+use execution::{Call, read_call};
 use ordering::HashedBatch;
 use std::alloc::Global;
 use std::sync::Arc;
@@ -148,12 +148,19 @@ impl Desk {
         let frames = requests(text);
         for frame in frames.as_slice() {
             if let Some(call) = read_call(alloc, frame, self.executed.clients())? {
-                calls.push(BegunCall {
-                    client: call.client,
-                    timestamp: call.timestamp,
-                })?;
+                calls.push(begun_call(call))?;
             }
         }
         Ok(())
+    }
+}
+
+// The call without its operation, which is dropped here alone.
+fn begun_call(call: Call) -> BegunCall
+    ensures { result ≡ record { client = call.client; timestamp = call.timestamp } }
+{
+    BegunCall {
+        client: call.client,
+        timestamp: call.timestamp,
     }
 }

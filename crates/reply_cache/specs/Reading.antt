@@ -1,8 +1,6 @@
 -- What the functions that read pages speak of.
-use Rattle.std.specs.Prelude.{◌≡◌, ℕ, ◌<◌, List, [], length, map, slice_index_or, Option, None, Result, MatchResult}
+use Rattle.std.specs.Prelude.{◌≡◌, ℕ, ◌<◌, List, [], length, map, slice_index_or, Option, None}
 use Rattle.std.specs.Borrow.{Bor}
-use Rattle.tuple_codec.specs.declared.bad.Bad.{Bad}
-use Rattle.tuple_codec.specs.declared.bad.Bad.TheVariants as bad
 use Rattle.reply_cache.specs.Replies.{Kept, Replies, IsReply}
 use Rattle.reply_cache.specs.Pages.{reply_text, ArePages}
 use Rattle.reply_cache.specs.ReplyView.{reply_of}
@@ -32,8 +30,3 @@ texts_of pages = map (λ page. page.now) pages
 -- the texts are the pages of some replies
 abbrev pub AreSomePages : List (List ℕ) → Type 0
 AreSomePages texts = (rs : Replies) × ArePages texts rs
-
--- Each value of this sort is given, unless memory ran out. So there is one at the most, where it didn't.
-abbrev pub GivesEach : {X V : Type 0} → (X → V) → (V → Type 0) → Result X Bad → Type 0
-GivesEach {V = V} view IsOne result =
-    (v : V) → IsOne v → MatchResult result (λ x. view x ≡ v) (λ e. e ≡ bad.NoMemory)

@@ -1,10 +1,11 @@
 //! The replies by client.
 
 ghost use Rattle.std.specs.Prelude.{◌≡◌, ℕ, ◌≤◌, ◌<◌, ◌++◌, ◌∷◌, [], OnOk, OnErr, IfOk, IsTrue, length, option_map};
+ghost use Rattle.tuple_codec.specs.Gives.{GivesEach};
 ghost use Rattle.reply_cache.specs.Replies.{Replies, no_replies, last_of, seen_of, IsAbove, AreReplies};
 ghost use Rattle.reply_cache.specs.ReplyView.{kept_of, padded, AreSlots, with_answer};
 ghost use Rattle.reply_cache.specs.Pages.{page_text, ArePages};
-ghost use Rattle.reply_cache.specs.Reading.{EachSpelled, texts_of, AreSomePages, GivesEach};
+ghost use Rattle.reply_cache.specs.Reading.{EachSpelled, texts_of, AreSomePages};
 
 use crate::pages::{is_page, put_reply, read_reply};
 use std::alloc::Global;
@@ -130,7 +131,7 @@ impl ReplyCache {
         ensures memory { (result ≡ Err Bad.NoMemory) → AreSomePages (texts_of pages.now) }
 
         // The replies with these pages are read, unless memory runs out.
-        ensures only { GivesEach (λ c. c) (ArePages (texts_of pages.now)) result }
+        ensures only { GivesEach Bad.NoMemory (λ c. c) (ArePages (texts_of pages.now)) result }
     {
         if pages.len() != CLIENTS {
             return Err(Bad::Malformed);

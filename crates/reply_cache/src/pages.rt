@@ -1,12 +1,13 @@
 //! The texts of pages, and back.
 
 ghost use Rattle.std.specs.Prelude.{◌≡◌, ◌++◌, Option, IfOk, OnOk, IsTrue};
+ghost use Rattle.tuple_codec.specs.Gives.{GivesEach};
 ghost use Rattle.tuple_codec.specs.OperationView.{outcome_of};
 ghost use Rattle.tuple_codec.specs.Spelling.{SpellsOutcome};
 ghost use Rattle.reply_cache.specs.Replies.{Kept};
 ghost use Rattle.reply_cache.specs.ReplyView.{kept_of, reply_of};
 ghost use Rattle.reply_cache.specs.Pages.{kept_text};
-ghost use Rattle.reply_cache.specs.Reading.{SpellsReply, GivesEach};
+ghost use Rattle.reply_cache.specs.Reading.{SpellsReply};
 
 use crate::cache::Reply;
 use byteorder::{BigEndian, ByteOrder};
@@ -29,7 +30,7 @@ pub fn put_reply(reply: &Reply, out: &mut Vec<u8>) -> Result<(), NoMemory>
 // The answer that bytes spell as a whole.
 fn read_answer(alloc: Global, bytes: &[u8]) -> Result<Answer<Global>, Bad>
     ensures found { IfOk result (λ a. SpellsOutcome bytes.now (outcome_of a)) }
-    ensures only { GivesEach outcome_of (SpellsOutcome bytes.now) result }
+    ensures only { GivesEach Bad.NoMemory outcome_of (SpellsOutcome bytes.now) result }
 {
     match decode_result(alloc, bytes) {
         Ok((answer, len)) => {
@@ -62,7 +63,7 @@ pub fn is_page(text: &[u8]) -> bool
 /// The reply that a page's text spells.
 pub fn read_reply(alloc: Global, text: &[u8]) -> Result<Option<Reply>, Bad>
     ensures found { IfOk result (λ r. SpellsReply text.now (reply_of r)) }
-    ensures only { GivesEach reply_of (SpellsReply text.now) result }
+    ensures only { GivesEach Bad.NoMemory reply_of (SpellsReply text.now) result }
 {
     if text.is_empty() {
         return Ok(None);

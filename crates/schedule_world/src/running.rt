@@ -3,8 +3,6 @@
 ghost use Rattle.std.specs.Prelude.{◌≡◌, IfOk, IfErr, OnOk};
 ghost use Rattle.terms.specs.Parties.{party_number};
 ghost use Rattle.tuple_codec.specs.OperationView.{operation_of};
-ghost use Rattle.tuple_codec.specs.Operations.{IsOperation};
-ghost use Rattle.tuple_tree.specs.Values.{IsTuple, IsTemplate};
 ghost use Rattle.protocol.specs.System.Schedule.Step.{calls, ticks};
 ghost use Rattle.protocol.specs.System.Schedule.Step.{deliver as deliver_step, feed as feed_step};
 ghost use Rattle.schedule_text.specs.StepView.{step_of};
@@ -26,7 +24,6 @@ use std::fmt;
 use terms::{ClientId, NoMemory, Party};
 use thiserror::Error;
 use tuple_codec::Op;
-use tuple_tree::{Template, Tuple};
 
 /// Why a schedule was not run.
 #[derive(Drop, Error)]
@@ -170,9 +167,9 @@ fn call(
     if !config.is_correct_client(Party::Client(client).number()) || stage.is_open(client) {
         return Ok(false);
     }
-    note_op(op);
-    let copy = copy_op(alloc, op)?;
-    let told = copy_op(alloc, op)?;
+    op.note_valid();
+    let copy = op.copy_in(alloc)?;
+    let told = op.copy_in(alloc)?;
     stage.call(alloc, config, client, copy, told)?;
     Ok(true)
 }
@@ -269,44 +266,4 @@ fn tick(stage: &mut Stage, alloc: Global, config: &Config, party: Party) -> Resu
     }
     stage.tick(alloc, config, party)?;
     Ok(true)
-}
-
-// Each operation that the program holds is within the limits.
-fn note_op(op: &Op<Global>)
-    ensures { IsOperation (operation_of op.now) }
-{
-    match op {
-        Op::Out(tuple) => note_tuple(tuple),
-        Op::Rdp(template) => note_template(template),
-        Op::Inp(template) => note_template(template),
-        Op::Cas(template, tuple) => {
-            note_template(template);
-            note_tuple(tuple);
-        }
-        Op::RdAll(_max, template) => note_template(template),
-    }
-}
-
-fn note_tuple(tuple: &Tuple<Global>)
-    ensures { IsTuple tuple.now }
-{
-    let _depth = tuple.depth();
-}
-
-fn note_template(template: &Template<Global>)
-    ensures { IsTemplate template.now }
-{
-    let _depth = template.depth();
-}
-
-fn copy_op(alloc: Global, op: &Op<Global>) -> Result<Op<Global>, NoMemory>
-    ensures { IfOk result (λ copy. operation_of copy ≡ operation_of op.now) }
-{
-    match op {
-        Op::Out(tuple) => Ok(Op::Out(tuple.copy_in(alloc)?)),
-        Op::Rdp(template) => Ok(Op::Rdp(template.copy_in(alloc)?)),
-        Op::Inp(template) => Ok(Op::Inp(template.copy_in(alloc)?)),
-        Op::Cas(template, tuple) => { Ok(Op::Cas(template.copy_in(alloc)?, tuple.copy_in(alloc)?)) }
-        Op::RdAll(max, template) => Ok(Op::RdAll(*max, template.copy_in(alloc)?)),
-    }
 }

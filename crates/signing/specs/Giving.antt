@@ -3,7 +3,7 @@ use Rattle.std.specs.Prelude.{◌≡◌, ℕ, List, Option, Some, MatchOption, R
 use Rattle.terms.specs.Parties.{party_number}
 use Rattle.terms.specs.declared.parties.Party.{Party}
 use Rattle.wire.specs.Appends.{Appends}
-use Rattle.wire.specs.Giving.{GivesEach}
+use Rattle.tuple_codec.specs.Gives.{GivesEach}
 use Rattle.wire.specs.Messages.{BodyData}
 use Rattle.wire.specs.Views.{body_data}
 use Rattle.authenticator.specs.Keys.{signing_seed}

@@ -8,9 +8,9 @@ use Rattle.std.proofs.lemmas.List.Elements.{All-nil, All-push, All-append, All-t
 use Rattle.std.proofs.lemmas.List.Quantifiers.{all_pairs_push, all_pairs_remove}
 use Rattle.tuple_tree.specs.Items.{none}
 use Rattle.tuple_tree.specs.Values.{TupleTree, TemplateTree, IsTuple}
-use Rattle.tuple_codec.specs.Operations.{Operation, out, rdp, inp, cas, rd_all, IsOperation}
+use Rattle.tuple_codec.specs.Operations.{Operation, out, rdp, inp, cas, rd_all, IsOperation, is_read_only}
 use Rattle.template_match.specs.Tests.{is_match}
-use Rattle.space.specs.Applying.{has_room, first_match, with_newest, tuples_after}
+use Rattle.space.specs.Applying.{Contents, has_room, first_match, with_newest, tuples_after}
 use Rattle.space.specs.Births.{Entry, SpaceState, empty_state, tuples_of, page_count, has_page_room, first_passing, birth_of, with_birth, with_tuple, without_match, state_after, IsState, IsNextBirth}
 use Rattle.space.specs.Counted.{IsCounted}
 use Rattle.space.proofs.Passing.{first_passing-least, first_passing-agree}
@@ -121,6 +121,14 @@ tuples_of-state_after s (cas p t) = go (is_some (first_match p (tuples_of s)))
     go true = refl
     go false = tuples_of-with_tuple s t
 tuples_of-state_after s (rd_all n p) = refl
+
+-- What only reads leaves the tuples as they are.
+pub read_same : (ts : Contents) (o : Operation) → is_read_only o ≡ true → tuples_after ts o ≡ ts
+read_same ts (out t) h = absurd cc
+read_same ts (rdp p) h = refl
+read_same ts (inp p) h = absurd cc
+read_same ts (cas p t) h = absurd cc
+read_same ts (rd_all n p) h = refl
 
 -- The table of how many tuples lie on each page.
 module _ (es : List Entry) (next : ℕ) (counts : List ℕ) (h : IsCounted es next counts) where

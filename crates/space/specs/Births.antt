@@ -6,7 +6,7 @@ use Rattle.tuple_tree.specs.Values.{TupleTree, TemplateTree, IsTuple}
 use Rattle.tuple_tree.specs.ValuesCode.{tuple_code}
 use Rattle.tuple_codec.specs.Operations.{Operation, out, rdp, inp, cas, rd_all}
 use Rattle.template_match.specs.Tests.{is_match}
-use Rattle.space.specs.Applying.{has_room, without_first, first_match, wants_memory, tuples_after}
+use Rattle.space.specs.Applying.{Contents, has_room, without_first, first_match, wants_memory, tuples_after}
 
 -- a birth number and its tuple
 abbrev pub Entry : Type 0
@@ -20,7 +20,7 @@ pub record SpaceState : Type 0 where
 abbrev pub empty_state : SpaceState
 empty_state = record { entries = []; next = 0 }
 
-abbrev pub tuples_of : SpaceState → List TupleTree
+abbrev pub tuples_of : SpaceState → Contents
 tuples_of s = map (λ e. e.1) s.entries
 
 -- how many tuples lie on a page

@@ -1,5 +1,5 @@
 -- A space and which of its pages may have changed.
-use Rattle.std.specs.Prelude.{◌≡◌, ℕ, ◌<◌, Bool, false, List, slice_index_or, Option, Some, refl}
+use Rattle.std.specs.Prelude.{◌≡◌, ℕ, ◌<◌, Bool, false, List, slice_index_or, refl}
 use Rattle.std.specs.Coded.{Coded, code_by, coded×, coded_list, coded_bool}
 use Rattle.tuple_codec.specs.Operations.{Operation}
 use Rattle.space.specs.Births.{SpaceState, space_code, state_after}
@@ -17,9 +17,11 @@ is_touched w page = slice_index_or w.touched page false
 abbrev pub KeepsPage : SpaceState → Operation → ℕ → Type 0
 KeepsPage s o page = page_text (state_after s o) page ≡ page_text s page
 
--- the operation leaves each page but this one with its text
-abbrev pub KeepsOthers : SpaceState → Operation → Option ℕ → Type 0
-KeepsOthers s o changed = (page : ℕ) → ¬ (changed ≡ Some page) → KeepsPage s o page
+-- A set of pages keeps those that it has, and has each page 0 to 255 afterwards whose text the operation changes.
+abbrev pub MarksChanged : SpaceState → Operation → List Bool → List Bool → Type 0
+MarksChanged s o old new =
+    (page : ℕ) → page < 256 → slice_index_or new page false ≡ false
+    → (slice_index_or old page false ≡ false) × KeepsPage s o page
 
 -- A page that isn't touched afterwards wasn't before, and has the same text.
 abbrev pub TouchesChanges : WatchedState → WatchedState → Type 0

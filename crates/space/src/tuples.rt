@@ -1,6 +1,6 @@
 //! The space and its operations.
 
-ghost use Rattle.std.specs.Prelude.{◌≡◌, ◌+◌, ◌%◌, ◌^◌, ◌<◌, ◌≤◌, true, length, is_some, OnOk, OnErr, IfOk, IfSome, IsTrue, ◌↔◌};
+ghost use Rattle.std.specs.Prelude.{◌≡◌, ◌+◌, ◌%◌, ◌^◌, ◌<◌, ◌≤◌, true, length, slice_set, is_some, OnOk, OnErr, IfOk, IfSome, IsTrue, ◌↔◌};
 ghost use Rattle.std.specs.Ordering.{nat_cmp};
 ghost use Rattle.std.specs.Map.{lookup};
 ghost use Rattle.std.specs.BTreeMap.{is_at};
@@ -13,7 +13,7 @@ ghost use Rattle.space.specs.Applying.{outcome, first_match, has_room};
 ghost use Rattle.space.specs.Pages.{page_text, header_text, texts_of, ArePages, MayBePages, ReadsEachState};
 ghost use Rattle.space.specs.Reading.{ArePagesOf, ReadsAllPages};
 ghost use Rattle.space.specs.Found.{IsOldest, without_birth};
-ghost use Rattle.space.specs.Watching.{KeepsOthers};
+ghost use Rattle.space.specs.Watching.{MarksChanged};
 ghost use Rattle.space.specs.Births.{IsState, Follows, TuplesFollow, WantsMemory, empty_state, birth_of, tuples_of, with_birth, with_tuple, without_match};
 
 use crate::births::{PAGES, empty_pages, next_birth};
@@ -342,20 +342,20 @@ impl Space {
         result
     }
 
-    /// The page whose text an operation may change. Takes no memory.
-    pub(crate) fn page_changed_by<A: Allocator>(&self, op: &Op<A>) -> Option<usize>
+    /// Adds each page whose text the operation may change to a set of pages. Takes no memory.
+    pub(crate) fn mark_changed<A: Allocator>(&self, op: &Op<A>, pages: &mut [bool; PAGES])
         requires { self.now.next < 2 ^ 62 }
-        ensures bound { IfSome result (λ page. page < 256) }
-        ensures others { KeepsOthers self.now (operation_of op.now) result }
+        ensures { MarksChanged self.now (operation_of op.now) pages.old pages.new }
     {
         match op {
-            Op::Out(_) => Some(self.next_page()),
-            Op::Cas(_, _) => Some(self.next_page()),
-            Op::Inp(template) => match self.oldest_match(template) {
-                Some((birth, _)) => Some((birth % PAGES as u64) as usize),
-                None => None,
-            },
-            Op::Rdp(_) | Op::RdAll(_, _) => None,
+            Op::Out(_) => add_page(pages, self.next_page()),
+            Op::Cas(_, _) => add_page(pages, self.next_page()),
+            Op::Inp(template) => {
+                if let Some((birth, _)) = self.oldest_match(template) {
+                    add_page(pages, (birth % PAGES as u64) as usize);
+                }
+            }
+            Op::Rdp(_) | Op::RdAll(_, _) => {}
         }
     }
 
@@ -405,6 +405,14 @@ impl Space {
             Op::Out(_) | Op::Inp(_) | Op::Cas(_, _) => Err(PeekFault::NotReadOnly),
         }
     }
+}
+
+// Adds a page to a set of pages.
+fn add_page(pages: &mut [bool; PAGES], page: usize)
+    requires { page < PAGES }
+    ensures { pages.new ≡ slice_set pages.old page true }
+{
+    pages[page] = true;
 }
 
 // Each tuple that the program holds is within the limits.

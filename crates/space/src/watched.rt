@@ -60,12 +60,8 @@ impl Watched {
         ensures err { OnErr result (self.new.state ≡ self.old.state) }
         ensures touches { TouchesChanges self.old self.new }
     {
-        let page = self.space.page_changed_by(op);
-        let result = self.space.apply(op);
-        if let Some(page) = page {
-            self.touched[page] = true;
-        }
-        result
+        self.space.mark_changed(op, &mut self.touched);
+        self.space.apply(op)
     }
 
     /// Whether the text of page `page`, 0 to 255, may differ from that at the last [`Watched::untouch`]. Takes no

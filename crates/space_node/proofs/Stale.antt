@@ -4,7 +4,7 @@ use Rattle.std.specs.Prelude.{Result, Ok, Err, IfOk, IfSome}
 use Rattle.std.specs.Result.{result_ok}
 use Rattle.terms.specs.Parties.{party_number}
 use Rattle.terms.specs.declared.parties.Party.{Party}
-use Rattle.space.specs.Applying.{outcome}
+use Rattle.space.specs.Applying.{no_tuples, outcome}
 use Rattle.space.specs.Births.{SpaceState, empty_state, tuples_of}
 use Rattle.wire.specs.Messages.{MessageData}
 use Rattle.wire.specs.declared.messages.Reply.{Reply}
@@ -25,7 +25,7 @@ if_some (Err e) o P Q is f p = subst (λ o. IfSome o Q) (sym is) tt
 module _ (m : Membership) (me : ℕ) (bytes : List ℕ) (shelf : Shelf) (request : ReadRequest) (reply : Reply)
     (hears : HearsRead m me bytes request.client.number request.timestamp.0 request.op.now) (answers : AnswersRead shelf request reply)
     (empty : shelf.space.now ≡ empty_state) (number : shelf.number.0 ≡ 0) where
-  says : reply_data reply ≡ read_reply request.client.number request.timestamp.0 0 (outcome [] hears.op)
+  says : reply_data reply ≡ read_reply request.client.number request.timestamp.0 0 (outcome no_tuples hears.op)
   says =
       (answers hears.op hears.spelled).says
       ∙ (ap (λ (n : ℕ). read_reply request.client.number request.timestamp.0 n (outcome (tuples_of shelf.space.now) hears.op)) number

@@ -2,7 +2,7 @@
 use Rattle.std.specs.Prelude.{◌≡◌, ◌≢◌, ℕ, ◌+◌, Bool, true, ◌&&◌, not, List, [], ◌∷◌, All, AllPairs, Some, map}
 use Rattle.quorum.specs.Quorum.{member}
 use Rattle.tuple_codec.specs.Operations.{Operation}
-use Rattle.space.specs.Applying.{outcome, is_read_only}
+use Rattle.space.specs.Applying.{no_tuples, outcome, is_read_only}
 use Rattle.authenticator.specs.Membership.{Membership}
 use Rattle.signing.specs.Heard.{heard}
 use Rattle.protocol.specs.System.Configuration.{Configuration, is_faulty_replica}
@@ -46,4 +46,4 @@ pub record IsStale (m : Membership) (me : ℕ) (bytes : List ℕ) (output : Outp
   pub op : Operation
   pub hears : heard m me bytes ≡ Some (read_only_request (256 + client) timestamp op)
   pub read : is_read_only op ≡ true
-  pub answers : IsSealedPost m me (read_reply client timestamp 0 (outcome [] op)) ((256 + client) ∷ []) output
+  pub answers : IsSealedPost m me (read_reply client timestamp 0 (outcome no_tuples op)) ((256 + client) ∷ []) output

@@ -11,7 +11,6 @@ ghost use Rattle.space_node.specs.Seats.{ClientLeads, IsIdle, stopped_at};
 
 use crate::entries::entries_of;
 use crate::input::{Given, Input};
-use crate::operations::copy_op;
 use crate::recording::record;
 use crate::turn::{Turn, turn_of};
 use client_cert::{Client, Event, InvokeFault};
@@ -121,7 +120,7 @@ impl<N: Naming> ClientSeat<N> {
     {
         // Until the event is in the journal.
         self.stopped = true;
-        let told = copy_op(alloc, &op)?;
+        let told = op.copy_in(alloc)?;
         let outputs = match self.client.invoke(alloc, op) {
             Ok(outputs) => outputs,
             Err(InvokeFault::NoMemory) => return Err(AppendFault::NoMemory),

@@ -41,7 +41,6 @@ mod gate;
 mod handle;
 mod input;
 mod note;
-mod operations;
 mod order_seat;
 mod recording;
 mod replica_share;

@@ -1,18 +1,16 @@
 -- The leaves of tuples and templates at the front of bytes.
-use Rattle.std.proofs.Common.{◌≡◌, inl, inr, ℕ, ℤ, Bool, ◌+◌, ◌^◌, ◌<◌, ◌≤◌, cond, List, [], ◌∷◌, ◌++◌, length, Option, Some, None, ap, refl, ◌∙◌, arith, length-append}
-use Rattle.std.proofs.lemmas.Bool.{eqb-true}
+use Rattle.std.proofs.Common.{◌≡◌, ℕ, ℤ, Bool, ◌+◌, ◌^◌, ◌<◌, ◌≤◌, List, [], ◌∷◌, ◌++◌, length, Some, ap, refl, ◌∙◌, arith, length-append}
 use Rattle.std.proofs.lemmas.Int.{to_z-of_z, of_z-to_z}
 use Rattle.std.specs.Int.{w16, w64, to_be_bytes, cast_unsigned, cast_signed}
 use Rattle.std.specs.Str.{IsUtf8}
 use borrow.Author.Gap.{read_sfits}
 use mir.ValLaws.{of_z_fits}
-use lib.Dec.{eqb}
 use Rattle.tuple_tree.specs.Items.{Item, leaf}
 use Rattle.tuple_tree.specs.Values.{Datum, number, text, bytes, truth, Slot, actual, any, formal, datum_length, slot_length, IsDatum, IsSlot, AreBytes}
 use Rattle.tuple_tree.specs.declared.atoms.Kind.TheVariants as kinds
-use Rattle.tuple_codec.specs.Reading.{Reader, read_as, number_of, string_at, text_at, flag_at, datum_at, slot_at, item_with}
+use Rattle.tuple_codec.specs.Reading.{Reader, read_as, unknown, number_of, string_at, text_at, flag_at, datum_rows, datum_at, formal_rows, slot_at, item_with}
 use Rattle.tuple_codec.specs.Spelling.{string, flag, datum_spelling, slot_spelling}
-use Rattle.tuple_codec.proofs.Readers.{FoundBehind, bind_some, parts, choice, guard_holds, moved, as_found, as_again, tag_found, at_tag}
+use Rattle.tuple_codec.proofs.Readers.{FoundBehind, bind_some, parts, moved, as_found, as_again, tag_found, RowsFound, ◌⨾◌, found_by_table, unknown_found}
 use Rattle.tuple_codec.proofs.Numbers.{number_8_found, number_again, string_found, string_again, text_found, text_again, flag_found, flag_again}
 
 -- What a reader of leaves, each behind its tag, is to be.
@@ -33,32 +31,22 @@ datum_lengths (truth b) = omega arith
 slot_lengths : (x : Slot) → length (slot_spelling x) ≡ slot_length x
 slot_lengths (actual x) = datum_lengths x
 slot_lengths any = omega arith
-slot_lengths (formal kinds.Number) = omega arith
-slot_lengths (formal kinds.Text) = omega arith
-slot_lengths (formal kinds.Bytes) = omega arith
-slot_lengths (formal kinds.Truth) = omega arith
-slot_lengths (formal kinds.Tuple) = omega arith
+slot_lengths (formal k) = omega arith
 
 number_law : (n : ℕ) → n < 256 ^ 8 → (datum_spelling (number (cast_signed w64 n)) ≡ 1 ∷ to_be_bytes w64 n) × IsDatum (number (cast_signed w64 n))
 number_law n p = (ap (λ m. 1 ∷ to_be_bytes w64 m) (of_z-to_z w64 n (omega arith)), read_sfits w64 n)
 
+datum_rows_found : RowsFound IsDatum datum_spelling datum_rows
+datum_rows_found =
+    as_found (λ n. n < 256 ^ 8) IsDatum (to_be_bytes w64) datum_spelling 1 (λ n. number (cast_signed w64 n)) (number_of 8) number_8_found number_law
+    ⨾ as_found IsUtf8 IsDatum string datum_spelling 2 text text_at text_found (λ s u. (refl, u))
+    ⨾ as_found AreBytes IsDatum string datum_spelling 3 bytes string_at string_found (λ s u. (refl, u))
+    ⨾ as_found (λ b. Unit {0}) IsDatum (λ b. flag b ∷ []) datum_spelling 4 truth flag_at flag_found (λ b u. (refl, tt))
+    ⨾ tt
+
 pub datum_found : (tag : ℕ) → FoundBehind tag IsDatum datum_spelling (datum_at tag)
 unfolding datum_at
-datum_found tag bs rest v h e =
-    let four : Option (Datum × List ℕ) = cond (eqb tag 4) (read_as truth flag_at bs) None in
-    let three : Option (Datum × List ℕ) = cond (eqb tag 3) (read_as bytes string_at bs) four in
-    let two : Option (Datum × List ℕ) = cond (eqb tag 2) (read_as text text_at bs) three in
-    elim (choice tag 1 (read_as (λ n. number (cast_signed w64 n)) (number_of 8) bs) two (v, rest) e) [
-      | inl k ↦ at_tag IsDatum datum_spelling tag 1 bs rest v k.0 (as_found (λ n. n < 256 ^ 8) IsDatum (to_be_bytes w64) datum_spelling 1 (λ n. number (cast_signed w64 n)) (number_of 8) number_8_found number_law bs rest v h k.1)
-      | inr e2 ↦ elim (choice tag 2 (read_as text text_at bs) three (v, rest) e2) [
-        | inl k ↦ at_tag IsDatum datum_spelling tag 2 bs rest v k.0 (as_found IsUtf8 IsDatum string datum_spelling 2 text text_at text_found (λ s u. (refl, u)) bs rest v h k.1)
-        | inr e3 ↦ elim (choice tag 3 (read_as bytes string_at bs) four (v, rest) e3) [
-          | inl k ↦ at_tag IsDatum datum_spelling tag 3 bs rest v k.0 (as_found AreBytes IsDatum string datum_spelling 3 bytes string_at string_found (λ s u. (refl, u)) bs rest v h k.1)
-          | inr e4 ↦ let k = guard_holds (eqb tag 4) (read_as truth flag_at bs) (v, rest) e4 in
-              at_tag IsDatum datum_spelling tag 4 bs rest v (eqb-true tag 4 k.0) (as_found (λ b. Unit {0}) IsDatum (λ b. flag b ∷ []) datum_spelling 4 truth flag_at flag_found (λ b u. (refl, tt)) bs rest v h k.1)
-        ]
-      ]
-    ]
+datum_found = found_by_table IsDatum datum_spelling datum_rows unknown datum_rows_found (unknown_found IsDatum datum_spelling)
 
 actual_found : (tag : ℕ) → FoundBehind tag IsSlot slot_spelling (read_as actual (datum_at tag))
 actual_found tag bs rest v h e =
@@ -67,34 +55,19 @@ actual_found tag bs rest v h e =
     let p = parts k.2 in
     moved IsSlot slot_spelling (tag ∷ bs) a p.0 p.1
 
+formal_rows_found : RowsFound IsSlot slot_spelling formal_rows
+formal_rows_found =
+    tag_found IsSlot slot_spelling 0x10 any refl tt
+    ⨾ tag_found IsSlot slot_spelling 0x11 (formal kinds.Number) refl tt
+    ⨾ tag_found IsSlot slot_spelling 0x12 (formal kinds.Text) refl tt
+    ⨾ tag_found IsSlot slot_spelling 0x13 (formal kinds.Bytes) refl tt
+    ⨾ tag_found IsSlot slot_spelling 0x14 (formal kinds.Truth) refl tt
+    ⨾ tag_found IsSlot slot_spelling 0x15 (formal kinds.Tuple) refl tt
+    ⨾ tt
+
 pub slot_found : (tag : ℕ) → FoundBehind tag IsSlot slot_spelling (slot_at tag)
 unfolding slot_at
-slot_found tag bs rest v h e =
-    let last : Option (Slot × List ℕ) = read_as actual (datum_at tag) bs in
-    let five : Option (Slot × List ℕ) = cond (eqb tag 0x15) (Some (formal kinds.Tuple, bs)) last in
-    let four : Option (Slot × List ℕ) = cond (eqb tag 0x14) (Some (formal kinds.Truth, bs)) five in
-    let three : Option (Slot × List ℕ) = cond (eqb tag 0x13) (Some (formal kinds.Bytes, bs)) four in
-    let two : Option (Slot × List ℕ) = cond (eqb tag 0x12) (Some (formal kinds.Text, bs)) three in
-    let one : Option (Slot × List ℕ) = cond (eqb tag 0x11) (Some (formal kinds.Number, bs)) two in
-    elim (choice tag 0x10 (Some (any, bs)) one (v, rest) e) [
-      | inl k ↦ at_tag IsSlot slot_spelling tag 0x10 bs rest v k.0 (tag_found IsSlot slot_spelling 0x10 any refl tt bs rest v h k.1)
-      | inr e1 ↦ elim (choice tag 0x11 (Some (formal kinds.Number, bs)) two (v, rest) e1) [
-        | inl k ↦ at_tag IsSlot slot_spelling tag 0x11 bs rest v k.0 (tag_found IsSlot slot_spelling 0x11 (formal kinds.Number) refl tt bs rest v h k.1)
-        | inr e2 ↦ elim (choice tag 0x12 (Some (formal kinds.Text, bs)) three (v, rest) e2) [
-          | inl k ↦ at_tag IsSlot slot_spelling tag 0x12 bs rest v k.0 (tag_found IsSlot slot_spelling 0x12 (formal kinds.Text) refl tt bs rest v h k.1)
-          | inr e3 ↦ elim (choice tag 0x13 (Some (formal kinds.Bytes, bs)) four (v, rest) e3) [
-            | inl k ↦ at_tag IsSlot slot_spelling tag 0x13 bs rest v k.0 (tag_found IsSlot slot_spelling 0x13 (formal kinds.Bytes) refl tt bs rest v h k.1)
-            | inr e4 ↦ elim (choice tag 0x14 (Some (formal kinds.Truth, bs)) five (v, rest) e4) [
-              | inl k ↦ at_tag IsSlot slot_spelling tag 0x14 bs rest v k.0 (tag_found IsSlot slot_spelling 0x14 (formal kinds.Truth) refl tt bs rest v h k.1)
-              | inr e5 ↦ elim (choice tag 0x15 (Some (formal kinds.Tuple, bs)) last (v, rest) e5) [
-                | inl k ↦ at_tag IsSlot slot_spelling tag 0x15 bs rest v k.0 (tag_found IsSlot slot_spelling 0x15 (formal kinds.Tuple) refl tt bs rest v h k.1)
-                | inr e6 ↦ actual_found tag bs rest v h e6
-              ]
-            ]
-          ]
-        ]
-      ]
-    ]
+slot_found = found_by_table IsSlot slot_spelling formal_rows (λ tag. read_as actual (datum_at tag)) formal_rows_found actual_found
 
 number_behind : (n : ℤ) (rest : List ℕ) → IsDatum (number n) → datum_at 1 (to_be_bytes w64 (cast_unsigned w64 n) ++ rest) ≡ Some (number n, rest)
 unfolding datum_at

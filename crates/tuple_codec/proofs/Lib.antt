@@ -5,6 +5,8 @@ pub mod Leaves
 pub mod Trees
 pub mod Steps
 pub mod Grammar
+pub mod Lengths
+pub mod SpelledBytes
 pub mod OperationLaws
 pub mod Skipping
 pub mod Putting

@@ -1,12 +1,12 @@
 -- Operations and outcomes at the front of bytes.
-use Rattle.std.proofs.Common.{◌≡◌, inl, inr, ℕ, suc, ◌≤◌, false, ◌&&◌, cond, List, [], ◌∷◌, ◌++◌, length, Option, Some, None, ap, sym, refl, ◌∙◌, arith, append_assoc, append-nil, length-append}
-use Rattle.std.proofs.lemmas.Bool.{eqb-true, leb-true, le-leb, and_parts, and_from, ltb-false, le-ltb}
-use lib.Dec.{eqb, leb, ltb}
+use Rattle.std.proofs.Common.{◌≡◌, ℕ, suc, ◌≤◌, false, ◌&&◌, cond, List, [], ◌∷◌, ◌++◌, length, Some, None, ap, sym, refl, ◌∙◌, arith, append_assoc, append-nil, length-append}
+use Rattle.std.proofs.lemmas.Bool.{leb-true, le-leb, and_parts, and_from, ltb-false, le-ltb}
+use lib.Dec.{leb, ltb}
 use Rattle.tuple_tree.specs.Values.{TupleTree, TemplateTree, IsTuple, IsTemplate}
 use Rattle.tuple_codec.specs.Operations.{Operation, out, rdp, inp, cas, rd_all, IsOperation, AreTuples, Outcome, done, found, absent, swapped, all, full, refused, IsOutcome}
-use Rattle.tuple_codec.specs.Reading.{◌>>=◌, read_as, more, byte_at, flag_at, tuple_at, template_at, cas_at, rd_all_at, operation_behind, operation_at, with_tuple, tuples_at, outcome_behind, outcome_at}
+use Rattle.tuple_codec.specs.Reading.{◌>>=◌, read_as, unknown, more, byte_at, flag_at, tuple_at, template_at, cas_at, rd_all_at, operation_rows, operation_behind, operation_at, with_tuple, tuples_at, outcome_rows, outcome_behind, outcome_at}
 use Rattle.tuple_codec.specs.Spelling.{flag, tuple_spelling, template_spelling, operation_spelling, tuples_spelling, outcome_spelling}
-use Rattle.tuple_codec.proofs.Readers.{Found, FoundBehind, bind_some, parts, guard_holds, guard_fails, choice, moved, byte_found, as_found, as_again, tag_found, behind_found, at_tag, Grows, more_found}
+use Rattle.tuple_codec.proofs.Readers.{Found, FoundBehind, bind_some, parts, guard_holds, guard_fails, moved, byte_found, as_found, as_again, tag_found, behind_found, RowsFound, ◌⨾◌, found_by_table, unknown_found, Grows, more_found}
 use Rattle.tuple_codec.proofs.Numbers.{flag_found, flag_again}
 use Rattle.tuple_codec.proofs.Grammar.{Reads, tuple_reads, template_reads}
 
@@ -46,26 +46,18 @@ unfolding rd_all_at
 rd_all_again n p rest l m h =
     ap (λ b. cond b (read_as (rd_all n) template_at (template_spelling p ++ rest)) None) (and_from _ _ (le-leb _ _ l) (le-leb _ _ m)) ∙ as_again (rd_all n) template_at _ rest p (template_reads.again p rest h)
 
+operation_rows_found : RowsFound IsOperation operation_spelling operation_rows
+operation_rows_found =
+    as_found IsTuple IsOperation tuple_spelling operation_spelling 0x21 out tuple_at tuple_reads.found (λ t p. (refl, p))
+    ⨾ as_found IsTemplate IsOperation template_spelling operation_spelling 0x22 rdp template_at template_reads.found (λ t p. (refl, p))
+    ⨾ as_found IsTemplate IsOperation template_spelling operation_spelling 0x23 inp template_at template_reads.found (λ t p. (refl, p))
+    ⨾ cas_found
+    ⨾ rd_all_found
+    ⨾ tt
+
 behind : (tag : ℕ) → FoundBehind tag IsOperation operation_spelling (operation_behind tag)
 unfolding operation_behind
-behind tag bs rest v h e =
-    let five : Option (Operation × List ℕ) = cond (eqb tag 0x25) (rd_all_at bs) None in
-    let four : Option (Operation × List ℕ) = cond (eqb tag 0x24) (cas_at bs) five in
-    let three : Option (Operation × List ℕ) = cond (eqb tag 0x23) (read_as inp template_at bs) four in
-    let two : Option (Operation × List ℕ) = cond (eqb tag 0x22) (read_as rdp template_at bs) three in
-    elim (choice tag 0x21 (read_as out tuple_at bs) two (v, rest) e) [
-      | inl k ↦ at_tag IsOperation operation_spelling tag 0x21 bs rest v k.0 (as_found IsTuple IsOperation tuple_spelling operation_spelling 0x21 out tuple_at tuple_reads.found (λ t p. (refl, p)) bs rest v h k.1)
-      | inr e2 ↦ elim (choice tag 0x22 (read_as rdp template_at bs) three (v, rest) e2) [
-        | inl k ↦ at_tag IsOperation operation_spelling tag 0x22 bs rest v k.0 (as_found IsTemplate IsOperation template_spelling operation_spelling 0x22 rdp template_at template_reads.found (λ t p. (refl, p)) bs rest v h k.1)
-        | inr e3 ↦ elim (choice tag 0x23 (read_as inp template_at bs) four (v, rest) e3) [
-          | inl k ↦ at_tag IsOperation operation_spelling tag 0x23 bs rest v k.0 (as_found IsTemplate IsOperation template_spelling operation_spelling 0x23 inp template_at template_reads.found (λ t p. (refl, p)) bs rest v h k.1)
-          | inr e4 ↦ elim (choice tag 0x24 (cas_at bs) five (v, rest) e4) [
-            | inl k ↦ at_tag IsOperation operation_spelling tag 0x24 bs rest v k.0 (cas_found bs rest v h k.1)
-            | inr e5 ↦ let k = guard_holds (eqb tag 0x25) (rd_all_at bs) (v, rest) e5 in at_tag IsOperation operation_spelling tag 0x25 bs rest v (eqb-true tag 0x25 k.0) (rd_all_found bs rest v h k.1)
-          ]
-        ]
-      ]
-    ]
+behind = found_by_table IsOperation operation_spelling operation_rows unknown operation_rows_found (unknown_found IsOperation operation_spelling)
 
 operation_found : Found IsOperation operation_spelling operation_at
 unfolding operation_at
@@ -124,34 +116,20 @@ tuples_again : (ts : List TupleTree) (rest : List ℕ) → length ts ≤ 64 → 
 unfolding tuples_at
 tuples_again ts rest p h = let l : ltb 64 (length ts) ≡ false = le-ltb 64 (length ts) p in rw l (more_again ts [] rest h)
 
+outcome_rows_found : RowsFound IsOutcome outcome_spelling outcome_rows
+outcome_rows_found =
+    tag_found IsOutcome outcome_spelling 0x31 done refl tt
+    ⨾ as_found IsTuple IsOutcome tuple_spelling outcome_spelling 0x32 found tuple_at tuple_reads.found (λ t p. (refl, p))
+    ⨾ tag_found IsOutcome outcome_spelling 0x33 absent refl tt
+    ⨾ as_found (λ b. Unit {0}) IsOutcome (λ b. flag b ∷ []) outcome_spelling 0x34 swapped flag_at flag_found (λ b p. (refl, tt))
+    ⨾ as_found IsAnswer IsOutcome answer_spelling outcome_spelling 0x35 all tuples_at tuples_found (λ ts p. (refl, p))
+    ⨾ tag_found IsOutcome outcome_spelling 0x36 full refl tt
+    ⨾ tag_found IsOutcome outcome_spelling 0x37 refused refl tt
+    ⨾ tt
+
 outcome_tag : (tag : ℕ) → FoundBehind tag IsOutcome outcome_spelling (outcome_behind tag)
 unfolding outcome_behind
-outcome_tag tag bs rest v h e =
-    let seven : Option (Outcome × List ℕ) = cond (eqb tag 0x37) (Some (refused, bs)) None in
-    let six : Option (Outcome × List ℕ) = cond (eqb tag 0x36) (Some (full, bs)) seven in
-    let five : Option (Outcome × List ℕ) = cond (eqb tag 0x35) (read_as all tuples_at bs) six in
-    let four : Option (Outcome × List ℕ) = cond (eqb tag 0x34) (read_as swapped flag_at bs) five in
-    let three : Option (Outcome × List ℕ) = cond (eqb tag 0x33) (Some (absent, bs)) four in
-    let two : Option (Outcome × List ℕ) = cond (eqb tag 0x32) (read_as found tuple_at bs) three in
-    elim (choice tag 0x31 (Some (done, bs)) two (v, rest) e) [
-      | inl k ↦ at_tag IsOutcome outcome_spelling tag 0x31 bs rest v k.0 (tag_found IsOutcome outcome_spelling 0x31 done refl tt bs rest v h k.1)
-      | inr e2 ↦ elim (choice tag 0x32 (read_as found tuple_at bs) three (v, rest) e2) [
-        | inl k ↦ at_tag IsOutcome outcome_spelling tag 0x32 bs rest v k.0 (as_found IsTuple IsOutcome tuple_spelling outcome_spelling 0x32 found tuple_at tuple_reads.found (λ t p. (refl, p)) bs rest v h k.1)
-        | inr e3 ↦ elim (choice tag 0x33 (Some (absent, bs)) four (v, rest) e3) [
-          | inl k ↦ at_tag IsOutcome outcome_spelling tag 0x33 bs rest v k.0 (tag_found IsOutcome outcome_spelling 0x33 absent refl tt bs rest v h k.1)
-          | inr e4 ↦ elim (choice tag 0x34 (read_as swapped flag_at bs) five (v, rest) e4) [
-            | inl k ↦ at_tag IsOutcome outcome_spelling tag 0x34 bs rest v k.0 (as_found (λ b. Unit {0}) IsOutcome (λ b. flag b ∷ []) outcome_spelling 0x34 swapped flag_at flag_found (λ b p. (refl, tt)) bs rest v h k.1)
-            | inr e5 ↦ elim (choice tag 0x35 (read_as all tuples_at bs) six (v, rest) e5) [
-              | inl k ↦ at_tag IsOutcome outcome_spelling tag 0x35 bs rest v k.0 (as_found IsAnswer IsOutcome answer_spelling outcome_spelling 0x35 all tuples_at tuples_found (λ ts p. (refl, p)) bs rest v h k.1)
-              | inr e6 ↦ elim (choice tag 0x36 (Some (full, bs)) seven (v, rest) e6) [
-                | inl k ↦ at_tag IsOutcome outcome_spelling tag 0x36 bs rest v k.0 (tag_found IsOutcome outcome_spelling 0x36 full refl tt bs rest v h k.1)
-                | inr e7 ↦ let k = guard_holds (eqb tag 0x37) (Some (refused, bs)) (v, rest) e7 in at_tag IsOutcome outcome_spelling tag 0x37 bs rest v (eqb-true tag 0x37 k.0) (tag_found IsOutcome outcome_spelling 0x37 refused refl tt bs rest v h k.1)
-              ]
-            ]
-          ]
-        ]
-      ]
-    ]
+outcome_tag = found_by_table IsOutcome outcome_spelling outcome_rows unknown outcome_rows_found (unknown_found IsOutcome outcome_spelling)
 
 outcome_found : Found IsOutcome outcome_spelling outcome_at
 unfolding outcome_at

@@ -5,7 +5,7 @@ use Rattle.std.proofs.Math.Seq.{take-append-add, drop-append-add}
 use Rattle.std.proofs.lemmas.Bool.{eqb-true}
 use lib.Dec.{eqb}
 use Rattle.tuple_tree.specs.Values.{AreBytes}
-use Rattle.tuple_codec.specs.Reading.{◌>>=◌, Reader, read_as, more, byte_at, framed}
+use Rattle.tuple_codec.specs.Reading.{◌>>=◌, Reader, read_as, more, byte_at, Row, by_tag, unknown, framed}
 
 -- The front of the bytes is the text, and bytes are left.
 pub record Takes (bs text rest : List ℕ) : Type 0 where
@@ -106,6 +106,29 @@ behind_found IsValue spelling behind reads bs rest v h e =
 -- the tag that was tested
 pub at_tag : {V : Type 0} (IsValue : V → Type 0) (spelling : V → List ℕ) (tag k : ℕ) (bs rest : List ℕ) (v : V) → tag ≡ k → Takes (k ∷ bs) (spelling v) rest × IsValue v → Takes (tag ∷ bs) (spelling v) rest × IsValue v
 at_tag IsValue spelling tag k bs rest v p t = subst (λ n. Takes (n ∷ bs) (spelling v) rest × IsValue v) (sym p) t
+
+-- What each row of a table reads is spelled behind its tag.
+abbrev pub RowsFound : {V : Type 0} → (V → Type 0) → (V → List ℕ) → List (Row V) → Type 0
+RowsFound IsValue spelling [] = Unit {0}
+RowsFound IsValue spelling (row ∷ rows) = FoundBehind row.0 IsValue spelling row.1 × RowsFound IsValue spelling rows
+
+-- the first row, and then the others
+infixr 3 ◌⨾◌
+pub ◌⨾◌ : {A B : Type 0} → A → B → A × B
+row ⨾ rows = (row, rows)
+
+-- The law of tables: what is read by one is spelled, where this holds of each row, and of the reader for other tags.
+pub found_by_table : {V : Type 0} (IsValue : V → Type 0) (spelling : V → List ℕ) (rows : List (Row V)) (other : ℕ → Reader V) → RowsFound IsValue spelling rows
+    → ((tag : ℕ) → FoundBehind tag IsValue spelling (other tag)) → (tag : ℕ) → FoundBehind tag IsValue spelling (by_tag rows other tag)
+found_by_table IsValue spelling [] other found otherwise tag bs rest v h e = otherwise tag bs rest v h e
+found_by_table IsValue spelling (row ∷ rows) other found otherwise tag bs rest v h e =
+    elim (choice tag row.0 (row.1 bs) (by_tag rows other tag bs) (v, rest) e) [
+      | inl k ↦ at_tag IsValue spelling tag row.0 bs rest v k.0 (found.0 bs rest v h k.1)
+      | inr f ↦ found_by_table IsValue spelling rows other found.1 otherwise tag bs rest v h f
+    ]
+
+pub unknown_found : {V : Type 0} (IsValue : V → Type 0) (spelling : V → List ℕ) (tag : ℕ) → FoundBehind tag IsValue spelling (unknown tag)
+unknown_found IsValue spelling tag bs rest v h e = absurd (let g : ⊥ = cc in g)
 
 -- Values that are taken in one after another: what is taken in, its spelling, and how many there are.
 pub record Grows {X S : Type 0} (IsX : X → Type 0) (x_spelling : X → List ℕ) (grow : S → X → S) (IsS : S → Type 0) (s_spelling : S → List ℕ) (count : S → ℕ) : Type 0 where

@@ -26,3 +26,8 @@ abbrev pub DecodesEach : {X V : Type 0} → (X → V) → (List ℕ → V → Ty
 DecodesEach {V = V} view SpellsValue bytes result =
     (v : V) (k : ℕ) → k ≤ length bytes → SpellsValue (take k bytes) v
     → MatchResult result (λ x. (view x.0 ≡ v) × (x.1 ≡ k)) (λ e. e ≡ bad.NoMemory)
+
+-- Each value of this sort is given, unless memory ran out. So there is one at the most, where it didn't.
+abbrev pub GivesEach : {X Y E : Type 0} → E → (X → Y) → (Y → Type 0) → Result X E → Type 0
+GivesEach {Y = Y} no_memory view IsOne result =
+    (y : Y) → IsOne y → MatchResult result (λ x. view x ≡ y) (λ e. e ≡ no_memory)

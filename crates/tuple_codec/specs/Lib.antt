@@ -2,6 +2,7 @@ pub mod Operations
 pub mod Spelling
 pub mod TuplesView
 pub mod OperationView
+pub mod OperationsCode
 pub mod Reading
 pub mod Gives
 pub mod Puts

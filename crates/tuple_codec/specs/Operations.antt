@@ -1,6 +1,6 @@
 -- Operations on a tuple space and their outcomes (Bessani and others, DepSpace, EuroSys 2008, section 3), apart from
 -- where they lie in memory.
-use Rattle.std.specs.Prelude.{ℕ, ◌≤◌, Bool, List, [], ◌∷◌, length}
+use Rattle.std.specs.Prelude.{ℕ, ◌≤◌, Bool, true, false, List, [], ◌∷◌, length}
 use Rattle.tuple_tree.specs.Values.{TupleTree, TemplateTree, IsTuple, IsTemplate}
 
 pub data Operation : Type 0 where
@@ -26,6 +26,14 @@ IsOperation (rdp p) = IsTemplate p
 IsOperation (inp p) = IsTemplate p
 IsOperation (cas p t) = IsTemplate p × IsTuple t
 IsOperation (rd_all n p) = (1 ≤ n) × (n ≤ 64) × IsTemplate p
+
+-- the operations that leave each space as it is
+abbrev pub is_read_only : Operation → Bool
+is_read_only (out t) = false
+is_read_only (rdp p) = true
+is_read_only (inp p) = false
+is_read_only (cas p t) = false
+is_read_only (rd_all n p) = true
 
 abbrev pub AreTuples : List TupleTree → Type 0
 AreTuples [] = Unit {0}

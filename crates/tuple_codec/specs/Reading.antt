@@ -21,6 +21,23 @@ Reader A = List ℕ → Option (A × List ℕ)
 abbrev pub read_as : {A B : Type 0} → (A → B) → Reader A → Reader B
 read_as f at bs = at bs >>= λ x. Some (f x.0, x.1)
 
+-- a value that takes no bytes
+abbrev pub alone : {A : Type 0} → A → Reader A
+alone x bs = Some (x, bs)
+
+-- A tag, and what reads what stands after it.
+abbrev pub Row : Type 0 → Type 0
+Row A = ℕ × Reader A
+
+-- what stands after a tag, by the first row that has the tag, and otherwise by another reader
+abbrev pub by_tag : {A : Type 0} → List (Row A) → (ℕ → Reader A) → ℕ → Reader A
+by_tag [] other tag bs = other tag bs
+by_tag (row ∷ rows) other tag bs = if tag == row.0 then row.1 bs else by_tag rows other tag bs
+
+-- for a tag that no row has
+abbrev pub unknown : {A : Type 0} → ℕ → Reader A
+unknown tag bs = None
+
 -- the bytes after what is read
 abbrev pub rest_of : {A : Type 0} → Option (A × List ℕ) → Option (List ℕ)
 rest_of None = None
@@ -58,25 +75,31 @@ flag_at bs = byte_at bs >>= λ b. flag_of b.0 b.1
 abbrev pub signed_at : Reader Datum
 signed_at = read_as (λ n. number (cast_signed w64 n)) (number_of 8)
 
+abbrev pub datum_rows : List (Row Datum)
+datum_rows =
+    (1, signed_at)
+    ∷ (2, read_as text text_at)
+    ∷ (3, read_as bytes string_at)
+    ∷ (4, read_as truth flag_at)
+    ∷ []
+
 -- the value behind a tag
 unfoldable pub datum_at : ℕ → Reader Datum
-datum_at tag bs =
-    if tag == 1 then signed_at bs
-    else if tag == 2 then read_as text text_at bs
-    else if tag == 3 then read_as bytes string_at bs
-    else if tag == 4 then read_as truth flag_at bs
-    else None
+datum_at tag bs = by_tag datum_rows unknown tag bs
 
--- the field behind a tag
+abbrev pub formal_rows : List (Row Slot)
+formal_rows =
+    (0x10, alone any)
+    ∷ (0x11, alone (formal kinds.Number))
+    ∷ (0x12, alone (formal kinds.Text))
+    ∷ (0x13, alone (formal kinds.Bytes))
+    ∷ (0x14, alone (formal kinds.Truth))
+    ∷ (0x15, alone (formal kinds.Tuple))
+    ∷ []
+
+-- the field behind a tag: where it is no formal's, that of a value
 unfoldable pub slot_at : ℕ → Reader Slot
-slot_at tag bs =
-    if tag == 0x10 then Some (any, bs)
-    else if tag == 0x11 then Some (formal kinds.Number, bs)
-    else if tag == 0x12 then Some (formal kinds.Text, bs)
-    else if tag == 0x13 then Some (formal kinds.Bytes, bs)
-    else if tag == 0x14 then Some (formal kinds.Truth, bs)
-    else if tag == 0x15 then Some (formal kinds.Tuple, bs)
-    else read_as actual (datum_at tag) bs
+slot_at tag bs = by_tag formal_rows (λ tag. read_as actual (datum_at tag)) tag bs
 
 -- the actual field behind a tag
 abbrev pub actual_at : ℕ → Reader (Item Slot)
@@ -124,14 +147,17 @@ cas_at bs = template_at bs >>= λ p. read_as (cas p.0) tuple_at p.1
 unfoldable pub rd_all_at : Reader Operation
 rd_all_at bs = byte_at bs >>= λ n. if nat_le 1 n.0 && nat_le n.0 64 then read_as (rd_all n.0) template_at n.1 else None
 
+abbrev pub operation_rows : List (Row Operation)
+operation_rows =
+    (0x21, read_as out tuple_at)
+    ∷ (0x22, read_as rdp template_at)
+    ∷ (0x23, read_as inp template_at)
+    ∷ (0x24, cas_at)
+    ∷ (0x25, rd_all_at)
+    ∷ []
+
 unfoldable pub operation_behind : ℕ → Reader Operation
-operation_behind tag bs =
-    if tag == 0x21 then read_as out tuple_at bs
-    else if tag == 0x22 then read_as rdp template_at bs
-    else if tag == 0x23 then read_as inp template_at bs
-    else if tag == 0x24 then cas_at bs
-    else if tag == 0x25 then rd_all_at bs
-    else None
+operation_behind tag bs = by_tag operation_rows unknown tag bs
 
 unfoldable pub operation_at : Reader Operation
 operation_at bs = byte_at bs >>= λ x. operation_behind x.0 x.1
@@ -152,16 +178,19 @@ swapped_at = read_as swapped flag_at
 abbrev pub all_at : Reader Outcome
 all_at = read_as all tuples_at
 
+abbrev pub outcome_rows : List (Row Outcome)
+outcome_rows =
+    (0x31, alone done)
+    ∷ (0x32, found_at)
+    ∷ (0x33, alone absent)
+    ∷ (0x34, swapped_at)
+    ∷ (0x35, all_at)
+    ∷ (0x36, alone full)
+    ∷ (0x37, alone refused)
+    ∷ []
+
 unfoldable pub outcome_behind : ℕ → Reader Outcome
-outcome_behind tag bs =
-    if tag == 0x31 then Some (done, bs)
-    else if tag == 0x32 then found_at bs
-    else if tag == 0x33 then Some (absent, bs)
-    else if tag == 0x34 then swapped_at bs
-    else if tag == 0x35 then all_at bs
-    else if tag == 0x36 then Some (full, bs)
-    else if tag == 0x37 then Some (refused, bs)
-    else None
+outcome_behind tag bs = by_tag outcome_rows unknown tag bs
 
 unfoldable pub outcome_at : Reader Outcome
 outcome_at bs = byte_at bs >>= λ x. outcome_behind x.0 x.1

@@ -1,8 +1,9 @@
 //! Operations on a tuple space and their answers (Bessani and others, DepSpace, EuroSys 2008, section 3).
 
-ghost use Rattle.std.specs.Prelude.{◌≡◌, ◌+◌, ◌<◌, ◌≤◌, [], ◌∷◌, ◌++◌, length, map, OnOk, OnErr, IfOk, IfErr, SomeIff, IsSome, IfSome, ◌↔◌};
+ghost use Rattle.std.specs.Prelude.{◌≡◌, ◌+◌, ◌<◌, ◌≤◌, [], ◌∷◌, ◌++◌, length, map, OnOk, OnErr, IfOk, IfErr, IsTrue, SomeIff, IsSome, IfSome, ◌↔◌};
 ghost use Rattle.tuple_tree.specs.Values.{IsTuple, IsTemplate};
 ghost use Rattle.tuple_codec.specs.Operations.{AreTuples};
+ghost use Rattle.tuple_codec.specs.Spelling.{tuple_spelling, template_spelling, tuples_spelling};
 
 use std::alloc::{AllocFailed, Allocator};
 use std::marker::Model;
@@ -96,6 +97,29 @@ impl<A: Allocator> Tuples<A> {
         let tuples = copy_tuples(self.tuples.as_slice(), &alloc)?;
         Ok(Tuples { tuples })
     }
+
+    /// Whether both are equal tuples in the same order, wherever they lie.
+    pub fn same<B: Allocator>(&self, other: &Tuples<B>) -> bool
+        ensures { IsTrue result ↔ (self.now ≡ other.now) }
+    {
+        are_same(self.as_slice(), other.as_slice())
+    }
+}
+
+fn are_same<A: Allocator, B: Allocator>(tuples: &[Tuple<A>], others: &[Tuple<B>]) -> bool
+    ensures { IsTrue result ↔ (tuples.now ≡ others.now) }
+{
+    let mut at = 0;
+    for tuple in tuples {
+        if at == others.len() {
+            return false;
+        }
+        if !tuple.same(&others[at]) {
+            return false;
+        }
+        at += 1;
+    }
+    at == others.len()
 }
 
 fn copy_tuples<A: Allocator, B: Allocator + Clone>(
@@ -128,8 +152,63 @@ pub enum Op<A: Allocator> {
 }
 
 impl<A: Allocator> Op<A> {
-    ghost use Rattle.tuple_codec.specs.Operations.{IsOperation};
+    ghost use Rattle.std.specs.Prelude.{◌≡◌, ◌≤◌, ◌↔◌, IfOk, IsTrue, length};
+    ghost use Rattle.tuple_codec.specs.Operations.{IsOperation, is_read_only};
     ghost use Rattle.tuple_codec.specs.OperationView.{operation_of};
+    ghost use Rattle.tuple_codec.specs.Spelling.{operation_spelling};
+
+    /// An equal operation under another allocator.
+    pub fn copy_in<B: Allocator + Clone>(&self, alloc: B) -> Result<Op<B>, NoMemory>
+        ensures { IfOk result (λ copy. operation_of copy ≡ operation_of self.now) }
+    {
+        match self {
+            Op::Out(tuple) => Ok(Op::Out(tuple.copy_in(alloc)?)),
+            Op::Rdp(template) => Ok(Op::Rdp(template.copy_in(alloc)?)),
+            Op::Inp(template) => Ok(Op::Inp(template.copy_in(alloc)?)),
+            Op::Cas(template, tuple) => {
+                let template = template.copy_in(alloc.clone()?)?;
+                Ok(Op::Cas(template, tuple.copy_in(alloc)?))
+            }
+            Op::RdAll(max, template) => Ok(Op::RdAll(*max, template.copy_in(alloc)?)),
+        }
+    }
+
+    /// Whether the two operations are equal, wherever they lie.
+    pub fn same<B: Allocator>(&self, other: &Op<B>) -> bool
+        ensures { IsTrue result ↔ (operation_of self.now ≡ operation_of other.now) }
+    {
+        match (self, other) {
+            (Op::Out(a), Op::Out(b)) => a.same(b),
+            (Op::Rdp(a), Op::Rdp(b)) => a.same(b),
+            (Op::Inp(a), Op::Inp(b)) => a.same(b),
+            (Op::Cas(a, x), Op::Cas(b, y)) => a.same(b) && x.same(y),
+            (Op::RdAll(max, a), Op::RdAll(most, b)) => max.count == most.count && a.same(b),
+            _ => false,
+        }
+    }
+
+    /// The length of the spelling in bytes, 2 to 2,049. Constant time.
+    pub fn encoded_len(&self) -> usize
+        ensures value { result ≡ length (operation_spelling (operation_of self.now)) }
+        ensures bound { result ≤ 2049 }
+    {
+        match self {
+            Op::Out(tuple) => 1 + tuple_len(tuple),
+            Op::Rdp(template) | Op::Inp(template) => 1 + template_len(template),
+            Op::Cas(template, tuple) => 1 + template_len(template) + tuple_len(tuple),
+            Op::RdAll(_, template) => 2 + template_len(template),
+        }
+    }
+
+    /// Whether the operation only reads.
+    pub fn is_read(&self) -> bool
+        ensures { result ≡ is_read_only (operation_of self.now) }
+    {
+        match self {
+            Op::Rdp(_) | Op::RdAll(_, _) => true,
+            Op::Out(_) | Op::Inp(_) | Op::Cas(_, _) => false,
+        }
+    }
 
     /// Each operation that the program holds is within the limits. Does nothing, and takes no memory: it is called
     /// where a proof needs the fact.
@@ -167,9 +246,10 @@ pub enum Answer<A: Allocator> {
 }
 
 impl<A: Allocator> Answer<A> {
-    ghost use Rattle.std.specs.Prelude.{◌≡◌, IfOk};
+    ghost use Rattle.std.specs.Prelude.{◌≡◌, ◌≤◌, ◌↔◌, IfOk, IsTrue, length};
     ghost use Rattle.tuple_codec.specs.Operations.{IsOutcome};
     ghost use Rattle.tuple_codec.specs.OperationView.{outcome_of};
+    ghost use Rattle.tuple_codec.specs.Spelling.{outcome_spelling};
 
     /// An equal answer under another allocator.
     pub fn copy_in<B: Allocator + Clone>(&self, alloc: B) -> Result<Answer<B>, NoMemory>
@@ -183,6 +263,35 @@ impl<A: Allocator> Answer<A> {
             Answer::All(tuples) => Ok(Answer::All(tuples.copy_in(alloc)?)),
             Answer::Full => Ok(Answer::Full),
             Answer::Refused => Ok(Answer::Refused),
+        }
+    }
+
+    /// Whether the two answers are equal, wherever they lie.
+    pub fn same<B: Allocator>(&self, other: &Answer<B>) -> bool
+        ensures { IsTrue result ↔ (outcome_of self.now ≡ outcome_of other.now) }
+    {
+        match (self, other) {
+            (Answer::Found(a), Answer::Found(b)) => a.same(b),
+            (Answer::Swapped(a), Answer::Swapped(b)) => *a == *b,
+            (Answer::All(a), Answer::All(b)) => a.same(b),
+            (Answer::Done, Answer::Done) => true,
+            (Answer::Absent, Answer::Absent) => true,
+            (Answer::Full, Answer::Full) => true,
+            (Answer::Refused, Answer::Refused) => true,
+            _ => false,
+        }
+    }
+
+    /// The length of the spelling in bytes, 1 to 65,538.
+    pub fn encoded_len(&self) -> usize
+        ensures value { result ≡ length (outcome_spelling (outcome_of self.now)) }
+        ensures bound { result ≤ 65538 }
+    {
+        match self {
+            Answer::Done | Answer::Absent | Answer::Full | Answer::Refused => 1,
+            Answer::Found(tuple) => 1 + tuple_len(tuple),
+            Answer::Swapped(_) => 2,
+            Answer::All(tuples) => 2 + tuples_len(tuples),
         }
     }
 
@@ -218,4 +327,29 @@ fn note_template<A: Allocator>(template: &Template<A>)
     ensures { IsTemplate template.now }
 {
     let _depth = template.depth();
+}
+
+fn tuple_len<A: Allocator>(tuple: &Tuple<A>) -> usize
+    ensures value { result ≡ length (tuple_spelling tuple.now) }
+    ensures bound { result ≤ 1024 }
+{
+    tuple.encoded_len()
+}
+
+fn template_len<A: Allocator>(template: &Template<A>) -> usize
+    ensures value { result ≡ length (template_spelling template.now) }
+    ensures bound { result ≤ 1024 }
+{
+    template.encoded_len()
+}
+
+fn tuples_len<A: Allocator>(tuples: &Tuples<A>) -> usize
+    ensures value { result ≡ length (tuples_spelling tuples.now) }
+    ensures bound { result ≤ 65536 }
+{
+    let mut len = 0;
+    for tuple in tuples.as_slice() {
+        len += tuple_len(tuple);
+    }
+    len
 }

@@ -116,7 +116,7 @@ fn decoded_values_fill_their_room(rt: HostRuntime) -> Result<(), Fail> {
     Ok(())
 }
 
-// Whether a copy of what ordinary memory holds fills the heap. There are no copies of operations.
+// Whether a copy of what ordinary memory holds fills the heap.
 fn copied(alloc: Global, heap: &LocalHeap, sort: Sort, bytes: &[u8]) -> Result<bool, Bad> {
     let is_full = match sort {
         Sort::Tuple => {
@@ -129,7 +129,11 @@ fn copied(alloc: Global, heap: &LocalHeap, sort: Sort, bytes: &[u8]) -> Result<b
             let _copy = template.copy_in(heap)?;
             heap.free() == 0
         }
-        Sort::Op => true,
+        Sort::Op => {
+            let (op, _len) = decode_op(alloc, bytes)?;
+            let _copy = op.copy_in(heap)?;
+            heap.free() == 0
+        }
         Sort::Answer => {
             let (answer, _len) = decode_result(alloc, bytes)?;
             let _copy = answer.copy_in(heap)?;

@@ -124,9 +124,10 @@ fn template<A: Allocator + Clone>(alloc: A, bytes: &[u8]) -> Result<bool, Bad> {
 
 fn op<A: Allocator + Clone>(alloc: A, bytes: &[u8]) -> Result<bool, Bad> {
     let (op, len) = decode_op(alloc.clone()?, bytes)?;
+    let copy = op.copy_in(alloc.clone()?)?;
     let mut out = Vec::from_elem(alloc, 9u8, 1)?;
-    let encoded = encode_op(&op, &mut out);
-    Ok(spelled(encoded, &out, bytes)? && len == bytes.len())
+    let encoded = encode_op(&copy, &mut out);
+    Ok(spelled(encoded, &out, bytes)? && len == bytes.len() && copy.same(&op))
 }
 
 fn answer<A: Allocator + Clone>(alloc: A, bytes: &[u8]) -> Result<bool, Bad> {
@@ -134,5 +135,5 @@ fn answer<A: Allocator + Clone>(alloc: A, bytes: &[u8]) -> Result<bool, Bad> {
     let copy = answer.copy_in(alloc.clone()?)?;
     let mut out = Vec::from_elem(alloc, 9u8, 1)?;
     let encoded = encode_result(&copy, &mut out);
-    Ok(spelled(encoded, &out, bytes)? && len == bytes.len())
+    Ok(spelled(encoded, &out, bytes)? && len == bytes.len() && copy.same(&answer))
 }

@@ -1,5 +1,5 @@
 -- What the functions give that read bytes. Bytes behind what is read are given as they lie.
-use Rattle.std.specs.Prelude.{◌≡◌, ℕ, List, Option, Result, MatchResult}
+use Rattle.std.specs.Prelude.{ℕ, List, Option, Result}
 use Rattle.std.specs.Borrow.{Bor}
 use Rattle.tuple_codec.specs.declared.bad.Bad.{Bad}
 use Rattle.tuple_codec.specs.Gives.{Gives, Yields}
@@ -18,8 +18,3 @@ GivesFront view result read = Gives (λ x. (view x.0, x.1.now)) result read
 -- the bytes behind it alone
 abbrev pub YieldsRest : {Y : Type 0} → Option (Bor (List ℕ)) → Option (Y × List ℕ) → Type 0
 YieldsRest result read = Yields (λ rest. rest.now) result (rest_of read)
-
--- Each value of this sort is given, unless memory ran out. So there is one at the most, where it didn't.
-abbrev pub GivesEach : {X Y E : Type 0} → E → (X → Y) → (Y → Type 0) → Result X E → Type 0
-GivesEach {Y = Y} no_memory view IsOne result =
-    (y : Y) → IsOne y → MatchResult result (λ x. view x ≡ y) (λ e. e ≡ no_memory)

@@ -5,9 +5,9 @@ use Rattle.std.specs.List.{range_with_len}
 use Rattle.std.proofs.lemmas.Bool.{lt-ltb, eqb-false}
 use Rattle.sha2.specs.Sha256.{sha256, digest_bytes}
 use Rattle.sha2.proofs.Facts256.{length-sha256}
-use Rattle.tuple_tree.specs.Values.{AreBytes, TupleTree, TemplateTree, IsTuple, IsTemplate}
+use Rattle.tuple_tree.specs.Values.{AreBytes}
 use Rattle.tuple_codec.specs.Operations.{Operation, out, rdp, inp, cas, rd_all, IsOperation, IsOutcome}
-use Rattle.tuple_codec.specs.Spelling.{tuple_spelling, template_spelling, operation_spelling, outcome_spelling}
+use Rattle.tuple_codec.specs.Spelling.{outcome_spelling}
 use Rattle.tuple_codec.proofs.Readers.{bytes_append}
 use Rattle.space.specs.Applying.{is_read_only}
 use Rattle.terms.specs.declared.order.Mode.TheVariants as modes
@@ -15,7 +15,7 @@ use Rattle.wire.specs.Lists.{Each, ascends}
 use Rattle.wire.specs.Messages.{BodyData as Body, MessageData as Message, request as Request, pre_prepare as PrePrepare, prepare as Prepare, commit as Commit, reply as Reply}
 use Rattle.wire.specs.Spelling.{IsDigest, IsMessage, IsBatch, IsCarried, is_ordered_request, is_signed, piece, pieces_spelling, fields_spelling, body_spelling, frame_limit}
 use Rattle.wire.specs.Words.{requests_of}
-use Rattle.wire.proofs.Lengths.{tuple_spelling_length, template_spelling_length}
+use Rattle.tuple_codec.proofs.Lengths.{operation_short}
 use Rattle.wire.proofs.Telling.{reads_requests}
 use Rattle.authenticator.specs.Membership.{sends}
 use Rattle.authenticator.specs.Sealing.{sealed_for}
@@ -25,27 +25,8 @@ use Rattle.protocol.specs.System.Schedule.{sealed_bytes}
 use Rattle.protocol.specs.Evidence.Examples.{four}
 use Rattle.protocol.specs.System.Trace.{Has}
 use Rattle.protocol.specs.Evidence.FirstOperation.{FirstFrames, AreFirstFrames, first_answer, FirstFramesExist}
-use Rattle.wire.proofs.PartsBytes.{no_bytes, bytes_4}
+use Rattle.tuple_codec.proofs.SpelledBytes.{no_bytes, bytes_4}
 use Rattle.protocol.proofs.Evidence.FirstFramesSealed.{MaySeal, sealed_length, sealed_spells, sealed_is_heard}
-
--- ---- lengths
-
-tuple_short : (t : TupleTree) → IsTuple t → length (tuple_spelling t) ≤ 1024
-tuple_short t h = let n = tuple_spelling_length t in let l = h.length in omega arith
-
-template_short : (p : TemplateTree) → IsTemplate p → length (template_spelling p) ≤ 1024
-template_short p h = let n = template_spelling_length p in let l = h.length in omega arith
-
-operation_short : (op : Operation) → IsOperation op → length (operation_spelling op) ≤ 2049
-operation_short (out t) h = let l = tuple_short t h in omega arith
-operation_short (rdp p) h = let l = template_short p h in omega arith
-operation_short (inp p) h = let l = template_short p h in omega arith
-operation_short (cas p t) h =
-    let l = template_short p h.0 in
-    let m = tuple_short t h.1 in
-    let n = length-append (template_spelling p) (tuple_spelling t) in
-    omega arith
-operation_short (rd_all n p) h = let l = template_short p h.2 in omega arith
 
 -- the answer to what is written into the empty space
 answer_right : (op : Operation) → is_read_only op ≡ false → IsOutcome (first_answer op) × (length (outcome_spelling (first_answer op)) ≤ 2)

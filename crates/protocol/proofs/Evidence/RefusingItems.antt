@@ -1,8 +1,7 @@
 -- What is refused of a list of items, clause by clause.
 use Rattle.std.proofs.Common.{◌≡◌, ℕ, zero, suc, ◌+◌, ◌≤◌, ◌<◌, inl, inr, List, [], ◌∷◌, ◌++◌, length, slice_get, refl, sym, subst, arith, Some}
-use Rattle.tuple_tree.specs.Values.{TupleTree}
 use Rattle.tuple_codec.specs.Operations.{Operation, Outcome}
-use Rattle.space.specs.Applying.{outcome, tuples_after}
+use Rattle.space.specs.Applying.{Contents, no_tuples, outcome, tuples_after}
 use Rattle.terms.specs.declared.order.Mode.TheVariants as modes
 use Rattle.wire.specs.Messages.{request as Request}
 use Rattle.protocol.specs.System.Configuration.{Configuration, members}
@@ -30,12 +29,12 @@ always_at P (x ∷ later) past e h = always_at P later past e h.1
 
 -- ---- legal
 
-answers : (ts : List TupleTree) (before after : List Item) (item : Item) → LegalFrom ts (before ++ item ∷ after) → item.answer ≡ outcome (left_by ts before) item.op
+answers : (ts : Contents) (before after : List Item) (item : Item) → LegalFrom ts (before ++ item ∷ after) → item.answer ≡ outcome (left_by ts before) item.op
 answers ts [] after item h = h.0
 answers ts (x ∷ before) after item h = answers (tuples_after ts x.op) before after item h.1
 
 pub answers_as_one_space : AnswersAsOneSpace
-answers_as_one_space before after item h = answers [] before after item h
+answers_as_one_space before after item h = answers no_tuples before after item h
 
 -- ---- covers
 

@@ -4,7 +4,7 @@ use Rattle.std.specs.Prelude.{if◌then◌else◌, Some, None}
 use Rattle.tuple_tree.specs.Values.{TupleTree, TemplateTree}
 use Rattle.tuple_codec.specs.Operations.{Operation, out, rdp, done, found, absent}
 use Rattle.template_match.specs.Tests.{is_match}
-use Rattle.space.specs.Applying.{outcome, tuples_after, found_or_absent}
+use Rattle.space.specs.Applying.{Contents, no_tuples, outcome, tuples_after, found_or_absent}
 use Rattle.protocol.specs.System.Configuration.{Configuration, is_correct_client}
 use Rattle.protocol.specs.System.Trace.{Entry, Once, Has}
 use Rattle.protocol.specs.System.Trace.Entry.{Invoke, Accepted}
@@ -39,20 +39,24 @@ module _ (c : Configuration) (writer reader : ℕ) (t : TupleTree) (p : Template
     abbrev Misses : Item → Type 0
     Misses x = (x.client ≡ 256 + reader) × (x.answer ≡ absent)
 
-    finds : outcome (t ∷ []) (rdp p) ≡ found t
+    -- what the write leaves
+    abbrev written : Contents
+    written = tuples_after no_tuples (out t)
+
+    finds : outcome written (rdp p) ≡ found t
     finds = ap (λ (b : Bool). found_or_absent (if b then Some t else None)) matches
 
     -- behind the write alone, reads find it
-    after_write : (items : List Item) → ((x : Item) → Has (λ y. y ≡ x) items → Late x) → LegalFrom (t ∷ []) items → Has Misses items → ⊥
+    after_write : (items : List Item) → ((x : Item) → Has (λ y. y ≡ x) items → Late x) → LegalFrom written items → Has Misses items → ⊥
     after_write [] each legal has = has
     after_write (x ∷ items) each legal (inl misses) =
         let is : x.op ≡ rdp p = (each x (inl refl)).0.2 in
-        let bad : absent ≡ found t = sym misses.1 ∙ legal.0 ∙ ap (outcome (t ∷ [])) is ∙ finds in absurd cc
+        let bad : absent ≡ found t = sym misses.1 ∙ legal.0 ∙ ap (outcome written) is ∙ finds in absurd cc
     after_write (x ∷ items) each legal (inr has) =
         let is : x.op ≡ rdp p = (each x (inl refl)).0.2 in
-        after_write items (λ y h. each y (inr h)) (subst (λ (o : Operation). LegalFrom (tuples_after (t ∷ []) o) items) is legal.1) has
+        after_write items (λ y h. each y (inr h)) (subst (λ (o : Operation). LegalFrom (tuples_after written o) items) is legal.1) has
 
-    misses_none : (items : List Item) → ((x : Item) → Has (λ y. y ≡ x) items → Early x ⊎ Late x) → NoneTwice items → NeverFall items → LegalFrom [] items
+    misses_none : (items : List Item) → ((x : Item) → Has (λ y. y ≡ x) items → Early x ⊎ Late x) → NoneTwice items → NeverFall items → LegalFrom no_tuples items
         → Has (λ x. x.client ≡ 256 + writer) items → Has Misses items → ⊥
     misses_none [] each once order legal writes misses = misses
     misses_none (x ∷ items) each once order legal writes misses = go (each x (inl refl)) writes misses
@@ -76,7 +80,7 @@ module _ (c : Configuration) (writer reader : ℕ) (t : TupleTree) (p : Template
                 by (inl e) = e.1
                 by (inr l) = absurd (not_both y h.0 l.0.0)
         go (inl e) writes (inl m) = not_both x e.0.0 m.0
-        go (inl e) writes (inr m) = after_write items reads (subst (λ (o : Operation). LegalFrom (tuples_after [] o) items) e.0.2 legal.1) m
+        go (inl e) writes (inr m) = after_write items reads (subst (λ (o : Operation). LegalFrom (tuples_after no_tuples o) items) e.0.2 legal.1) m
           where
             again : (y : Item) → IsWrite y → (ys : List Item) → Has (λ z. z ≡ y) ys → Has (λ z. (z.client ≡ x.client) × (z.timestamp ≡ x.timestamp)) ys
             again y is ys h = has_weaker (λ z. z ≡ y) (λ z. (z.client ≡ x.client) × (z.timestamp ≡ x.timestamp)) (λ z same. (ap (λ (u : Item). u.client) same ∙ is.0 ∙ sym e.0.0, ap (λ (u : Item). u.timestamp) same ∙ is.1 ∙ sym e.0.1)) ys h
@@ -136,11 +140,11 @@ module _ (c : Configuration) (writer reader : ℕ) (t : TupleTree) (p : Template
   IsAccepted x = (x.client ≡ 256 + reader) × (x.timestamp ≡ 1) × (x.answer ≡ found t) × Once (Invokes (256 + reader) 1 x.op) early
 
   -- of what is read from the empty space nothing is found, and no write is before it
-  finds_none : (items : List Item) → ((x : Item) → Has (λ y. y ≡ x) items → Writes x ⊎ Reads x) → NeverFall items → LegalFrom [] items → Has Finds items → ⊥
+  finds_none : (items : List Item) → ((x : Item) → Has (λ y. y ≡ x) items → Writes x ⊎ Reads x) → NeverFall items → LegalFrom no_tuples items → Has Finds items → ⊥
   finds_none [] each order legal has = has
   finds_none (x ∷ items) each order legal has =
       go (each x (inl refl)) has
-      (λ r f. finds_none items (λ y h. each y (inr h)) (behind x items order) (subst (λ (o : Operation). LegalFrom (tuples_after [] o) items) r.0.2 legal.1) f)
+      (λ r f. finds_none items (λ y h. each y (inr h)) (behind x items order) (subst (λ (o : Operation). LegalFrom (tuples_after no_tuples o) items) r.0.2 legal.1) f)
     where
       go : Writes x ⊎ Reads x → Finds x ⊎ Has Finds items → (Reads x → Has Finds items → ⊥) → ⊥
       go (inl w) (inl f) below = not_both x w.0.0 f.0
@@ -148,7 +152,7 @@ module _ (c : Configuration) (writer reader : ℕ) (t : TupleTree) (p : Template
           let high = w.1 in
           let low = lowest Finds 1 x items (λ y h. h.2) order f in
           absurd (omega arith)
-      go (inr r) (inl f) below = let bad : found t ≡ absent = sym f.1 ∙ legal.0 ∙ ap (outcome []) r.0.2 in absurd cc
+      go (inr r) (inl f) below = let bad : found t ≡ absent = sym f.1 ∙ legal.0 ∙ ap (outcome no_tuples) r.0.2 in absurd cc
       go (inr r) (inr f) below = below r f
 
   early_has_none : (items : List Item) → IsLinear c items early → ⊥

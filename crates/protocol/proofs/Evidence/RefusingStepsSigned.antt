@@ -22,7 +22,7 @@ use Rattle.protocol.specs.System.Configuration.{Configuration, replicas, is_repl
 use Rattle.protocol.specs.System.Schedule.{meant_for, signed_bytes}
 use Rattle.protocol.specs.Replica.RightReplica.{others}
 use Rattle.protocol.specs.Evidence.RefusedSteps.{SignedFramesAreHeard}
-use Rattle.wire.proofs.PartsBytes.{no_bytes, bytes_more}
+use Rattle.tuple_codec.proofs.SpelledBytes.{no_bytes, bytes_more}
 use Rattle.wire.proofs.Saying.{reads_frames, reads_said}
 use Rattle.protocol.proofs.Evidence.FirstFrames.{is_digest}
 

@@ -1,6 +1,7 @@
 -- The requests that run in the batches are legal, one after another.
 use Rattle.std.proofs.Common.{◌≡◌, ℕ, zero, suc, ◌≤◌, Bool, true, false, cond, List, [], ◌∷◌, ◌++◌, length, map, fold, refl, sym, ap, ◌∙◌, subst, arith, Option, Some, None}
 use Rattle.std.specs.Option.{option_map_or}
+use Rattle.space.specs.Applying.{Contents}
 use Rattle.protocol.specs.System.Configuration.{Configuration}
 use Rattle.wire.specs.Words.{requests_of}
 use Rattle.protocol.specs.System.Trace.{Entry}
@@ -11,7 +12,6 @@ use Rattle.std.specs.Bool.{then_some}
 use Rattle.quorum.specs.Votes.{or_else}
 use Rattle.protocol.proofs.Points.Levels.{level_below}
 use Rattle.space.proofs.Keeping.{tuples_of-state_after}
-use Rattle.tuple_tree.specs.Values.{TupleTree}
 use Rattle.protocol.specs.Replica.State.{ran_call}
 use Rattle.protocol.proofs.Words.Leaving.{executed_number}
 
@@ -30,7 +30,7 @@ legal_ran c position k st (frame ∷ frames) rest h = go (call_of c frame) refl 
     step : (call : Call) → (b : Bool)
         → LegalFrom (tuples (cond b (ran_call st k call) st)) (map (item_of position k) (ran_in c k (cond b (ran_call st k call) st) frames) ++ rest)
         → LegalFrom (tuples st) (map (item_of position k) (cond b (record { call = call; kept = kept_by st k call } ∷ []) [] ++ ran_in c k (cond b (ran_call st k call) st) frames) ++ rest)
-    step call true below = (refl, subst (λ (t : List TupleTree). LegalFrom t (map (item_of position k) (ran_in c k (ran_call st k call) frames) ++ rest)) (tuples_of-state_after st.space call.op) below)
+    step call true below = (refl, subst (λ (t : Contents). LegalFrom t (map (item_of position k) (ran_in c k (ran_call st k call) frames) ++ rest)) (tuples_of-state_after st.space call.op) below)
     step call false below = below
 
     go : (o : Option Call) → call_of c frame ≡ o
@@ -85,7 +85,7 @@ legal_ordered c trace st k (suc more) is = go (first_position c trace k) refl (l
         let rest : List Item = map (λ (x : Placing). x.item) (ordered_points c trace (execute c st (batch_of trace k)) (suc k) more) in
         let at : LegalFrom (tuples (fold (run_frame c k) st (requests_of (batch_of trace k)))) (map (λ (x : Placing). x.item) (ordered_points c trace (execute c st (batch_of trace k)) (suc k) more)) =
         subst (λ (n : ℕ). LegalFrom (tuples (fold (run_frame c n) st (requests_of (batch_of trace k)))) (map (λ (x : Placing). x.item) (ordered_points c trace (execute c st (batch_of trace k)) (suc k) more))) (sym is)
-        (subst (λ (t : List TupleTree). LegalFrom t (map (λ (x : Placing). x.item) (ordered_points c trace (execute c st (batch_of trace k)) (suc k) more))) (executed_tuples c st (batch_of trace k)) below) in
+        (subst (λ (t : Contents). LegalFrom t (map (λ (x : Placing). x.item) (ordered_points c trace (execute c st (batch_of trace k)) (suc k) more))) (executed_tuples c st (batch_of trace k)) below) in
         let ran = legal_ran c position k st (requests_of (batch_of trace k)) (map (λ (x : Placing). x.item) (ordered_points c trace (execute c st (batch_of trace k)) (suc k) more)) at in
         let shape : map (λ (x : Placing). x.item) (map (ordered_point position k) (ran_in c k st (requests_of (batch_of trace k))) ++ ordered_points c trace (execute c st (batch_of trace k)) (suc k) more)
         ≡ map (item_of position k) (ran_in c k st (requests_of (batch_of trace k))) ++ map (λ (x : Placing). x.item) (ordered_points c trace (execute c st (batch_of trace k)) (suc k) more) =

@@ -6,7 +6,7 @@ use Rattle.std.proofs.lemmas.Bool.{le-leb}
 use Rattle.protocol.specs.System.Configuration.{Configuration}
 use Rattle.wire.specs.Words.{requests_of}
 use Rattle.protocol.specs.System.Trace.{Entry, Has}
-use Rattle.space.specs.Applying.{tuples_after}
+use Rattle.space.specs.Applying.{Contents, tuples_after}
 use Rattle.protocol.specs.Replica.State.{State, Call, Ran, tuples, runs, run_call, call_of, run_frame, execute, ran_by, ran_in, kept_by}
 use Rattle.protocol.specs.Space.Linear.{Placing, ordered_point, ordered_points, first_position, batch_of, is_level}
 use Rattle.std.specs.Bool.{then_some}
@@ -17,7 +17,6 @@ use Rattle.protocol.proofs.Points.Legality.{executed_tuples}
 use Rattle.protocol.proofs.Points.Running.{state_by}
 use Rattle.protocol.proofs.Points.Sorting.{AllOf, all_weaker, all_append, Ascends, IsOrdered, after_item, tuples_at, early}
 use Rattle.space.proofs.Keeping.{tuples_of-state_after}
-use Rattle.tuple_tree.specs.Values.{TupleTree}
 use Rattle.protocol.specs.Replica.State.{ran_call}
 use Rattle.protocol.proofs.Words.Leaving.{executed_number}
 
@@ -139,7 +138,7 @@ points_ascend c trace st k (suc more) = go (first_position c trace k) (points_as
 
 -- ---- the tuples at a number
 
-tuples_append : (r : ℕ) (t : List TupleTree) (xs ys : List Placing) → tuples_at r t (xs ++ ys) ≡ tuples_at r (tuples_at r t xs) ys
+tuples_append : (r : ℕ) (t : Contents) (xs ys : List Placing) → tuples_at r t (xs ++ ys) ≡ tuples_at r (tuples_at r t xs) ys
 tuples_append r t [] ys = refl
 tuples_append r t (x ∷ xs) ys = tuples_append r (cond (nat_le x.number r) (after_item t x.item) t) xs ys
 
@@ -155,7 +154,7 @@ ran_tuples c position k r st (frame ∷ frames) l = go (call_of c frame) refl (r
         let e1 : cond (nat_le k r) (after_item (tuples st) (ordered_point position k (record { call = call; kept = kept_by st k call })).item) (tuples st) ≡ tuples_after (tuples st) call.op =
         ap (λ (b : Bool). cond b (tuples_after (tuples st) call.op) (tuples st)) (le-leb k r l) in
         let e2 : tuples_after (tuples st) call.op ≡ tuples (ran_call st k call) = sym (tuples_of-state_after st.space call.op) in
-        ap (λ (t : List TupleTree). tuples_at r t (map (ordered_point position k) (ran_in c k (ran_call st k call) frames))) (e1 ∙ e2) ∙ below
+        ap (λ (t : Contents). tuples_at r t (map (ordered_point position k) (ran_in c k (ran_call st k call) frames))) (e1 ∙ e2) ∙ below
 
     go : (o : Option Call) → call_of c frame ≡ o
         → tuples_at r (tuples (option_map_or (run_call st k) o st)) (map (ordered_point position k) (ran_in c k (option_map_or (run_call st k) o st) frames)) ≡ tuples (fold (run_frame c k) (option_map_or (run_call st k) o st) frames)
@@ -186,5 +185,5 @@ tuples_by c trace st k (suc more) (suc n) r is at le places =
     ran_tuples c p.0 k r st (requests_of (batch_of trace k)) there ∙ ap (λ (x : ℕ). tuples (fold (run_frame c x) st (requests_of (batch_of trace k)))) is ∙ sym (executed_tuples c st (batch_of trace k)) in
     ap (λ (o : Option ℕ). tuples_at r (tuples st) (option_map_or (λ position. map (ordered_point position k) (ran_in c k st (requests_of (batch_of trace k)))) o [] ++ ordered_points c trace (execute c st (batch_of trace k)) (suc k) more)) p.1
     ∙ tuples_append r (tuples st) (map (ordered_point p.0 k) (ran_in c k st (requests_of (batch_of trace k)))) (ordered_points c trace (execute c st (batch_of trace k)) (suc k) more)
-    ∙ ap (λ (t : List TupleTree). tuples_at r t (ordered_points c trace (execute c st (batch_of trace k)) (suc k) more)) first
+    ∙ ap (λ (t : Contents). tuples_at r t (ordered_points c trace (execute c st (batch_of trace k)) (suc k) more)) first
     ∙ rest

@@ -10,7 +10,7 @@ use Rattle.terms.specs.declared.order.Mode.TheVariants as modes
 use Rattle.protocol.specs.System.Frames.{same_mode}
 use Rattle.protocol.specs.System.Trace.{Entry, history_of, Once, Has}
 use Rattle.protocol.specs.System.Trace.Entry.{Invoke, Got, Tick, Executed, Installed, Sent, Accepted}
-use Rattle.space.specs.Applying.{is_read_only, outcome}
+use Rattle.space.specs.Applying.{Contents, no_tuples, is_read_only, outcome}
 use Rattle.protocol.specs.Replica.State.{opening, tuples}
 use Rattle.protocol.specs.Client.RightClient.{OpenCall, open_call, Vote, newest_vote}
 use Rattle.protocol.specs.Laws.Histories.{ExecutesBatch}
@@ -29,7 +29,6 @@ use Rattle.protocol.proofs.Points.Keeping.{IsRanPoint, ran_point, Differ, AllDif
 use Rattle.protocol.proofs.Points.Invoking.{once_within, opened_invoked, invoked_in_trace, one_invocation}
 use Rattle.protocol.proofs.Points.Accepting.{Accepting, accepting, accepted_once, accepted_level, accepted_place, read_before, embedded, replied, read_replied, ordered_replied, voted, Voted, Answers, IsSpaceAnswer}
 use Rattle.protocol.specs.Space.Linear.{last_executed}
-use Rattle.tuple_tree.specs.Values.{TupleTree}
 use Rattle.tuple_codec.specs.Operations.{Outcome, Operation}
 use Rattle.protocol.specs.Space.Linear.{invoke_past}
 use Rattle.protocol.proofs.Words.Elements.{has_right}
@@ -268,7 +267,7 @@ pub record ReadFacts (c : Configuration) (trace : List Entry) (y : Placing) : Ty
   pub stands : Stands (first_position c trace) y
   pub client : is_correct_client c y.item.client ≡ true
   pub invoked : Once (λ past e. Invokes y.item.client y.item.timestamp y.item.op past e × (length past ≤ y.item.position)) trace
-  pub right : IsReadAt (tuples_at y.number [] (all_ordered c trace)) y.item
+  pub right : IsReadAt (tuples_at y.number no_tuples (all_ordered c trace)) y.item
 
 module _ (c : Configuration) (trace : List Entry) (run : Run c trace) (later past : List Entry) (e : Entry) (is : trace ≡ later ++ e ∷ past) (p t : ℕ) (a : Outcome) (x : Accepting c past p t a) where
   place : (q : ℕ) × (first_position c trace x.vote.number ≡ Some q) × (q < length past)
@@ -322,7 +321,7 @@ module _ (c : Configuration) (trace : List Entry) (run : Run c trace) (later pas
       embedded (Invokes p t x.call.op) p trace later past e is (subst (λ (i : ℕ). Once (Invokes p i x.call.op) (history_of p past)) x.time (opened_invoked c p x.call (history_of p past) (x.run.runs.clients p x.client) x.opened)) in
       let same : reply.op ≡ x.call.op = one_invocation c p t reply.op x.call.op (history_of p trace) (run.runs.clients p x.client) reply.invoked own in
       let number : x.vote.number ≡ opening.number + x.vote.number = omega arith in
-      let state : tuples_at x.vote.number [] (all_ordered c trace) ≡ tuples (state_by c trace opening 1 x.vote.number) =
+      let state : tuples_at x.vote.number no_tuples (all_ordered c trace) ≡ tuples (state_by c trace opening 1 x.vote.number) =
       tuples_by c trace opening 1 (last_executed trace) x.vote.number x.vote.number refl number at_most (λ j l m. let u = place_lower c trace j x.vote.number q.0 m q.1 in (u.0, u.1)) in
       record {
         stands = record {
@@ -347,7 +346,7 @@ module _ (c : Configuration) (trace : List Entry) (run : Run c trace) (later pas
             (once_append (λ past' e'. Invokes p x.call.timestamp x.call.op past' e' × (length past' ≤ (read_of c trace p x.call a past x.vote).item.position)) later (e ∷ past) (inr near));
         right = record {
           is_read = subst (λ (o : Operation). is_read_only o ≡ true) same reply.is_read;
-          answer = sym x.answer ∙ reply.answer_is ∙ ap (λ (ts : List TupleTree). outcome ts reply.op) (sym state) ∙ ap (outcome (tuples_at x.vote.number [] (all_ordered c trace))) same;
+          answer = sym x.answer ∙ reply.answer_is ∙ ap (λ (ts : Contents). outcome ts reply.op) (sym state) ∙ ap (outcome (tuples_at x.vote.number no_tuples (all_ordered c trace))) same;
         };
       }
 

@@ -2,9 +2,8 @@
 use Rattle.std.proofs.Common.{◌≡◌, ℕ, ◌≤◌, ◌<◌, ◌⊎◌, inl, inr, Bool, true, false, cond, List, [], ◌∷◌, ◌++◌, map, filter, refl, sym, ap, ◌∙◌, subst, arith, ◌&&◌, ◌||◌, Option, Some, eqb-true}
 use Rattle.std.specs.Prelude.{◌==◌, nat_lt, nat_le, ⊤}
 use Rattle.std.proofs.lemmas.Bool.{ltb-true, ltb-false, leb-true, leb-false, eqb-false, le-leb, cases_order}
-use Rattle.space.specs.Applying.{is_read_only, outcome, tuples_after}
-use Rattle.tuple_codec.specs.Operations.{Operation, out, rdp, inp, cas, rd_all}
-use Rattle.tuple_tree.specs.Values.{TupleTree}
+use Rattle.space.specs.Applying.{Contents, is_read_only, outcome, tuples_after}
+use Rattle.space.proofs.Keeping.{read_same}
 use Rattle.terms.specs.declared.order.Mode.{Mode}
 use Rattle.terms.specs.declared.order.Mode.TheVariants as modes
 use Rattle.protocol.specs.System.Frames.{same_mode}
@@ -253,36 +252,29 @@ each_behind (o ∷ os) rs x a = ap (insert_point o) (each_behind os rs x a.1) �
 
 -- ---- legal
 
-abbrev pub after_item : List TupleTree → Item → List TupleTree
+abbrev pub after_item : Contents → Item → Contents
 after_item tuples item = tuples_after tuples item.op
 
 -- the tuples behind the points of the numbers up to the given one
-abbrev pub tuples_at : ℕ → List TupleTree → List Placing → List TupleTree
+abbrev pub tuples_at : ℕ → Contents → List Placing → Contents
 tuples_at r tuples [] = tuples
 tuples_at r tuples (o ∷ os) = tuples_at r (cond (nat_le o.number r) (after_item tuples o.item) tuples) os
 
-pub record IsReadAt (tuples : List TupleTree) (item : Item) : Type 0 where
+pub record IsReadAt (tuples : Contents) (item : Item) : Type 0 where
   pub is_read : is_read_only item.op ≡ true
   pub answer : item.answer ≡ outcome tuples item.op
-
-pub read_same : (tuples : List TupleTree) (op : Operation) → is_read_only op ≡ true → tuples_after tuples op ≡ tuples
-read_same tuples (out t) h = absurd cc
-read_same tuples (rdp p) h = refl
-read_same tuples (inp p) h = absurd cc
-read_same tuples (cas p t) h = absurd cc
-read_same tuples (rd_all n p) h = refl
 
 abbrev items : List Placing → List Item
 items xs = map (λ (x : Placing). x.item) xs
 
-read_legal : (tuples : List TupleTree) (item : Item) (rest : List Item) → IsReadAt tuples item → LegalFrom tuples rest → LegalFrom tuples (item ∷ rest)
+read_legal : (tuples : Contents) (item : Item) (rest : List Item) → IsReadAt tuples item → LegalFrom tuples rest → LegalFrom tuples (item ∷ rest)
 read_legal tuples item rest r h = (r.answer, subst (λ t. LegalFrom t rest) (sym (read_same tuples item.op r.is_read)) h)
 
-reads_legal : (tuples : List TupleTree) (rs : List Placing) → AllOf (λ x. IsReadAt tuples x.item) rs → LegalFrom tuples (items rs)
+reads_legal : (tuples : Contents) (rs : List Placing) → AllOf (λ x. IsReadAt tuples x.item) rs → LegalFrom tuples (items rs)
 reads_legal tuples [] a = tt
 reads_legal tuples (x ∷ rs) a = read_legal tuples x.item (items rs) a.0 (reads_legal tuples rs a.1)
 
-pub early : (r : ℕ) (tuples : List TupleTree) (os : List Placing) → AllOf (λ o. r < o.number) os → tuples_at r tuples os ≡ tuples
+pub early : (r : ℕ) (tuples : Contents) (os : List Placing) → AllOf (λ o. r < o.number) os → tuples_at r tuples os ≡ tuples
 early r tuples [] a = refl
 early r tuples (o ∷ os) a = go (nat_le o.number r) refl (early r tuples os a.1)
   where
@@ -290,18 +282,18 @@ early r tuples (o ∷ os) a = go (nat_le o.number r) refl (early r tuples os a.1
     go true e below = let l : o.number ≤ r = leb-true o.number r e in let m = a.0 in absurd (omega arith)
     go false e below = below
 
-abbrev pub IsRight : List TupleTree → List Placing → Placing → Type 0
+abbrev pub IsRight : Contents → List Placing → Placing → Type 0
 IsRight tuples os x = IsReadAt (tuples_at x.number tuples os) x.item
 
 abbrev pub Changes : Placing → Type 0
-Changes o = (tuples : List TupleTree) → after_item tuples o.item ≡ tuples
+Changes o = (tuples : Contents) → after_item tuples o.item ≡ tuples
 
 module _ (place : ℕ → Option ℕ) (keep : Placing → Bool) where
   abbrev Below : List Placing → Type 0
-  Below os = (rs : List Placing) (tuples : List TupleTree) → AllOf (Stands place) rs → Ascends (λ x. x.number) rs → LegalFrom tuples (items os) → AllOf (IsRight tuples os) rs
+  Below os = (rs : List Placing) (tuples : Contents) → AllOf (Stands place) rs → Ascends (λ x. x.number) rs → LegalFrom tuples (items os) → AllOf (IsRight tuples os) rs
       → LegalFrom tuples (items (insert_each (filter keep os) rs))
 
-  kept_step : (o : Placing) (os rs : List Placing) (tuples : List TupleTree) → IsOrdered place o → AllOf (IsOrdered place) os → AllOf (λ y. o.number ≤ y.number) os
+  kept_step : (o : Placing) (os rs : List Placing) (tuples : Contents) → IsOrdered place o → AllOf (IsOrdered place) os → AllOf (λ y. o.number ≤ y.number) os
       → AllOf (Stands place) rs → Ascends (λ x. x.number) rs → LegalFrom tuples (items (o ∷ os)) → AllOf (IsRight tuples (o ∷ os)) rs → Below os
       → LegalFrom tuples (items (insert_point o (insert_each (filter keep os) rs)))
   kept_step o os [] tuples io ios low stands asc legal right below =
@@ -371,7 +363,7 @@ module _ (place : ℕ → Option ℕ) (keep : Placing → Bool) where
           either x same false h = h
 
   -- the points in order are legal
-  pub sorted_legal : (os rs : List Placing) (tuples : List TupleTree) → AllOf (IsOrdered place) os → Ascends (λ x. x.number) os → AllOf (λ o. keep o ≡ false → Changes o) os
+  pub sorted_legal : (os rs : List Placing) (tuples : Contents) → AllOf (IsOrdered place) os → Ascends (λ x. x.number) os → AllOf (λ o. keep o ≡ false → Changes o) os
       → AllOf (Stands place) rs → LegalFrom tuples (items os) → AllOf (IsRight tuples os) rs → LegalFrom tuples (items (sorted (filter keep os ++ rs)))
   sorted_legal os rs tuples io asc drops stands legal right =
       subst (λ (t : List Placing). LegalFrom tuples (items t)) (sym (sorted_append (filter keep os) rs))

@@ -9,7 +9,8 @@ use Rattle.terms.specs.declared.order.Mode.{Mode}
 use Rattle.terms.specs.declared.order.Mode.TheVariants as modes
 use Rattle.protocol.specs.System.Trace.{Entry, party_of, history_of, Once, Always, Unforged, Has}
 use Rattle.protocol.specs.System.Trace.Entry.{Invoke, Got, Tick, Executed, Installed, Sent, Accepted}
-use Rattle.space.specs.Applying.{tuples_after}
+use Rattle.space.specs.Applying.{no_tuples, tuples_after}
+use Rattle.space.proofs.Keeping.{read_same}
 use Rattle.protocol.specs.Replica.State.{opening}
 use Rattle.protocol.specs.Client.RightClient.{OpenCall, Vote}
 use Rattle.protocol.specs.System.Texts.{NoCollision}
@@ -18,7 +19,7 @@ use Rattle.protocol.specs.Laws.Histories.{LinearOfSafe, IsSafeTrace}
 use Rattle.protocol.proofs.Words.Temporal.{once_weaker, once_in_history}
 use Rattle.protocol.proofs.Points.Legality.{legal_ordered}
 use Rattle.protocol.proofs.Points.Running.{Run, run_earlier}
-use Rattle.protocol.proofs.Points.Sorting.{AllOf, all_weaker, all_both, all_append, all_filter, all_has, sorted_all, Changes, IsOrdered, Stands, IsRight, read_same, sorted_legal, sorted_never_fall}
+use Rattle.protocol.proofs.Points.Sorting.{AllOf, all_weaker, all_both, all_append, all_filter, all_has, sorted_all, Changes, IsOrdered, Stands, IsRight, sorted_legal, sorted_never_fall}
 use Rattle.protocol.proofs.Points.Ran.{Source, ordered_sources, source_ordered, points_ascend, points_from, has_map_all}
 use Rattle.protocol.proofs.Points.Keeping.{IsRanPoint, Differ, AllDiffer, differ_filter, differ_append, differ_sorted, differ_same, none_twice, points_differ, opening_full}
 use Rattle.protocol.proofs.Points.Invoking.{run_part, once_split, one_invocation, ran_asked, ran_invoked}
@@ -194,12 +195,12 @@ module _ (c : Configuration) (trace : List Entry) (run : Run c trace) where
           double false e = absurd cc
 
   legal : Legal (map (λ (x : Placing). x.item) (sorted all_points))
-  legal = sorted_legal (first_position c trace) keep (all_ordered c trace) reads []
+  legal = sorted_legal (first_position c trace) keep (all_ordered c trace) reads no_tuples
       (all_weaker (Source c trace) (IsOrdered (first_position c trace)) (source_ordered c trace) (all_ordered c trace) (ordered_sources c trace opening 1 (last_executed trace)))
       (points_ascend c trace opening 1 (last_executed trace)) dropped
       (all_weaker (ReadFacts c trace) (Stands (first_position c trace)) (λ y f. f.stands) reads facts)
       (legal_ordered c trace opening 1 (last_executed trace) refl)
-      (all_weaker (ReadFacts c trace) (IsRight [] (all_ordered c trace)) (λ y f. f.right) reads facts)
+      (all_weaker (ReadFacts c trace) (IsRight no_tuples (all_ordered c trace)) (λ y f. f.right) reads facts)
 
   differ : AllDiffer all_points
   differ = differ_append kept reads (differ_filter keep (all_ordered c trace) (points_differ c run.setting trace opening 1 (last_executed trace) refl opening_full).1) (reads_differ c trace trace run)

@@ -1,15 +1,12 @@
 -- Batches leave states.
-use Rattle.std.proofs.Common.{◌≡◌, ℕ, zero, suc, ◌+◌, ◌-◌, ◌*◌, ◌^◌, ◌≤◌, ◌<◌, ◌⊎◌, inl, inr, Bool, true, false, cond, List, [], ◌∷◌, length, map, take, refl, sym, ap, ◌∙◌, subst, arith, ◌&&◌, Option, Some, None}
-use Rattle.std.specs.Prelude.{fold, filter, find, replicate, is_some, All}
+use Rattle.std.proofs.Common.{◌≡◌, ℕ, zero, suc, ◌+◌, ◌-◌, ◌*◌, ◌^◌, ◌≤◌, ◌<◌, ◌⊎◌, inl, inr, Bool, true, false, cond, List, [], ◌∷◌, length, refl, sym, ap, ◌∙◌, subst, arith, ◌&&◌, Option, Some, None}
+use Rattle.std.specs.Prelude.{fold, replicate}
 use Rattle.std.specs.Option.{option_map_or}
 use Rattle.std.proofs.lemmas.Bool.{ltb-true}
-use Rattle.std.proofs.lemmas.List.Elements.{All-head, All-tail}
 use Rattle.std.proofs.lemmas.List.{length-set}
-use Rattle.tuple_tree.specs.Values.{TupleTree, IsTuple}
-use Rattle.tuple_codec.specs.Operations.{Operation, out, rdp, inp, cas, rd_all, done, full, swapped, AreTuples, IsOperation, IsOutcome}
-use Rattle.template_match.specs.Tests.{is_match}
-use Rattle.space.specs.Applying.{outcome, first_match, found_or_absent, has_room}
-use Rattle.space.specs.Births.{Entry, IsState as IsSpace}
+use Rattle.tuple_codec.specs.Operations.{IsOperation}
+use Rattle.space.specs.Births.{IsState as IsSpace}
+use Rattle.space.proofs.Answering.{answers_are_valid}
 use Rattle.space.proofs.Keeping.{IsState-state_after, IsState-empty}
 use Rattle.space.proofs.Batches.{next_after}
 use Rattle.protocol.specs.System.Configuration.{Configuration, is_client}
@@ -19,57 +16,10 @@ use Rattle.terms.specs.declared.order.Mode.TheVariants as modes
 use Rattle.protocol.specs.System.Frames.{same_mode}
 use Rattle.reply_cache.specs.Replies.{Kept, Replies, no_replies, last_of, with_reply, IsKept, IsReply, AreReplies}
 use Rattle.reply_cache.proofs.Slots.{AreReplies-none}
-use Rattle.protocol.specs.Replica.State.{State, IsState, Call, opening, tuples, kept_of, last_time, call_in, call_of, runs, kept_by, ran_call, run_call, run_frame, execute, after_batches}
+use Rattle.protocol.specs.Replica.State.{State, IsState, Call, opening, kept_of, last_time, call_in, call_of, runs, kept_by, ran_call, run_call, run_frame, execute, after_batches}
 use Rattle.protocol.specs.Laws.Histories.{BatchesLeaveStates}
 use Rattle.protocol.proofs.Words.Options.{and_then_some, some_injective}
 use Rattle.protocol.proofs.Words.Bodies.{said_fits, FitsMessage, requests_few}
-
--- ---- outcomes are within the limits
-
-found_is : (test : TupleTree → Bool) (ts : List TupleTree) → AreTuples ts → IsOutcome (found_or_absent (find test ts))
-found_is test [] h = tt
-found_is test (t ∷ ts) h = go (test t) (found_is test ts h.1)
-  where
-    go : (b : Bool) → IsOutcome (found_or_absent (find test ts)) → IsOutcome (found_or_absent (cond b (Some t) (find test ts)))
-    go true k = h.0
-    go false k = k
-
-filtered : (test : TupleTree → Bool) (ts : List TupleTree) → AreTuples ts → AreTuples (filter test ts)
-filtered test [] h = tt
-filtered test (t ∷ ts) h = go (test t) (filtered test ts h.1)
-  where
-    go : (b : Bool) → AreTuples (filter test ts) → AreTuples (cond b (t ∷ filter test ts) (filter test ts))
-    go true k = (h.0, k)
-    go false k = k
-
-taken_few : (n : ℕ) (ts : List TupleTree) → AreTuples ts → (length (take n ts) ≤ n) × AreTuples (take n ts)
-taken_few zero ts h = (omega arith, tt)
-taken_few (suc n) [] h = (omega arith, tt)
-taken_few (suc n) (t ∷ ts) h = let r = taken_few n ts h.1 in let l = r.0 in (omega arith, (h.0, r.1))
-
-pub outcome_is : (ts : List TupleTree) (o : Operation) → AreTuples ts → IsOperation o → IsOutcome (outcome ts o)
-outcome_is ts (out t) h v = go (has_room ts)
-  where
-    go : (b : Bool) → IsOutcome (cond b done full)
-    go true = tt
-    go false = tt
-outcome_is ts (rdp p) h v = found_is (is_match p) ts h
-outcome_is ts (inp p) h v = found_is (is_match p) ts h
-outcome_is ts (cas p t) h v = go (is_some (first_match p ts)) (has_room ts)
-  where
-    go : (a b : Bool) → IsOutcome (cond a (swapped false) (cond b (swapped true) full))
-    go true b = tt
-    go false true = tt
-    go false false = tt
-outcome_is ts (rd_all n p) h v =
-    let r = taken_few n (filter (is_match p) ts) (filtered (is_match p) ts h) in
-    let l = r.0 in
-    let most = v.1 in
-    (omega arith, r.1)
-
-tuples_are : (es : List Entry) → All (λ e. IsTuple e.1) es → AreTuples (map (λ e. e.1) es)
-tuples_are [] h = tt
-tuples_are (e ∷ es) h = (All-head (λ (x : Entry). IsTuple x.1) e es h, tuples_are es (All-tail (λ (x : Entry). IsTuple x.1) e es h))
 
 -- ---- kept replies
 
@@ -134,7 +84,7 @@ call_leaves number small st most call fits r = go (runs st call) refl
     kept : runs st call ≡ true → IsKept (kept_by st number call)
     kept e =
         let l = ltb-true (last_time st call.client) call.timestamp e in
-        record { first = omega arith; timestamp_fits = fits.0; number_fits = small; answer = outcome_is (tuples st) call.op (tuples_are st.space.entries r.space.tuples) fits.1 }
+        record { first = omega arith; timestamp_fits = fits.0; number_fits = small; answer = answers_are_valid st.space call.op r.space fits.1 }
 
     go : (b : Bool) → runs st call ≡ b → Running (cond b (ran_call st number call) st) (most + 256)
     go true e =

@@ -3,7 +3,7 @@ use Rattle.std.specs.Prelude.{◌≡◌, ◌≢◌, ℕ, ◌+◌, ◌≤◌, ◌
 use Rattle.tuple_tree.specs.Values.{TupleTree, TemplateTree}
 use Rattle.tuple_codec.specs.Operations.{out, rdp, Outcome, done, found, absent}
 use Rattle.template_match.specs.Tests.{is_match}
-use Rattle.space.specs.Applying.{outcome, tuples_after}
+use Rattle.space.specs.Applying.{Contents, no_tuples, outcome, tuples_after}
 use Rattle.terms.specs.declared.order.Mode.TheVariants as modes
 use Rattle.wire.specs.Messages.{request as Request}
 use Rattle.protocol.specs.System.Configuration.{Configuration, is_correct_replica, is_correct_client, members}
@@ -15,7 +15,7 @@ use Rattle.protocol.specs.Space.Linear.{Item, Legal, Covers, Placed, IsLinear, L
 -- ---- legal
 
 -- the tuples that these items leave, one after another
-abbrev pub left_by : List TupleTree → List Item → List TupleTree
+abbrev pub left_by : Contents → List Item → Contents
 left_by ts [] = ts
 left_by ts (item ∷ items) = left_by (tuples_after ts item.op) items
 
@@ -23,7 +23,7 @@ left_by ts (item ∷ items) = left_by (tuples_after ts item.op) items
 abbrev pub AnswersAsOneSpace : Type 0
 AnswersAsOneSpace =
     (before after : List Item) (item : Item) → Legal (before ++ item ∷ after)
-    → item.answer ≡ outcome (left_by [] before) item.op
+    → item.answer ≡ outcome (left_by no_tuples before) item.op
 
 -- ---- covers
 

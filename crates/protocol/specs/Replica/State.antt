@@ -3,9 +3,8 @@
 use Rattle.std.specs.Prelude.{ℕ, suc, ◌-◌, Bool, ◌&&◌, List, [], ◌∷◌, ◌++◌, map, nat_lt, ◌==◌, if◌then◌else◌, Option, Some, None, option_and_then, fold}
 use Rattle.std.specs.List.{range_with_len}
 use Rattle.std.specs.Option.{option_map_or}
-use Rattle.tuple_tree.specs.Values.{TupleTree}
 use Rattle.tuple_codec.specs.Operations.{Operation}
-use Rattle.space.specs.Applying.{outcome}
+use Rattle.space.specs.Applying.{Contents, outcome}
 use Rattle.space.specs.Births.{SpaceState, empty_state, tuples_of, state_after}
 use Rattle.space.specs.Pages.{IsStateAt, header_text, page_text as tuple_page}
 use Rattle.partition_tree.specs.Digests.{root_of as root_of_pages}
@@ -28,7 +27,7 @@ abbrev pub opening : State
 opening = record { space = empty_state; number = 0; replies = no_replies }
 
 -- the tuples in order of age
-abbrev pub tuples : State → List TupleTree
+abbrev pub tuples : State → Contents
 tuples st = tuples_of st.space
 
 -- the reply that is kept for a client

@@ -2,9 +2,8 @@
 use Rattle.std.specs.Prelude.{◌≡◌, ℕ, zero, suc, ◌+◌, ◌≤◌, Bool, true, false, ◌&&◌, ◌||◌, not, List, [], ◌∷◌, ◌++◌, length, map, max, filter, nat_lt, nat_le, ◌==◌, if◌then◌else◌, Option, Some, None, option_and_then, ⊤}
 use Rattle.std.specs.Bool.{then_some}
 use Rattle.std.specs.Option.{option_map_or}
-use Rattle.tuple_tree.specs.Values.{TupleTree}
 use Rattle.tuple_codec.specs.Operations.{Operation, Outcome}
-use Rattle.space.specs.Applying.{outcome, tuples_after}
+use Rattle.space.specs.Applying.{Contents, no_tuples, outcome, tuples_after}
 use Rattle.quorum.specs.Quorum.{count_below}
 use Rattle.protocol.specs.Replica.Selection.{null_batch}
 use Rattle.protocol.specs.System.Configuration.{Configuration, replicas, is_correct_replica, is_correct_client, members}
@@ -31,13 +30,13 @@ pub record Item : Type 0 where
 -- ---- legal
 
 -- each answer is that of one space, which begins with these tuples
-abbrev pub LegalFrom : List TupleTree → List Item → Type 0
+abbrev pub LegalFrom : Contents → List Item → Type 0
 LegalFrom ts [] = ⊤
 LegalFrom ts (item ∷ items) = (item.answer ≡ outcome ts item.op) × LegalFrom (tuples_after ts item.op) items
 
 -- Legal: a sequential history of an empty space (Herlihy and Wing, Linearizability, TOPLAS 1990, section 2).
 abbrev pub Legal : List Item → Type 0
-Legal items = LegalFrom [] items
+Legal items = LegalFrom no_tuples items
 
 -- ---- covers
 

@@ -6,11 +6,11 @@ use Rattle.client_cert.proofs.asking.seal_request.Goals as goal
 pub seal_for_all-sealed-requires-clause-may : goal.seal_for_all-sealed-requires-clause-may
 seal_for_all-sealed-requires-clause-may c receivers all =
     may_seal (256 + c.args.client.number) c.args.timestamp.0 c.args.faults c.args.mode (operation_of c.args.op) receivers
-    (omega (arith, c.args.client.in_range)) (omega (arith, c.note_timestamp-number.ensures)) c.note_op.ensures c.requires.few all
+    (omega (arith, c.args.client.in_range)) (omega (arith, c.note_timestamp-number.ensures)) c.note_valid.ensures c.requires.few all
 
 pub seal_for_all-sealed-requires-clause-short : goal.seal_for_all-sealed-requires-clause-short
 seal_for_all-sealed-requires-clause-short c =
-    request_is_short (256 + c.args.client.number) c.args.timestamp.0 c.args.mode (operation_of c.args.op) c.note_op.ensures
+    request_is_short (256 + c.args.client.number) c.args.timestamp.0 c.args.mode (operation_of c.args.op) c.note_valid.ensures
 
 pub returns-clause-sealed : goal.returns-clause-sealed
 returns-clause-sealed c =

@@ -3,7 +3,7 @@ use Rattle.std.specs.Prelude.{OnOk}
 use Rattle.wire.specs.Headers.{IsFrame}
 use Rattle.wire.specs.Lists.{Each}
 use Rattle.points.specs.Running.{so_far, RunsAll}
-use Rattle.points.proofs.Calling.{requests_are_frames}
+use Rattle.execution.proofs.Calling.{requests_are_frames}
 use Rattle.points.proofs.Going.{texts}
 use Rattle.points.proofs.running.run_batch.Goals as goal
 

@@ -24,5 +24,5 @@ returns-clause-takes c =
     let correct : is_correct_client c.args.config.now (256 + c.args.client.number) ≡ true =
     ap (is_correct_client c.args.config.now) (sym c.number.ensures) ∙ sym c.is_correct_client.ensures.value ∙ c.if-not-is_correct_client.false in
     leads_call c.args.config.now c.args.stage.now c.call.new.self c.args.client.number (operation_of c.args.op.now)
-    (call_may c.args.config.now c.args.stage.now c.args.client.number (operation_of c.args.op.now) c.requires.seated correct (λ d. sym c.if-is_open.false ∙ c.is_open.ensures.value d) c.note_op.ensures)
+    (call_may c.args.config.now c.args.stage.now c.args.client.number (operation_of c.args.op.now) c.requires.seated correct (λ d. sym c.if-is_open.false ∙ c.is_open.ensures.value d) c.note_valid.ensures)
     (subst (λ o. CallComes c.args.config.now c.args.client.number o c.args.stage.now c.call.new.self) c.in_ok-copy.ensures c.in_ok-call.ensures.comes)

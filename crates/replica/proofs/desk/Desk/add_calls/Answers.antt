@@ -9,7 +9,7 @@ use Rattle.protocol.specs.Replica.State.{call_of}
 use Rattle.replica.specs.State.{DeskData}
 use Rattle.replica.specs.declared.waiting.BegunCall.{BegunCall}
 use Rattle.replica.proofs.EnteringViews.{CallsLeft, frames_in, call_passed, call_added, calls_end}
-use Rattle.replica.proofs.desk.Desk.add_calls.Goals.{in-Some+in_ok-push+in-Out-1, in-Some+in_ok-push+in-Rdp-1, in-Some+in_ok-push+in-Inp-1, in-Some+in_ok-push+in-Cas-1, in-Some+in_ok-push+in-RdAll-1, in_default}
+use Rattle.replica.proofs.desk.Desk.add_calls.Goals.{in-Some+in_ok-push, in_default}
 use Rattle.replica.proofs.desk.Desk.add_calls.Goals as goal
 
 pub loop-frame-init : goal.loop-frame-init
@@ -32,16 +32,9 @@ loop-frame-preserved c =
     let old = c.args.calls.now.items in
     let new = c.loop-frame.calls.items in
     elim c.match-branch-2.branch [
-      | in-Some+in_ok-push+in-Out-1 w ↦ call_added clients frames old new c.match-branch-2.calls.items i _ (record { client = w.in-Some.call.client; timestamp = w.in-Some.call.timestamp }) (call_data w.in-Some.call) c.loop-frame-test.true
-          (λ k e. found k e ∙ ap (option_map call_data) w.in-Some.is) refl refl (ap (λ v. v.items) w.calls-is ∙ w.in_ok-push.ensures.items) c.loop-frame.invariant
-      | in-Some+in_ok-push+in-Rdp-1 w ↦ call_added clients frames old new c.match-branch-2.calls.items i _ (record { client = w.in-Some.call.client; timestamp = w.in-Some.call.timestamp }) (call_data w.in-Some.call) c.loop-frame-test.true
-          (λ k e. found k e ∙ ap (option_map call_data) w.in-Some.is) refl refl (ap (λ v. v.items) w.calls-is ∙ w.in_ok-push.ensures.items) c.loop-frame.invariant
-      | in-Some+in_ok-push+in-Inp-1 w ↦ call_added clients frames old new c.match-branch-2.calls.items i _ (record { client = w.in-Some.call.client; timestamp = w.in-Some.call.timestamp }) (call_data w.in-Some.call) c.loop-frame-test.true
-          (λ k e. found k e ∙ ap (option_map call_data) w.in-Some.is) refl refl (ap (λ v. v.items) w.calls-is ∙ w.in_ok-push.ensures.items) c.loop-frame.invariant
-      | in-Some+in_ok-push+in-Cas-1 w ↦ call_added clients frames old new c.match-branch-2.calls.items i _ (record { client = w.in-Some.call.client; timestamp = w.in-Some.call.timestamp }) (call_data w.in-Some.call) c.loop-frame-test.true
-          (λ k e. found k e ∙ ap (option_map call_data) w.in-Some.is) refl refl (ap (λ v. v.items) w.calls-is ∙ w.in_ok-push.ensures.items) c.loop-frame.invariant
-      | in-Some+in_ok-push+in-RdAll-1 w ↦ call_added clients frames old new c.match-branch-2.calls.items i _ (record { client = w.in-Some.call.client; timestamp = w.in-Some.call.timestamp }) (call_data w.in-Some.call) c.loop-frame-test.true
-          (λ k e. found k e ∙ ap (option_map call_data) w.in-Some.is) refl refl (ap (λ v. v.items) w.calls-is ∙ w.in_ok-push.ensures.items) c.loop-frame.invariant
+      | in-Some+in_ok-push w ↦ call_added clients frames old new c.match-branch-2.calls.items i _ w.begun_call.result (call_data w.in-Some.call) c.loop-frame-test.true
+          (λ k e. found k e ∙ ap (option_map call_data) w.in-Some.is) (ap (λ (b : BegunCall). b.client.number) (sym w.begun_call.ensures)) (ap (λ (b : BegunCall). b.timestamp.0) (sym w.begun_call.ensures))
+          (ap (λ v. v.items) w.calls-is ∙ w.in_ok-push.ensures.items) c.loop-frame.invariant
       | in_default w ↦ subst (λ (calls : List BegunCall). CallsLeft clients frames old calls (i + 1)) (sym (ap (λ v. v.items) w.calls-is))
           (call_passed clients frames old new i _ c.loop-frame-test.true (λ k e. found k e ∙ ap (option_map call_data) w.in_default.is) c.loop-frame.invariant)
     ]

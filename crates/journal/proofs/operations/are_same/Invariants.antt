@@ -1,7 +1,0 @@
-use Rattle.std.proofs.Common.{◌≡◌, ◌↔◌, ◌≤◌, length, drop}
-use Rattle.journal.proofs.operations.are_same.Given as goal
-
--- what is left of both decides it
-abbrev pub invariant-loop-tuple : goal.invariant-loop-tuple
-invariant-loop-tuple l =
-    (l.at ≤ length l.others) × ((drop l.tuple-index l.tuples ≡ drop l.at l.others) ↔ (l.tuples ≡ l.others))
