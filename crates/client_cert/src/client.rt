@@ -1,6 +1,6 @@
 //! A client over frames.
 
-ghost use Rattle.std.specs.Prelude.{◌≡◌, ◌↔◌, ◌≤◌, ◌<◌, ◌^◌, ◌⊎◌, suc, true, false, []};
+ghost use Rattle.std.specs.Prelude.{◌≡◌, ◌↔◌, ◌≤◌, ◌<◌, ◌^◌, ◌⊎◌, suc, true, false, [], ◌∷◌};
 ghost use Rattle.std.specs.Prelude.{IfOk, OnErr, is_some};
 ghost use Rattle.tuple_codec.specs.OperationView.{operation_of};
 ghost use Rattle.protocol.specs.System.Configuration.{Configuration, members};
@@ -136,13 +136,15 @@ impl Client {
         ensures number { self.new.number ≡ self.old.number }
     {
         if self.call.is_some() {
+            // By a call, for the same reason as in `put`.
+            drop(op);
             return Err(InvokeFault::Busy);
         }
         op.note_valid();
         let mode = first_mode(&op);
         if self.calls >= MAX_CALLS {
             self.calls += 1;
-            self.call = Some(Call::new(alloc, op));
+            put(&mut self.call, Some(Call::new(alloc, op)));
             self.stopped = true;
             return Err(InvokeFault::Stopped);
         }
@@ -163,7 +165,7 @@ impl Client {
         ensures { self.new ≡ called (suc self.old.calls) (operation_of op) self.old }
     {
         self.calls += 1;
-        self.call = Some(Call::new(alloc, op));
+        put(&mut self.call, Some(Call::new(alloc, op)));
     }
 
     /// What the client gives for its next input.
@@ -215,10 +217,9 @@ impl Client {
         ensures is_open { OnErr result (is_some self.old.call ≡ true) }
         ensures number { self.new.number ≡ self.old.number }
     {
-        match self.call.take() {
+        match &mut self.call {
             None => Ok(Vec::new(alloc)),
-            Some(taken) => {
-                let mut call = taken;
+            Some(call) => {
                 let turned = weigh(
                     &mut self.ring,
                     &self.publics,
@@ -226,35 +227,17 @@ impl Client {
                     self.id,
                     self.faults,
                     Timestamp(self.calls),
-                    &mut call,
+                    call,
                     bytes,
-                );
+                )?;
                 match turned {
-                    Err(stop) => {
-                        self.call = Some(call);
-                        Err(stop)
-                    }
-                    Ok(Turned::Nothing) => {
-                        self.call = Some(call);
-                        Ok(Vec::new(alloc))
-                    }
-                    Ok(Turned::Ask) => {
-                        self.call = Some(call);
-                        let asked = self.ask(alloc, Mode::Ordered)?;
-                        Ok(asked)
-                    }
-                    Ok(Turned::Accept(answer)) => {
-                        let mut outputs = Vec::new(alloc);
-                        match give(
-                            &mut outputs,
-                            Output::Accepted(Timestamp(self.calls), answer),
-                        ) {
-                            Ok(()) => Ok(outputs),
-                            Err(stop) => {
-                                self.call = Some(call);
-                                Err(stop)
-                            }
-                        }
+                    Turned::Nothing => Ok(Vec::new(alloc)),
+                    Turned::Ask => self.ask(alloc, Mode::Ordered),
+                    Turned::Accept(answer) => {
+                        let output = Output::Accepted(Timestamp(self.calls), answer);
+                        let outputs = sole(alloc, output)?;
+                        put(&mut self.call, None);
+                        Ok(outputs)
                     }
                 }
             }
@@ -298,11 +281,26 @@ impl Client {
             mode,
             call,
         );
-        self.call = Some(call);
+        put(&mut self.call, Some(call));
         let text = sealed?;
         let receivers = all_replicas(alloc, 3 * self.faults + 1)?;
-        let mut outputs = Vec::new(alloc);
-        give(&mut outputs, Output::Send(receivers, text))?;
-        Ok(outputs)
+        sole(alloc, Output::Send(receivers, text))
     }
+}
+
+// Puts this in the place of the open call. What stood there is dropped here alone, since a function has steps for each
+// kind of operation wherever it drops a call.
+fn put(place: &mut Option<Call>, call: Option<Call>)
+    ensures { place.new ≡ call }
+{
+    *place = call;
+}
+
+// This output alone.
+fn sole(alloc: Global, output: Output) -> Result<Outputs, Stop>
+    ensures { IfOk result (λ outs. outs.items ≡ output ∷ []) }
+{
+    let mut outputs = Vec::new(alloc);
+    give(&mut outputs, output)?;
+    Ok(outputs)
 }

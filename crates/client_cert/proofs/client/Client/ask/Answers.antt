@@ -1,22 +1,23 @@
 use Rattle.std.proofs.Common.{refl, sym, ap, ◌∙◌, Some}
+use Rattle.std.proofs.lemmas.Result.{IfOk-weaker}
 use Rattle.client_cert.proofs.Sealed.{request_goes}
 use Rattle.client_cert.proofs.client.Client.ask.Goals as goal
 
 pub returns-clause-asked : goal.returns-clause-asked
 returns-clause-asked c =
     let asks = rw c.in_ok-text.was at c.request-call.ensures.sealed in
-    rw (← c.self.view_is) (record {
+    IfOk-weaker c.sole.result _ _ (λ outs is. rw (← c.self.view_is) (record {
       text = c.in_ok-text.text.items;
       call = c.in-Some.call;
-      given = rw (c.in_ok-give.ensures.given, c.new-outputs.ensures.items) refl;
+      given = rw is refl;
       was = sym c.take.ensures.value ∙ c.in-Some.is;
       asks = asks;
       becomes = record {
         number = refl;
         membership = c.request-call.ensures.same;
         calls = refl;
-        call_is = ap Some c.request-call.ensures.went;
+        call_is = c.put.ensures ∙ ap Some c.request-call.ensures.went;
       };
-      meant = rw (c.in_ok-give.ensures.given, c.new-outputs.ensures.items)
+      meant = rw is
           (λ k known. (request_goes c.self.inside.ring _ _ c.self.inside.faults _ _ _ c.in_ok-text.text.items c.self.invariant.0 c.in_ok-receivers.ensures asks k known, tt));
-    })
+    })) c.sole.ensures
