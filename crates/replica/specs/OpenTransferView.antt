@@ -3,4 +3,4 @@ use Rattle.replica.specs.declared.open_transfer.OpenTransfer.TheInside.{Inside}
 use Rattle.replica.specs.State.{OpenData}
 
 abbrev pub open_data : Inside → OpenData
-open_data o = record { transfer = o.transfer; rests_at = o.rests_at.0 }
+open_data o = record { transfer = o.transfer.value; rests_at = o.rests_at.0 }

@@ -7,7 +7,7 @@ use Rattle.replica.specs.State.{OrdererData}
 -- how many keys are spent stands beside the endpoint
 abbrev pub orderer_data : Inside → OrdererData
 orderer_data o = record {
-  endpoint = record o.endpoint { used = 0 };
+  endpoint = record o.endpoint.value { used = 0 };
   log = o.log;
   used = o.used.0;
   begun = o.begun.0;
@@ -16,5 +16,5 @@ orderer_data o = record {
   claims = o.claims;
   received = o.received;
   last_checkpoint = option_map checkpoint_entry_data o.last_checkpoint;
-  spent = o.endpoint.used;
+  spent = o.endpoint.value.used;
 }

@@ -19,7 +19,8 @@ use wire::{CheckpointEntry, Meta, Page};
 /// before: so executions themselves write and hash nothing.
 #[derive(Drop)]
 pub(crate) struct OpenTransfer {
-    transfer: Transfer,
+    // It is some kilobytes, with digests of the parts, so it lies where it is when the desk moves.
+    transfer: Box<Transfer>,
     rests_at: Number,
 }
 
@@ -51,8 +52,9 @@ impl OpenTransfer {
     {
         let rests_at = executed.number();
         let pages = executed.pages()?;
+        let transfer = Transfer::start(alloc, entry.number, entry.digest, pages)?;
         Ok(OpenTransfer {
-            transfer: Transfer::start(alloc, entry.number, entry.digest, pages)?,
+            transfer: Box::new(alloc, transfer)?,
             rests_at,
         })
     }

@@ -22,7 +22,8 @@ use wire::{Body, CheckpointEntry, Commit, PrePrepare, Prepare};
 /// What orders.
 #[derive(Drop)]
 pub(crate) struct Orderer {
-    pub(crate) endpoint: Endpoint,
+    /// It is some kilobytes, with the signer's tree of keys, so it lies where it is when a part moves.
+    pub(crate) endpoint: Box<Endpoint>,
     pub(crate) log: Log,
     /// The greatest number that has a batch by the new view with which the view began, or by the replica as its
     /// primary, 0 before the first.
@@ -72,8 +73,9 @@ impl Orderer {
         };
         let received = Received::new(alloc, publics.share()?, sizes)?;
         let signer = Signer::from_seed(&signing_seed(seed, Party::Replica(me)));
+        let endpoint = Endpoint::new(me, faults, ring, publics, signer);
         Ok(Orderer {
-            endpoint: Endpoint::new(me, faults, ring, publics, signer),
+            endpoint: Box::new(alloc, endpoint)?,
             log: Log::new(alloc, me, faults, 2 * u64::from(config.period()))?,
             used: Number(0),
             begun: Number(0),

@@ -1,4 +1,4 @@
-use Rattle.std.proofs.Common.{◌≡◌, ◌≢◌, IsTrue, List, ℕ, Result, Ok, Err, Some, IfErr, OnErr, OnOk, sym, ap, ◌∙◌}
+use Rattle.std.proofs.Common.{◌≡◌, ◌≢◌, IsTrue, List, ℕ, Result, Ok, Err, Some, IfErr, OnErr, OnOk, sym, ap, ◌∙◌, subst}
 use Rattle.std.specs.Prelude.{is_ok}
 use Rattle.terms.specs.declared.state.Level.{Level}
 use Rattle.terms.specs.declared.state.Level.TheVariants as levels
@@ -43,6 +43,11 @@ takes o t meta digests (Err faults.WrongDigest) may same known asked fits ok fau
 takes o t meta digests (Err faults.NoMemory) may same known asked fits ok fault err = absurd fault
 
 pub returns : goal.returns
-returns c = rw (← c.self.view_is, c.is_ok.ensures.value)
-    (takes (open_data c.self.inside) c.on_meta.new.self c.args.meta.now c.in-Ok.digests.now c.on_meta.result c.requires (c.in-Ok.ensures.1.same ∙ c.as_slice.ensures.value) c.keeps.ensures.wanted
-    c.on_meta.ensures.asked c.on_meta.ensures.fits c.on_meta.ensures.ok c.on_meta.ensures.fault c.on_meta.ensures.err)
+returns c =
+    let o : OpenData = open_data c.self.inside in
+    let lent = c.deref_mut.ensures.value in
+    rw (← c.self.view_is, c.is_ok.ensures.value)
+    (subst (λ (t : TransferData). TakesDigestsOf (record o { transfer = t }) c.args.meta.now (record o { transfer = c.on_meta.new.self }) (is_ok c.on_meta.result)) lent
+    (takes (record o { transfer = c.deref_mut.result.now }) c.on_meta.new.self c.args.meta.now c.in-Ok.digests.now c.on_meta.result c.requires (c.in-Ok.ensures.1.same ∙ c.as_slice.ensures.value)
+    (subst IsKnown (c.deref.ensures ∙ sym lent) c.keeps.ensures.wanted)
+    c.on_meta.ensures.asked c.on_meta.ensures.fits c.on_meta.ensures.ok c.on_meta.ensures.fault c.on_meta.ensures.err))

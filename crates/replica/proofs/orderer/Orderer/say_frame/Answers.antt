@@ -1,9 +1,11 @@
+use Rattle.std.proofs.Common.{subst}
+use Rattle.posting.specs.Endpoint.{EndpointState, SendsToOthers}
 use Rattle.replica.proofs.Results.{on_ok}
 use Rattle.replica.proofs.orderer.Orderer.say_frame.Goals as goal
 
 pub returns : goal.returns
 returns c =
-    let k = c.in_ok-post_frame.ensures.sends in
+    let k = subst (λ (e : EndpointState). SendsToOthers e c.args.frame.now c.in_ok-post_frame.field-0) c.deref.ensures c.in_ok-post_frame.ensures.sends in
     rw (← c.self.view_is)
     (on_ok c.give.result (λ e. record {
       output = c.in_ok-post_frame.field-0;
