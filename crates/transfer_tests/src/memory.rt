@@ -1,6 +1,6 @@
 //! Memory refused, as by `tools/growths`: nothing was changed, and the second try is granted.
 
-use crate::trees::{ROOT, completes, place, start, takes, tree_of};
+use crate::trees::{ROOT, begun, completes, place, takes, tree_of};
 use partition_tree::Tree;
 use state_transfer::{PartFault, Transfer};
 use std::alloc::Global;
@@ -30,17 +30,20 @@ fn rests(transfer: &mut Transfer, own: &Tree) -> Result<bool, NoMemory> {
     Ok(is_as_before)
 }
 
-fn goes_on(alloc: Global) -> Result<bool, NoMemory> {
-    let tree = tree_of(alloc, &[(5, b"text"), (40, b"text")])?;
-    let own = tree_of(alloc, &[(40, b"text"), (80, b"")])?;
-    let mut transfer = start(alloc, 2, &tree, &[(80, b"own")])?;
+fn completes_with(transfer: &mut Transfer, tree: &Tree, own: &Tree) -> Result<bool, NoMemory> {
     Ok(
-        takes(&mut transfer, &tree, &[ROOT, (Level::Inner, 0)])?
+        takes(transfer, tree, &[ROOT, (Level::Inner, 0)])?
             && transfer.next_fetch() == Some(place((Level::Page, 5)))
-            && takes_page(&mut transfer, &tree)
-            && rests(&mut transfer, &own)?
-            && completes(&mut transfer, &tree, &[])?,
+            && takes_page(transfer, tree)
+            && rests(transfer, own)?
+            && completes(transfer, tree, &[])?,
     )
+}
+
+fn goes_on(alloc: Global) -> Result<bool, NoMemory> {
+    let own = tree_of(alloc, &[(40, b"text"), (80, b"")])?;
+    let (tree, mut transfer) = begun(alloc, 2, &[(5, b"text"), (40, b"text")], &[(80, b"own")])?;
+    completes_with(&mut transfer, &tree, &own)
 }
 
 #[test]

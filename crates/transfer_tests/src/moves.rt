@@ -1,6 +1,6 @@
 //! Newer states, own pages that change meanwhile, and pages that are given back.
 
-use crate::trees::{At, ROOT, Texts, completes, place, put, start, takes, tree_of};
+use crate::trees::{At, ROOT, Texts, begun, completes, place, put, takes, tree_of};
 use partition_tree::Tree;
 use state_transfer::{PartFault, Replaced, Transfer};
 use std::alloc::Global;
@@ -75,8 +75,7 @@ fn is_overtaken(
 }
 
 fn goes_on_with(row: Row<'_>, alloc: Global) -> Result<bool, NoMemory> {
-    let mut tree = tree_of(alloc, OLD)?;
-    let mut transfer = start(alloc, 6, &tree, &[])?;
+    let (mut tree, mut transfer) = begun(alloc, 6, OLD, &[])?;
     is_overtaken(&mut transfer, &mut tree, row)
 }
 
@@ -102,9 +101,9 @@ fn rests_on(transfer: &mut Transfer, tree: &Tree, own: &Tree) -> Result<bool, No
 
 // Page 40 gets the wanted text, 80 loses it, and 0 has another one.
 fn rests(alloc: Global) -> Result<bool, NoMemory> {
-    let tree = tree_of(alloc, &[(0, b"new"), (40, b"new"), (80, b"new")])?;
     let own = tree_of(alloc, &[(0, b"own"), (40, b"new")])?;
-    let mut transfer = start(alloc, 4, &tree, &[(80, b"new")])?;
+    let wanted: Texts<'_> = &[(0, b"new"), (40, b"new"), (80, b"new")];
+    let (tree, mut transfer) = begun(alloc, 4, wanted, &[(80, b"new")])?;
     rests_on(&mut transfer, &tree, &own)
 }
 
@@ -137,15 +136,18 @@ fn takes_and_gives_back(transfer: &mut Transfer, tree: &Tree) -> Result<bool, No
 }
 
 // The page has the own text again, and is asked for again.
-fn gives_back(alloc: Global) -> Result<bool, NoMemory> {
-    let tree = tree_of(alloc, &[(3, b"new")])?;
-    let mut transfer = start(alloc, 2, &tree, &[(3, b"own")])?;
+fn takes_again(transfer: &mut Transfer, tree: &Tree) -> Result<bool, NoMemory> {
     Ok(
-        takes(&mut transfer, &tree, &[ROOT, (Level::Inner, 0)])?
-            && takes_and_gives_back(&mut transfer, &tree)?
+        takes(transfer, tree, &[ROOT, (Level::Inner, 0)])?
+            && takes_and_gives_back(transfer, tree)?
             && transfer.pages().page(3) == b"own".as_slice()
-            && completes(&mut transfer, &tree, &[(Level::Page, 3)])?,
+            && completes(transfer, tree, &[(Level::Page, 3)])?,
     )
+}
+
+fn gives_back(alloc: Global) -> Result<bool, NoMemory> {
+    let (tree, mut transfer) = begun(alloc, 2, &[(3, b"new")], &[(3, b"own")])?;
+    takes_again(&mut transfer, &tree)
 }
 
 #[test]
@@ -171,14 +173,22 @@ fn gives_newer_back(
 
 // Where a page was given back that was not fetched before it, the own text is held again, whatever that is then; where
 // another text of it had been fetched, that stays.
-fn rests_behind(alloc: Global, fetched: bool) -> Result<bool, NoMemory> {
-    let mut tree = tree_of(alloc, &[(3, b"old")])?;
-    let own = tree_of(alloc, &[(3, b"own")])?;
-    let mut transfer = start(alloc, 2, &tree, &[])?;
-    let is_back = gives_newer_back(&mut transfer, &mut tree, fetched)?;
-    transfer.rest_on(&own)?;
+fn holds_behind(
+    transfer: &mut Transfer,
+    tree: &mut Tree,
+    own: &Tree,
+    fetched: bool,
+) -> Result<bool, NoMemory> {
+    let is_back = gives_newer_back(transfer, tree, fetched)?;
+    transfer.rest_on(own)?;
     let held: &[u8] = if fetched { b"old" } else { b"own" };
     Ok(is_back && transfer.pages().page(3) == held)
+}
+
+fn rests_behind(alloc: Global, fetched: bool) -> Result<bool, NoMemory> {
+    let own = tree_of(alloc, &[(3, b"own")])?;
+    let (mut tree, mut transfer) = begun(alloc, 2, &[(3, b"old")], &[])?;
+    holds_behind(&mut transfer, &mut tree, &own, fetched)
 }
 
 #[test]

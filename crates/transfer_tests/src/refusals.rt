@@ -1,8 +1,8 @@
 //! Parts that are not taken, and why: the first fault that applies is told.
 
-use crate::trees::{At, ROOT, answer, completes, place, start, takes, tree_of};
+use crate::trees::{At, ROOT, answer, begun, completes, place, takes, tree_of};
 use partition_tree::{CHILDREN, Tree};
-use state_transfer::{PartFault, Transfer};
+use state_transfer::{PartFault, Place, Transfer};
 use std::alloc::Global;
 use std::test::Fail;
 use terms::{Digest, Level, NoMemory, Number};
@@ -20,24 +20,45 @@ static PAGES: [(u64, u16, &[u8], PartFault); 7] = [
     (3, 6, b"texx", PartFault::NotAsked),
 ];
 
-fn refuses_pages(alloc: Global) -> Result<bool, NoMemory> {
-    let tree = tree_of(alloc, &[(5, b"text")])?;
-    let mut transfer = start(alloc, 2, &tree, &[])?;
-    let asked = place((Level::Page, 5));
-    if !takes(&mut transfer, &tree, &TO_PAGE_5)? || transfer.next_fetch() != Some(asked) {
-        return Ok(false);
-    }
-    let own = transfer.pages().root();
+// Whether these places are taken, and this one is asked for behind them.
+fn comes_to(
+    transfer: &mut Transfer,
+    tree: &Tree,
+    places: &[At],
+    asked: Place,
+) -> Result<bool, NoMemory> {
+    Ok(takes(transfer, tree, places)? && transfer.next_fetch() == Some(asked))
+}
+
+fn refuses_each_page(transfer: &mut Transfer) -> bool {
     for &(number, index, text, fault) in &PAGES {
         if transfer.on_page(Number(number), index, text).err() != Some(fault) {
-            return Ok(false);
+            return false;
         }
     }
-    Ok(
-        transfer.asked() == asked
-            && transfer.pages().root() == own
-            && completes(&mut transfer, &tree, &[(Level::Page, 5)])?,
-    )
+    true
+}
+
+// Whether each page is refused, and nothing was changed by that.
+fn stays_at_page_5(transfer: &mut Transfer) -> bool {
+    let own = transfer.pages().root();
+    refuses_each_page(transfer)
+        && transfer.asked() == place((Level::Page, 5))
+        && transfer.pages().root() == own
+}
+
+fn refuses_at_page_5(transfer: &mut Transfer, tree: &Tree) -> Result<bool, NoMemory> {
+    if !comes_to(transfer, tree, &TO_PAGE_5, place((Level::Page, 5)))?
+        || !stays_at_page_5(transfer)
+    {
+        return Ok(false);
+    }
+    completes(transfer, tree, &[(Level::Page, 5)])
+}
+
+fn refuses_pages(alloc: Global) -> Result<bool, NoMemory> {
+    let (tree, mut transfer) = begun(alloc, 2, &[(5, b"text")], &[])?;
+    refuses_at_page_5(&mut transfer, &tree)
 }
 
 #[test]
@@ -57,21 +78,21 @@ static DIGESTS: [(u64, At, PartFault); 6] = [
     (2, (Level::Page, 0), PartFault::NotAsked),
 ];
 
-fn refuses_digests(alloc: Global) -> Result<bool, NoMemory> {
-    let tree = tree_of(alloc, &[(5, b"text")])?;
-    let mut transfer = start(alloc, 2, &tree, &[])?;
+fn refuses_changed(transfer: &mut Transfer, tree: &Tree) -> bool {
     let mut digests = *tree.children(Level::Root, 0);
     digests[31][31] ^= 1;
     for &(number, at, fault) in &DIGESTS {
         if transfer.on_meta(Number(number), place(at), &digests) != Err(fault) {
-            return Ok(false);
+            return false;
         }
     }
-    completes(
-        &mut transfer,
-        &tree,
-        &[ROOT, (Level::Inner, 0), (Level::Page, 5)],
-    )
+    true
+}
+
+fn refuses_digests(alloc: Global) -> Result<bool, NoMemory> {
+    let (tree, mut transfer) = begun(alloc, 2, &[(5, b"text")], &[])?;
+    let places = [ROOT, (Level::Inner, 0), (Level::Page, 5)];
+    Ok(refuses_changed(&mut transfer, &tree) && completes(&mut transfer, &tree, &places)?)
 }
 
 #[test]
@@ -80,25 +101,25 @@ fn digests_are_refused(rt: HostRuntime) -> Result<(), Fail> {
     Ok(())
 }
 
-// Part 1 is asked for. Digests of part 0 are wrong there, and so are those of part 1 of another state.
-fn refuses_other_parts(alloc: Global) -> Result<bool, NoMemory> {
-    let tree = tree_of(alloc, &[(32, b"text")])?;
-    let other = tree_of(alloc, &[(32, b"lie")])?;
-    let mut transfer = start(alloc, 2, &tree, &[])?;
+fn are_wrong_at_part_1(transfer: &mut Transfer, digests: &[Digest; CHILDREN]) -> bool {
     let asked = place((Level::Inner, 1));
-    if !takes(&mut transfer, &tree, &[ROOT])? || transfer.next_fetch() != Some(asked) {
-        return Ok(false);
-    }
-    let wrong = [
-        tree.children(Level::Inner, 0),
-        other.children(Level::Inner, 1),
-    ];
-    for digests in wrong {
-        if transfer.on_meta(Number(2), asked, digests) != Err(PartFault::WrongDigest) {
-            return Ok(false);
-        }
-    }
-    Ok(answer(&mut transfer, &tree, 2).is_ok())
+    transfer.on_meta(Number(2), asked, digests) == Err(PartFault::WrongDigest)
+}
+
+// Part 1 is asked for. Digests of part 0 are wrong there, and so are those of part 1 of another state.
+fn refuses_at_part_1(transfer: &mut Transfer, tree: &Tree, other: &Tree) -> Result<bool, NoMemory> {
+    Ok(
+        comes_to(transfer, tree, &[ROOT], place((Level::Inner, 1)))?
+            && are_wrong_at_part_1(transfer, tree.children(Level::Inner, 0))
+            && are_wrong_at_part_1(transfer, other.children(Level::Inner, 1))
+            && answer(transfer, tree, 2).is_ok(),
+    )
+}
+
+fn refuses_other_parts(alloc: Global) -> Result<bool, NoMemory> {
+    let other = tree_of(alloc, &[(32, b"lie")])?;
+    let (tree, mut transfer) = begun(alloc, 2, &[(32, b"text")], &[])?;
+    refuses_at_part_1(&mut transfer, &tree, &other)
 }
 
 #[test]
@@ -108,18 +129,19 @@ fn digests_of_other_parts_are_refused(rt: HostRuntime) -> Result<(), Fail> {
 }
 
 // The text of page 5 is that of 32 digests, which have its digest. A page has no children.
-fn refuses_digests_for_a_page(alloc: Global) -> Result<bool, NoMemory> {
+fn refuses_digests_at_page_5(transfer: &mut Transfer, tree: &Tree) -> Result<bool, NoMemory> {
     let digests: [Digest; CHILDREN] = [[7; 32]; CHILDREN];
-    let tree = tree_of(alloc, &[(5, &[7; 1024])])?;
-    let mut transfer = start(alloc, 2, &tree, &[])?;
     let asked = place((Level::Page, 5));
-    if !takes(&mut transfer, &tree, &TO_PAGE_5)? || transfer.next_fetch() != Some(asked) {
-        return Ok(false);
-    }
     Ok(
-        transfer.on_meta(Number(2), asked, &digests) == Err(PartFault::NotAsked)
-            && completes(&mut transfer, &tree, &[(Level::Page, 5)])?,
+        comes_to(transfer, tree, &TO_PAGE_5, asked)?
+            && transfer.on_meta(Number(2), asked, &digests) == Err(PartFault::NotAsked)
+            && completes(transfer, tree, &[(Level::Page, 5)])?,
     )
+}
+
+fn refuses_digests_for_a_page(alloc: Global) -> Result<bool, NoMemory> {
+    let (tree, mut transfer) = begun(alloc, 2, &[(5, &[7; 1024])], &[])?;
+    refuses_digests_at_page_5(&mut transfer, &tree)
 }
 
 #[test]
@@ -128,22 +150,29 @@ fn digests_for_a_page_are_refused(rt: HostRuntime) -> Result<(), Fail> {
     Ok(())
 }
 
+fn are_late(transfer: &mut Transfer, digests: &[Digest; CHILDREN]) -> bool {
+    transfer.on_meta(Number(2), place(ROOT), digests) == Err(PartFault::NotAsked)
+}
+
 // Whether the digests of the root's children are refused where another place was asked for behind them, and so are
 // those of the earlier state where a newer one is wanted.
-fn refuses_late_digests(alloc: Global) -> Result<bool, NoMemory> {
-    let tree = tree_of(alloc, &[(5, b"text")])?;
-    let digests = tree.children(Level::Root, 0);
-    let mut transfer = start(alloc, 2, &tree, &[])?;
-    if !takes(&mut transfer, &tree, &[ROOT])? || transfer.next_fetch().is_none() {
+fn refuses_behind_the_root(transfer: &mut Transfer, tree: &Tree) -> Result<bool, NoMemory> {
+    if !takes(transfer, tree, &[ROOT])? || transfer.next_fetch().is_none() {
         return Ok(false);
     }
-    let is_late = transfer.on_meta(Number(2), place(ROOT), digests) == Err(PartFault::NotAsked);
+    let digests = tree.children(Level::Root, 0);
+    let is_late = are_late(transfer, digests);
     transfer.move_to(Number(4), tree.root());
     Ok(
         is_late
-            && transfer.on_meta(Number(2), place(ROOT), digests) == Err(PartFault::NotAsked)
+            && are_late(transfer, digests)
             && transfer.on_meta(Number(4), place(ROOT), digests).is_ok(),
     )
+}
+
+fn refuses_late_digests(alloc: Global) -> Result<bool, NoMemory> {
+    let (tree, mut transfer) = begun(alloc, 2, &[(5, b"text")], &[])?;
+    refuses_behind_the_root(&mut transfer, &tree)
 }
 
 #[test]

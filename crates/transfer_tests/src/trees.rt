@@ -41,6 +41,19 @@ pub fn start(
     Transfer::start(alloc, Number(number), wanted.root(), &own)
 }
 
+/// A tree whose pages have these texts, and a transfer of its state to a replica with the own ones. Who owns both hands
+/// them on, since each further way out of a function drops both.
+pub fn begun(
+    alloc: Global,
+    number: u64,
+    wanted: Texts<'_>,
+    own: Texts<'_>,
+) -> Result<(Tree, Transfer), NoMemory> {
+    let tree = tree_of(alloc, wanted)?;
+    let transfer = start(alloc, number, &tree, own)?;
+    Ok((tree, transfer))
+}
+
 pub fn place((level, index): At) -> Place {
     Place { level, index }
 }

@@ -1,7 +1,8 @@
 //! Whole transfers, and the places that they ask for.
 
-use crate::trees::{At, ROOT, Texts, completes, place, start, tree_of};
-use state_transfer::Place;
+use crate::trees::{At, ROOT, Texts, begun, completes, place};
+use partition_tree::Tree;
+use state_transfer::{Place, Transfer};
 use std::alloc::Global;
 use std::test::Fail;
 use terms::{Level, NoMemory, Number};
@@ -69,8 +70,7 @@ static ROWS: [Row<'static>; 5] = [
 ];
 
 fn asks_for((wanted, own, places): Row<'_>, alloc: Global) -> Result<bool, NoMemory> {
-    let tree = tree_of(alloc, wanted)?;
-    let mut transfer = start(alloc, 6, &tree, own)?;
+    let (tree, mut transfer) = begun(alloc, 6, wanted, own)?;
     completes(&mut transfer, &tree, places)
 }
 
@@ -82,17 +82,18 @@ fn what_differs_is_asked_for(rt: HostRuntime) -> Result<(), Fail> {
     Ok(())
 }
 
-fn is_as_started(alloc: Global) -> Result<bool, NoMemory> {
-    let tree = tree_of(alloc, &[(1, b"new")])?;
-    let transfer = start(alloc, 4, &tree, &[(2, b"own")])?;
+fn has_nothing_fetched(transfer: &Transfer, tree: &Tree) -> bool {
     transfer.keeps();
-    Ok(
-        transfer.number() == Number(4)
-            && transfer.root() == tree.root()
-            && transfer.asked() == Place::root()
-            && transfer.pages().page(1).is_empty()
-            && transfer.pages().page(2) == b"own".as_slice(),
-    )
+    transfer.number() == Number(4)
+        && transfer.root() == tree.root()
+        && transfer.asked() == Place::root()
+        && transfer.pages().page(1).is_empty()
+        && transfer.pages().page(2) == b"own".as_slice()
+}
+
+fn is_as_started(alloc: Global) -> Result<bool, NoMemory> {
+    let (tree, transfer) = begun(alloc, 4, &[(1, b"new")], &[(2, b"own")])?;
+    Ok(has_nothing_fetched(&transfer, &tree))
 }
 
 #[test]
