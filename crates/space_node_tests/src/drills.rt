@@ -2,11 +2,11 @@
 
 ghost use Rattle.std.specs.Prelude.{◌≡◌};
 
-use crate::calls::{Call, Called, TRIES, call_each};
-use crate::clusters::{AMPLE, faulty_config, run_of};
+use crate::calls::{Call, TRIES, call_each};
+use crate::clusters::{AMPLE, config_of, run_of, take_client};
 use events::{Config, Entry, EntryKind};
 use journal::{Naming, Opened};
-use space_node::{ClientHandle, Cluster, Drill, Open, Run, StartFault};
+use space_node::{ClientHandle, Cluster, Drill, FinishFault, Open, Run, StartFault};
 use std::alloc::Global;
 use std::marker::Brand;
 use std::rt::Clock;
@@ -15,6 +15,7 @@ use std::test::Fail;
 use std::thread;
 use std::thread::Threads;
 use std::time::Duration;
+use terms::NoMemory;
 use wire::judge;
 
 // How many replicas may be faulty, and the drills of those that are.
@@ -57,54 +58,65 @@ static LATE_CALL: [Call; 1] = [("rdp (*)", "absent")];
 const LATE_CALLS: u32 = 20;
 
 // Each correct replica is needed.
-fn calls_all<N: Naming + Send + Sync + 'static, R: Threads + Wait + Clock + Copy + Send + 'static>(
+fn calls_all<N: Naming + Send + Sync + 'static, R: Threads + Wait + Clock + Sync>(
     rt: &R,
     alloc: Global,
     cluster: &Cluster<N>,
-    client: ClientHandle<N>,
-) -> Called<N> {
-    let mut called = call_each(*rt, alloc, cluster, 0, client, &CALLS);
+    client: &mut ClientHandle<N>,
+) -> Result<bool, NoMemory> {
+    let mut calls: &[Call] = &CALLS;
     for _ in 0..LATE_CALLS {
-        let (Some(client), Ok(true)) = (called.client, called.answered) else {
-            return Called {
-                client: None,
-                answered: called.answered,
-            };
-        };
+        if !call_each(rt, alloc, cluster, 0, client, calls)? {
+            return Ok(false);
+        }
         thread::sleep(rt, Duration::from_millis(5));
-        called = call_each(*rt, alloc, cluster, 0, client, &LATE_CALL);
+        calls = &LATE_CALL;
     }
-    called
+    call_each(rt, alloc, cluster, 0, client, calls)
+}
+
+fn first_calls_all<N: Naming + Send + Sync + 'static, R: Threads + Wait + Clock + Sync>(
+    rt: &R,
+    alloc: Global,
+    cluster: &mut Cluster<N>,
+    clients: &mut Vec<ClientHandle<N>>,
+) -> Result<bool, NoMemory> {
+    take_client(cluster, clients, 0)?;
+    match clients.first_mut() {
+        Some(client) => calls_all(rt, alloc, cluster, client),
+        None => Ok(false),
+    }
 }
 
 // The calls are answered, each correct replica has a share, and a frame of a faulty replica was got exactly if it is
 // stale.
 fn answers_with_liars<
     N: Naming + Send + Sync + 'static,
-    R: Threads + Wait + Clock + Copy + Send + 'static,
+    R: Threads + Wait + Clock + Copy + Send + Sync + 'static,
 >(rt: &R, alloc: Global, opened: Opened, config: &Config, row: &Row) -> Result<Option<bool>, Fail>
     requires config { config.now ≡ N.config }
     requires book { opened ≡ N.book }
 {
-    let mut clients = Vec::with_capacity(alloc, 1)?;
     let drills = Vec::from_slice(alloc, row.drills)?;
     let mut cluster = Cluster::<N>::start_with_drills(
         rt, alloc, opened, config, AMPLE, Open, drills,
     )?;
-    let mut answered = Ok(false);
-    if let Some(client) = cluster.client(0) {
-        let called = calls_all(rt, alloc, &cluster, client);
-        answered = called.answered;
-        if let Some(client) = called.client {
-            clients.push_reserved(client);
-        }
-    }
+    let mut clients = Vec::new(alloc);
+    let answered = first_calls_all(rt, alloc, &mut cluster, &mut clients);
     let finished = cluster.finish(rt, alloc, clients);
+    is_right(answered, &finished, row)
+}
+
+fn is_right<N: Naming>(
+    answered: Result<bool, NoMemory>,
+    finished: &Result<Run<N>, FinishFault<N>>,
+    row: &Row,
+) -> Result<Option<bool>, Fail> {
     let Ok(answered) = answered else {
         return Ok(None);
     };
     let run = run_of(finished)?;
-    Ok(Some(answered && has_correct_shares(&run, row) && hears_stale_alone(&run, row)))
+    Ok(Some(answered && has_correct_shares(run, row) && hears_stale_alone(run, row)))
 }
 
 // The faulty ones have the last numbers.
@@ -149,7 +161,7 @@ fn is_got_from(entry: &Entry, sender: u16) -> bool {
 #[test]
 fn liars_change_no_answer(rt: HostRuntime) -> Result<(), Fail> {
     for row in &ROWS {
-        let config = faulty_config(rt.alloc(), row.faults, row.faulty, &[])?;
+        let config = config_of(rt.alloc(), row.faults, row.faulty, &[])?;
         let mut right = false;
         for _ in 0..TRIES {
             if let Some(answered) = answers_with_liars::<Brand, _>(
@@ -236,7 +248,7 @@ fn is_refused<N: Naming + Send + Sync + 'static, R: Threads + Wait + Copy + Send
 #[test]
 fn other_drills_are_refused(rt: HostRuntime) -> Result<(), Fail> {
     for row in &REFUSED {
-        let config = faulty_config(rt.alloc(), 1, row.replicas, row.clients)?;
+        let config = config_of(rt.alloc(), 1, row.replicas, row.clients)?;
         assert!(rt; is_refused::<Brand, _>(&rt, rt.alloc(), Opened::new(), &config, row.drills)?);
     }
     Ok(())

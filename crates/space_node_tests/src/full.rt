@@ -2,10 +2,10 @@
 
 ghost use Rattle.std.specs.Prelude.{◌≡◌};
 
-use crate::clusters::{new_config, run_of};
+use crate::clusters::{config_of, run_of, take_client};
 use events::Config;
 use journal::{Naming, Opened};
-use space_node::{CallFault, ClientHandle, Cluster, Open};
+use space_node::{CallFault, ClientHandle, Cluster, FinishFault, Open, Run};
 use std::alloc::Global;
 use std::marker::Brand;
 use std::sync::Wait;
@@ -52,20 +52,38 @@ fn meets_limit<N: Naming + Send + Sync + 'static, R: Threads + Wait + Copy + Sen
     requires config { config.now ≡ N.config }
     requires book { opened ≡ N.book }
 {
-    let mut clients = Vec::with_capacity(alloc, 1)?;
     let mut cluster = Cluster::<N>::start(rt, alloc, opened, config, row.limit, Open)?;
-    for _ in 0..row.pulses {
-        cluster.pulse(rt, Party::Client(ClientId { number: 0 }));
-    }
-    let mut refused = Ok(false);
-    if let Some(mut client) = cluster.client(0) {
-        refused = is_refused_twice(rt, alloc, &mut client);
-        clients.push_reserved(client);
-    }
+    let mut clients = Vec::new(alloc);
+    let refused = is_refused_after(rt, alloc, &mut cluster, &mut clients, row.pulses);
     let finished = cluster.finish(rt, alloc, clients);
+    is_met(refused, &finished, row.entries)
+}
+
+fn is_met<N: Naming>(
+    refused: Result<bool, CallFault>,
+    finished: &Result<Run<N>, FinishFault<N>>,
+    entries: Option<usize>,
+) -> Result<bool, Fail> {
     let refused = refused?;
     let run = run_of(finished)?;
-    Ok(refused && run.trace.len() == row.entries.unwrap_or(run.trace.len()))
+    Ok(refused && run.trace.len() == entries.unwrap_or(run.trace.len()))
+}
+
+fn is_refused_after<N: Naming + Send + Sync + 'static, R: Wait>(
+    rt: &R,
+    alloc: Global,
+    cluster: &mut Cluster<N>,
+    clients: &mut Vec<ClientHandle<N>>,
+    pulses: u8,
+) -> Result<bool, CallFault> {
+    for _ in 0..pulses {
+        cluster.pulse(rt, Party::Client(ClientId { number: 0 }));
+    }
+    take_client(cluster, clients, 0)?;
+    match clients.first_mut() {
+        Some(client) => is_refused_twice(rt, alloc, client),
+        None => Ok(false),
+    }
 }
 
 // Whether the journal is full for a call, and the client has stopped at the next.
@@ -93,7 +111,7 @@ fn refusal<N: Naming, R: Wait>(
 
 #[test]
 fn full_journals_refuse(rt: HostRuntime) -> Result<(), Fail> {
-    let config = new_config(rt.alloc(), Vec::new(rt.alloc()))?;
+    let config = config_of(rt.alloc(), 1, &[], &[])?;
     for row in &ROWS {
         assert!(rt; meets_limit::<Brand, _>(&rt, rt.alloc(), Opened::new(), &config, row)?);
     }

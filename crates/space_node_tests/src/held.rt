@@ -2,12 +2,12 @@
 
 ghost use Rattle.std.specs.Prelude.{◌≡◌};
 
-use crate::calls::{Call, Called, TRIES, call_each};
-use crate::clusters::{AMPLE, new_config, run_of};
+use crate::calls::{Call, TRIES, call_each};
+use crate::clusters::{AMPLE, config_of, run_of, take_client};
 use crate::gates::{Flags, Hold};
 use events::Config;
 use journal::{Naming, Opened};
-use space_node::{ClientHandle, Cluster};
+use space_node::{ClientHandle, Cluster, FinishFault, Run};
 use std::alloc::Global;
 use std::marker::Brand;
 use std::rt::Clock;
@@ -60,34 +60,33 @@ fn hold<N: Naming + Send + Sync + 'static, R: Wait + Clock>(
     Ok(())
 }
 
-fn calls_past<N: Naming + Send + Sync + 'static, R: Threads + Wait + Clock + Copy + Send + 'static>(
+fn calls_past<N: Naming + Send + Sync + 'static, R: Threads + Wait + Clock + Sync>(
     rt: &R,
     alloc: Global,
     cluster: &Cluster<N>,
-    client: ClientHandle<N>,
+    client: &mut ClientHandle<N>,
     flags: &Flags,
     holding: &Holding,
-) -> Called<N> {
-    let first = call_each(*rt, alloc, cluster, 0, client, holding.first);
-    let (Some(client), Ok(true)) = (first.client, first.answered) else {
-        return Called {
-            client: None,
-            answered: first.answered,
-        };
-    };
-    if hold(rt, cluster, flags, holding.nodes).is_err() {
-        return Called {
-            client: Some(client),
-            answered: Err(NoMemory),
-        };
+) -> Result<bool, NoMemory> {
+    if !call_each(rt, alloc, cluster, 0, client, holding.first)? {
+        return Ok(false);
     }
-    let then = call_each(*rt, alloc, cluster, 0, client, holding.then);
-    Called {
-        client: then.client,
-        answered: match then.answered {
-            Ok(answered) => Ok(answered && flags.held()),
-            Err(fault) => Err(fault),
-        },
+    hold(rt, cluster, flags, holding.nodes)?;
+    Ok(call_each(rt, alloc, cluster, 0, client, holding.then)? && flags.held())
+}
+
+fn first_calls_past<N: Naming + Send + Sync + 'static, R: Threads + Wait + Clock + Sync>(
+    rt: &R,
+    alloc: Global,
+    cluster: &mut Cluster<N>,
+    clients: &mut Vec<ClientHandle<N>>,
+    flags: &Flags,
+    holding: &Holding,
+) -> Result<bool, NoMemory> {
+    take_client(cluster, clients, 0)?;
+    match clients.first_mut() {
+        Some(client) => calls_past(rt, alloc, cluster, client, flags, holding),
+        None => Ok(false),
     }
 }
 
@@ -104,23 +103,23 @@ fn is_answered_past<
     requires config { config.now ≡ N.config }
     requires book { opened ≡ N.book }
 {
-    let mut clients = Vec::with_capacity(alloc, 1)?;
-    let mut answered = Ok(false);
     let flags = Flags::new(alloc)?;
     let gate = Hold {
         rt: *rt,
         flags: Arc::try_clone(&flags)?,
     };
     let mut cluster = Cluster::<N>::start(rt, alloc, opened, config, AMPLE, gate)?;
-    if let Some(client) = cluster.client(0) {
-        let called = calls_past(rt, alloc, &cluster, client, &flags, holding);
-        answered = called.answered;
-        if let Some(client) = called.client {
-            clients.push_reserved(client);
-        }
-    }
+    let mut clients = Vec::new(alloc);
+    let answered = first_calls_past(rt, alloc, &mut cluster, &mut clients, &flags, holding);
     flags.open();
     let finished = cluster.finish(rt, alloc, clients);
+    is_finished(answered, &finished)
+}
+
+fn is_finished<N: Naming>(
+    answered: Result<bool, NoMemory>,
+    finished: &Result<Run<N>, FinishFault<N>>,
+) -> Result<Option<bool>, Fail> {
     let Ok(answered) = answered else {
         return Ok(None);
     };
@@ -130,7 +129,7 @@ fn is_answered_past<
 
 #[test]
 fn held_nodes_stop_nobody(rt: HostRuntime) -> Result<(), Fail> {
-    let config = new_config(rt.alloc(), Vec::new(rt.alloc()))?;
+    let config = config_of(rt.alloc(), 1, &[], &[])?;
     for holding in &HOLDINGS {
         let mut right = false;
         for _ in 0..TRIES {

@@ -2,7 +2,7 @@
 
 ghost use Rattle.std.specs.Prelude.{◌≡◌};
 
-use crate::clusters::{AMPLE, new_config};
+use crate::clusters::{AMPLE, config_of};
 use events::Config;
 use journal::{Naming, Opened};
 use space_node::{Cluster, FinishFault, Open, Run, StartFault};
@@ -35,10 +35,11 @@ fn starts_and_ends<N: Naming + Send + Sync + 'static, R: Threads + Wait + Copy +
         Ok(cluster) => cluster,
         Err(fault) => return Came::Refused(fault),
     };
-    came_of(cluster.finish(rt, alloc, Vec::new(alloc)))
+    let finished = cluster.finish(rt, alloc, Vec::new(alloc));
+    came_of(&finished)
 }
 
-fn came_of<N: Naming>(finished: Result<Run<N>, FinishFault<N>>) -> Came {
+fn came_of<N: Naming>(finished: &Result<Run<N>, FinishFault<N>>) -> Came {
     match finished {
         Ok(run) => {
             if run.trace.is_empty() && run.shares.len() == 4 {
@@ -47,14 +48,14 @@ fn came_of<N: Naming>(finished: Result<Run<N>, FinishFault<N>>) -> Came {
                 Came::Else
             }
         }
-        Err(FinishFault::NotInJournal(_run, _party)) => Came::Else,
+        Err(FinishFault::NotInJournal(_, _)) => Came::Else,
         Err(FinishFault::NoMemory) => Came::NoMemory,
     }
 }
 
 #[test]
 fn nothing_is_called(rt: HostRuntime) -> Result<(), Fail> {
-    let config = new_config(rt.alloc(), Vec::new(rt.alloc()))?;
+    let config = config_of(rt.alloc(), 1, &[], &[])?;
     let came = starts_and_ends::<Brand, _>(&rt, rt.alloc(), Opened::new(), &config);
     let out_of_memory = came == Came::NoMemory
         || came == Came::Refused(StartFault::NoMemory)
@@ -65,7 +66,7 @@ fn nothing_is_called(rt: HostRuntime) -> Result<(), Fail> {
 
 #[test]
 fn a_faulty_party_is_refused(rt: HostRuntime) -> Result<(), Fail> {
-    let config = new_config(rt.alloc(), Vec::from_elem(rt.alloc(), 3u16, 1)?)?;
+    let config = config_of(rt.alloc(), 1, &[3], &[])?;
     let came = starts_and_ends::<Brand, _>(&rt, rt.alloc(), Opened::new(), &config);
     assert!(rt; came == Came::Refused(StartFault::BadConfig));
     Ok(())

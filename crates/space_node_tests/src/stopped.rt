@@ -3,17 +3,17 @@
 ghost use Rattle.std.specs.Prelude.{◌≡◌};
 
 use crate::calls::{Call, TRIES, call_each};
-use crate::clusters::{AMPLE, new_config, run_of};
+use crate::clusters::{AMPLE, config_of, run_of, take_client};
 use events::Config;
 use journal::{Naming, Opened};
-use space_node::{Cluster, Gate};
+use space_node::{ClientHandle, Cluster, FinishFault, Gate, Run};
 use std::alloc::Global;
 use std::marker::Brand;
 use std::rt::Clock;
 use std::sync::Wait;
 use std::test::Fail;
 use std::thread::Threads;
-use terms::{Party, ReplicaId};
+use terms::{NoMemory, Party, ReplicaId};
 
 // The node that stops.
 const NODE: u8 = 3;
@@ -32,29 +32,43 @@ impl Gate for StopsOne {
 
 static CALLS: [Call; 2] = [("out (1)", "done"), ("rdp (*)", "found (1)")];
 
-// The others answer, and the run names the one that stopped. A pulse makes sure that it has a second event. If another
-// one stopped too, memory may have run out.
+// The others answer. A pulse makes sure that the node has a second event.
+fn others_answer<N: Naming + Send + Sync + 'static, R: Threads + Wait + Clock + Sync>(
+    rt: &R,
+    alloc: Global,
+    cluster: &mut Cluster<N>,
+    clients: &mut Vec<ClientHandle<N>>,
+) -> Result<bool, NoMemory> {
+    let party = Party::Replica(ReplicaId(NODE));
+    cluster.pulse(rt, party);
+    cluster.pulse(rt, party);
+    take_client(cluster, clients, 0)?;
+    match clients.first_mut() {
+        Some(client) => call_each(rt, alloc, cluster, 1, client, &CALLS),
+        None => Ok(false),
+    }
+}
+
+// The others answer, and the run names the one that stopped.
 fn names_who_stopped<
     N: Naming + Send + Sync + 'static,
-    R: Threads + Wait + Clock + Copy + Send + 'static,
+    R: Threads + Wait + Clock + Copy + Send + Sync + 'static,
 >(rt: &R, alloc: Global, opened: Opened, config: &Config) -> Result<Option<bool>, Fail>
     requires config { config.now ≡ N.config }
     requires book { opened ≡ N.book }
 {
-    let mut clients = Vec::with_capacity(alloc, 1)?;
     let mut cluster = Cluster::<N>::start(rt, alloc, opened, config, AMPLE, StopsOne)?;
-    let party = Party::Replica(ReplicaId(NODE));
-    cluster.pulse(rt, party);
-    cluster.pulse(rt, party);
-    let mut answered = Ok(false);
-    if let Some(client) = cluster.client(0) {
-        let called = call_each(*rt, alloc, &cluster, 1, client, &CALLS);
-        answered = called.answered;
-        if let Some(client) = called.client {
-            clients.push_reserved(client);
-        }
-    }
+    let mut clients = Vec::new(alloc);
+    let answered = others_answer(rt, alloc, &mut cluster, &mut clients);
     let finished = cluster.finish(rt, alloc, clients);
+    is_named(answered, &finished)
+}
+
+// If another one stopped too, memory may have run out.
+fn is_named<N: Naming>(
+    answered: Result<bool, NoMemory>,
+    finished: &Result<Run<N>, FinishFault<N>>,
+) -> Result<Option<bool>, Fail> {
     let Ok(answered) = answered else {
         return Ok(None);
     };
@@ -71,7 +85,7 @@ fn is_node_alone(stopped: &[Party]) -> bool {
 
 #[test]
 fn a_stopped_node_is_named(rt: HostRuntime) -> Result<(), Fail> {
-    let config = new_config(rt.alloc(), Vec::new(rt.alloc()))?;
+    let config = config_of(rt.alloc(), 1, &[], &[])?;
     let mut right = false;
     for _ in 0..TRIES {
         if let Some(named) = names_who_stopped::<Brand, _>(
