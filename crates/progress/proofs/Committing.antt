@@ -95,7 +95,7 @@ decide_logged c me v i batch past = go (logged c me past v i)
     go None = inr (λ is. cc)
     go (Some x) = same x (bytes_eq x batch) refl
 
-decide_prepared : (c : Configuration) (me v i : ℕ) (batch : List ℕ) (past : List Entry) → Prepared c me past v i batch ⊎ (Prepared c me past v i batch → ⊥)
+pub decide_prepared : (c : Configuration) (me v i : ℕ) (batch : List ℕ) (past : List Entry) → Prepared c me past v i batch ⊎ (Prepared c me past v i batch → ⊥)
 decide_prepared c me v i batch past = go (decide_logged c me v i batch past)
   where
     enough : logged c me past v i ≡ Some batch → (b : Bool) → nat_le (2 * c.faults) (count_below (λ s. has_digest (sha256 batch) (prepare_of c me past v i s)) (replicas c)) ≡ b
@@ -201,10 +201,7 @@ Reaches c v i trace s =
 module _ (c : Configuration) (setting : IsConfiguration c) (trace : List Entry) (goes : OnlyTheseStopped c [] trace)
     (safe : AreReplicasSafe c trace) (unforged : Unforged c trace) (v i : ℕ) (batch : List ℕ) (from : is_correct_replica c (primary c v) ≡ true)
     (active : (q : ℕ) → is_correct_replica c q ≡ true → (newer now : List Entry) (b : List ℕ) → history_of q trace ≡ newer ++ now → logged c q now v i ≡ Some b → is_active_in c now v ≡ true)
-    (settled : (s : ℕ) → is_correct_replica c s ≡ true → Committed c s (history_of s trace) v i batch ⊎ Reaches c v i trace s)
-    (begins : logged c (primary c v) (history_of (primary c v) trace) v i ≡ Some batch)
-    (gives : Shared c (primary c v) (PrePrepare v i batch) (history_of (primary c v) trace))
-    (genuine : (q : ℕ) → is_correct_replica c q ≡ true → are_genuine c q batch ≡ true) where
+    (settled : (s : ℕ) → is_correct_replica c s ≡ true → Committed c s (history_of s trace) v i batch ⊎ Reaches c v i trace s) where
   abbrev whole : ℕ → List Entry
   whole q = history_of q trace
 
@@ -270,98 +267,107 @@ module _ (c : Configuration) (setting : IsConfiguration c) (trace : List Entry) 
         either None = (batch, entry)
         either (Some y) = (y, refl)
 
-  -- ---- each logs it
+  -- ---- where each has logged it
 
-  pub logs_it : (s : ℕ) → is_correct_replica c s ≡ true → logged c s (whole s) v i ≡ Some batch
-  logs_it s other = go (settled s other)
-    where
-      go : Committed c s (whole s) v i batch ⊎ Reaches c v i trace s → logged c s (whole s) v i ≡ Some batch
-      go (inl k) = k.prepared.logged
-      go (inr comes) =
-          let x = comes p0 from (PrePrepare v i batch) (is_batch batch) gives in
-          let y = logs s (record { sender = p0; message = PrePrepare v i batch }) x (prepares_batch c s v i batch (genuine s other)) in
-          let one = logged_was_offered c trace s v i y.0 safe unforged other from y.1 in
-          let two = logged_was_offered c trace p0 v i batch safe unforged from from begins in
-          let same : y.0 ≡ batch = some_injective y.0 batch (sym one ∙ two) in
-          y.1 ∙ ap Some same
+  module _ (logs_it : (s : ℕ) → is_correct_replica c s ≡ true → logged c s (history_of s trace) v i ≡ Some batch) where
+    -- ---- each backup prepares it
 
-  -- ---- each backup prepares it
+    prepares_it : (q : ℕ) → is_correct_replica c q ≡ true → p0 ≢ q → Shared c q (Prepare v i (sha256 batch)) (whole q)
+    prepares_it q one backup = shares q one (Prepare v i (sha256 batch)) f.newer f.outs (f.input ∷ f.before) f.is given_it
+      where
+        f : Flip c q (λ past. logged c q past v i ≡ Some batch) (whole q)
+        f = flips c q (λ past. logged c q past v i ≡ Some batch) (decide_logged c q v i batch) (none_logged c q v i batch) (whole q) [] (point q one) (point q one) (proceeds q one) (logs_it q one)
 
-  prepares_it : (q : ℕ) → is_correct_replica c q ≡ true → p0 ≢ q → Shared c q (Prepare v i (sha256 batch)) (whole q)
-  prepares_it q one backup = shares q one (Prepare v i (sha256 batch)) f.newer f.outs (f.input ∷ f.before) f.is given_it
-    where
-      f : Flip c q (λ past. logged c q past v i ≡ Some batch) (whole q)
-      f = flips c q (λ past. logged c q past v i ≡ Some batch) (decide_logged c q v i batch) (none_logged c q v i batch) (whole q) [] (point q one) (point q one) (proceeds q one) (logs_it q one)
+        unlogged : (o : Option (List ℕ)) → logged c q f.before v i ≡ o → o ≡ None
+        unlogged None is = refl
+        unlogged (Some x) is =
+            let now = logged_later c q v i x (reverse f.outs ++ f.input ∷ []) f.before is in
+            let here : logged c q (reverse f.outs ++ f.input ∷ f.before) v i ≡ Some x = subst (λ (xs : List Entry). logged c q xs v i ≡ Some x) (append_assoc (reverse f.outs) (f.input ∷ []) f.before) now in
+            let same : x ≡ batch = some_injective x batch (sym here ∙ f.holds) in
+            absurd (f.not_yet (is ∙ ap Some same))
 
-      unlogged : (o : Option (List ℕ)) → logged c q f.before v i ≡ o → o ≡ None
-      unlogged None is = refl
-      unlogged (Some x) is =
-          let now = logged_later c q v i x (reverse f.outs ++ f.input ∷ []) f.before is in
-          let here : logged c q (reverse f.outs ++ f.input ∷ f.before) v i ≡ Some x = subst (λ (xs : List Entry). logged c q xs v i ≡ Some x) (append_assoc (reverse f.outs) (f.input ∷ []) f.before) now in
-          let same : x ≡ batch = some_injective x batch (sym here ∙ f.holds) in
-          absurd (f.not_yet (is ∙ ap Some same))
+        given_it : Gives q (Prepare v i (sha256 batch)) f.outs
+        given_it = f.owes.prepares v i batch (unlogged (logged c q f.before v i) refl) f.holds (active q one f.newer (reverse f.outs ++ f.input ∷ f.before) batch f.is f.holds) backup
 
-      given_it : Gives q (Prepare v i (sha256 batch)) f.outs
-      given_it = f.owes.prepares v i batch (unlogged (logged c q f.before v i) refl) f.holds (active q one f.newer (reverse f.outs ++ f.input ∷ f.before) batch f.is f.holds) backup
+    -- ---- so each has it prepared
 
-  -- ---- so each has it prepared
+    prepare_counts : (s q : ℕ) → is_correct_replica c s ≡ true → is_correct_replica c q ≡ true → Reaches c v i trace s → (q == p0) ≡ false → has_digest (sha256 batch) (prepare_of c s (whole s) v i q) ≡ true
+    unfolding prepare_of
+    prepare_counts s q other one comes backup =
+        let x = comes q one (Prepare v i (sha256 batch)) (is_prepare (sha256 batch)) (prepares_it q one (λ same. eqb-false q p0 backup (sym same))) in
+        let y = votes s (record { sender = q; message = Prepare v i (sha256 batch) }) x (prepare_from c q v i) (sha256 batch) (prepares_digest c q v i (sha256 batch) backup) in
+        let l = voter_logs c trace s q v i y.0 safe unforged other one y.1 in
+        let same : l.batch ≡ batch = some_injective l.batch batch (sym l.is_logged ∙ logs_it q one) in
+        has_its_digest (sha256 batch) (prepare_of c s (whole s) v i q) (y.1 ∙ ap Some (sym l.digest ∙ ap sha256 same))
 
-  prepare_counts : (s q : ℕ) → is_correct_replica c s ≡ true → is_correct_replica c q ≡ true → Reaches c v i trace s → (q == p0) ≡ false → has_digest (sha256 batch) (prepare_of c s (whole s) v i q) ≡ true
-  unfolding prepare_of
-  prepare_counts s q other one comes backup =
-      let x = comes q one (Prepare v i (sha256 batch)) (is_prepare (sha256 batch)) (prepares_it q one (λ same. eqb-false q p0 backup (sym same))) in
-      let y = votes s (record { sender = q; message = Prepare v i (sha256 batch) }) x (prepare_from c q v i) (sha256 batch) (prepares_digest c q v i (sha256 batch) backup) in
-      let l = voter_logs c trace s q v i y.0 safe unforged other one y.1 in
-      let same : l.batch ≡ batch = some_injective l.batch batch (sym l.is_logged ∙ logs_it q one) in
-      has_its_digest (sha256 batch) (prepare_of c s (whole s) v i q) (y.1 ∙ ap Some (sym l.digest ∙ ap sha256 same))
+    prepared : (s : ℕ) → is_correct_replica c s ≡ true → Prepared c s (whole s) v i batch
+    prepared s other = go (settled s other)
+      where
+        enough : Reaches c v i trace s → 2 * c.faults ≤ count_below (λ q. has_digest (sha256 batch) (prepare_of c s (whole s) v i q)) (replicas c)
+        enough comes =
+            let many : 2 * c.faults + 1 ≤ count_below (is_correct_replica c) (replicas c) = many_correct c setting in
+            let less = count_without (is_correct_replica c) p0 (replicas c) in
+            let more = count_mono (λ q. not (q == p0) && is_correct_replica c q) (λ q. has_digest (sha256 batch) (prepare_of c s (whole s) v i q)) (replicas c)
+            (λ q l h. let p = and_parts (not (q == p0)) (is_correct_replica c q) h in prepare_counts s q other p.1 comes (not-true (q == p0) p.0)) in
+            omega arith
 
-  prepared : (s : ℕ) → is_correct_replica c s ≡ true → Prepared c s (whole s) v i batch
-  prepared s other = go (settled s other)
-    where
-      enough : Reaches c v i trace s → 2 * c.faults ≤ count_below (λ q. has_digest (sha256 batch) (prepare_of c s (whole s) v i q)) (replicas c)
-      enough comes =
-          let many : 2 * c.faults + 1 ≤ count_below (is_correct_replica c) (replicas c) = many_correct c setting in
-          let less = count_without (is_correct_replica c) p0 (replicas c) in
-          let more = count_mono (λ q. not (q == p0) && is_correct_replica c q) (λ q. has_digest (sha256 batch) (prepare_of c s (whole s) v i q)) (replicas c)
-          (λ q l h. let p = and_parts (not (q == p0)) (is_correct_replica c q) h in prepare_counts s q other p.1 comes (not-true (q == p0) p.0)) in
-          omega arith
+        go : Committed c s (whole s) v i batch ⊎ Reaches c v i trace s → Prepared c s (whole s) v i batch
+        go (inl k) = k.prepared
+        go (inr comes) = record { logged = logs_it s other; backups = enough comes }
 
-      go : Committed c s (whole s) v i batch ⊎ Reaches c v i trace s → Prepared c s (whole s) v i batch
-      go (inl k) = k.prepared
-      go (inr comes) = record { logged = logs_it s other; backups = enough comes }
+    -- ---- each commits it
 
-  -- ---- each commits it
+    commits_it : (q : ℕ) → is_correct_replica c q ≡ true → Shared c q (Commit v i (sha256 batch)) (whole q)
+    commits_it q one = shares q one (Commit v i (sha256 batch)) f.newer f.outs (f.input ∷ f.before) f.is given_it
+      where
+        f : Flip c q (λ past. Prepared c q past v i batch) (whole q)
+        f = flips c q (λ past. Prepared c q past v i batch) (decide_prepared c q v i batch) (λ p. none_logged c q v i batch p.logged) (whole q) [] (point q one) (point q one) (proceeds q one) (prepared q one)
 
-  commits_it : (q : ℕ) → is_correct_replica c q ≡ true → Shared c q (Commit v i (sha256 batch)) (whole q)
-  commits_it q one = shares q one (Commit v i (sha256 batch)) f.newer f.outs (f.input ∷ f.before) f.is given_it
-    where
-      f : Flip c q (λ past. Prepared c q past v i batch) (whole q)
-      f = flips c q (λ past. Prepared c q past v i batch) (decide_prepared c q v i batch) (λ p. none_logged c q v i batch p.logged) (whole q) [] (point q one) (point q one) (proceeds q one) (prepared q one)
+        given_it : Gives q (Commit v i (sha256 batch)) f.outs
+        given_it = f.owes.commits v i batch f.not_yet f.holds (active q one f.newer (reverse f.outs ++ f.input ∷ f.before) batch f.is f.holds.logged)
 
-      given_it : Gives q (Commit v i (sha256 batch)) f.outs
-      given_it = f.owes.commits v i batch f.not_yet f.holds (active q one f.newer (reverse f.outs ++ f.input ∷ f.before) batch f.is f.holds.logged)
+    commit_counts : (s q : ℕ) → is_correct_replica c s ≡ true → is_correct_replica c q ≡ true → Reaches c v i trace s → commit_of c s (whole s) v i q ≡ Some (sha256 batch)
+    unfolding commit_of
+    commit_counts s q other one comes =
+        let x = comes q one (Commit v i (sha256 batch)) (is_commit (sha256 batch)) (commits_it q one) in
+        let y = votes s (record { sender = q; message = Commit v i (sha256 batch) }) x (commit_from q v i) (sha256 batch) (commits_digest q v i (sha256 batch)) in
+        let k = voter_commits c trace s q v i y.0 safe unforged other one y.1 in
+        let l = once_stays (Logs c q v i y.0) (logs_stay c q v i y.0) (whole q)
+        (once_weaker (CommitsAt c q v i y.0) (λ past e. Logs c q v i y.0 past) (λ past e t. record { batch = t.0.batch; is_logged = t.0.prepared.logged; digest = t.0.digest_is }) (whole q) k) in
+        let same : l.batch ≡ batch = some_injective l.batch batch (sym l.is_logged ∙ logs_it q one) in
+        y.1 ∙ ap Some (sym l.digest ∙ ap sha256 same)
 
-  commit_counts : (s q : ℕ) → is_correct_replica c s ≡ true → is_correct_replica c q ≡ true → Reaches c v i trace s → commit_of c s (whole s) v i q ≡ Some (sha256 batch)
-  unfolding commit_of
-  commit_counts s q other one comes =
-      let x = comes q one (Commit v i (sha256 batch)) (is_commit (sha256 batch)) (commits_it q one) in
-      let y = votes s (record { sender = q; message = Commit v i (sha256 batch) }) x (commit_from q v i) (sha256 batch) (commits_digest q v i (sha256 batch)) in
-      let k = voter_commits c trace s q v i y.0 safe unforged other one y.1 in
-      let l = once_stays (Logs c q v i y.0) (logs_stay c q v i y.0) (whole q)
-      (once_weaker (CommitsAt c q v i y.0) (λ past e. Logs c q v i y.0 past) (λ past e t. record { batch = t.0.batch; is_logged = t.0.prepared.logged; digest = t.0.digest_is }) (whole q) k) in
-      let same : l.batch ≡ batch = some_injective l.batch batch (sym l.is_logged ∙ logs_it q one) in
-      y.1 ∙ ap Some (sym l.digest ∙ ap sha256 same)
+    pub committed_by_log : (s : ℕ) → is_correct_replica c s ≡ true → Committed c s (whole s) v i batch
+    committed_by_log s other = go (settled s other)
+      where
+        enough : Reaches c v i trace s → 2 * c.faults + 1 ≤ count_below (λ q. has_digest (sha256 batch) (commit_of c s (whole s) v i q)) (replicas c)
+        enough comes =
+            let many : 2 * c.faults + 1 ≤ count_below (is_correct_replica c) (replicas c) = many_correct c setting in
+            let more = count_mono (is_correct_replica c) (λ q. has_digest (sha256 batch) (commit_of c s (whole s) v i q)) (replicas c)
+            (λ q l h. has_its_digest (sha256 batch) (commit_of c s (whole s) v i q) (commit_counts s q other h comes)) in
+            omega arith
 
-  pub committed : (s : ℕ) → is_correct_replica c s ≡ true → Committed c s (whole s) v i batch
-  committed s other = go (settled s other)
-    where
-      enough : Reaches c v i trace s → 2 * c.faults + 1 ≤ count_below (λ q. has_digest (sha256 batch) (commit_of c s (whole s) v i q)) (replicas c)
-      enough comes =
-          let many : 2 * c.faults + 1 ≤ count_below (is_correct_replica c) (replicas c) = many_correct c setting in
-          let more = count_mono (is_correct_replica c) (λ q. has_digest (sha256 batch) (commit_of c s (whole s) v i q)) (replicas c)
-          (λ q l h. has_its_digest (sha256 batch) (commit_of c s (whole s) v i q) (commit_counts s q other h comes)) in
-          omega arith
+        go : Committed c s (whole s) v i batch ⊎ Reaches c v i trace s → Committed c s (whole s) v i batch
+        go (inl k) = k
+        go (inr comes) = record { prepared = prepared s other; commits = enough comes; own = commit_counts s s other other comes }
 
-      go : Committed c s (whole s) v i batch ⊎ Reaches c v i trace s → Committed c s (whole s) v i batch
-      go (inl k) = k
-      go (inr comes) = record { prepared = prepared s other; commits = enough comes; own = commit_counts s s other other comes }
+  -- ---- where the primary gives it
+
+  module _ (begins : logged c (primary c v) (history_of (primary c v) trace) v i ≡ Some batch)
+      (gives : Shared c (primary c v) (PrePrepare v i batch) (history_of (primary c v) trace))
+      (genuine : (q : ℕ) → is_correct_replica c q ≡ true → are_genuine c q batch ≡ true) where
+    pub logs_it : (s : ℕ) → is_correct_replica c s ≡ true → logged c s (whole s) v i ≡ Some batch
+    logs_it s other = go (settled s other)
+      where
+        go : Committed c s (whole s) v i batch ⊎ Reaches c v i trace s → logged c s (whole s) v i ≡ Some batch
+        go (inl k) = k.prepared.logged
+        go (inr comes) =
+            let x = comes p0 from (PrePrepare v i batch) (is_batch batch) gives in
+            let y = logs s (record { sender = p0; message = PrePrepare v i batch }) x (prepares_batch c s v i batch (genuine s other)) in
+            let one = logged_was_offered c trace s v i y.0 safe unforged other from y.1 in
+            let two = logged_was_offered c trace p0 v i batch safe unforged from from begins in
+            let same : y.0 ≡ batch = some_injective y.0 batch (sym one ∙ two) in
+            y.1 ∙ ap Some same
+
+    pub committed : (s : ℕ) → is_correct_replica c s ≡ true → Committed c s (whole s) v i batch
+    committed s other = committed_by_log logs_it s other

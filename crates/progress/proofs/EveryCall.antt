@@ -10,7 +10,7 @@ use Rattle.reply_cache.specs.Replies.{Kept}
 use Rattle.wire.specs.Messages.{BodyData as Body, pre_prepare as PrePrepare}
 use Rattle.signing.proofs.Heard.{heard_was_opened}
 use Rattle.protocol.specs.System.Configuration.{Configuration, IsConfiguration, primary, is_number, is_correct_replica, is_correct_client, members}
-use Rattle.protocol.specs.System.Trace.{Entry, party_of, history_of, Once, SendsBody, Has, Unforged}
+use Rattle.protocol.specs.System.Trace.{Entry, party_of, history_of, Once, SendsBody, Unforged}
 use Rattle.protocol.specs.System.Trace.Entry.{Invoke, Got, Tick, Executed, Installed, Sent, Accepted}
 use Rattle.protocol.specs.System.Texts.{NoCollision}
 use Rattle.protocol.specs.System.Run.{IsRun, OnlyTheseStopped}

@@ -115,7 +115,7 @@ own_reached c me checkpoint (e ∷ past) point leaves h = go (checkpoint_in c e)
 -- ---- a low mark in the first view
 
 module _ (c : Configuration) (me : ℕ) where
-  stable_reached : (e : Entry) (past : List Entry) (point : Point) → Leaves c me (e ∷ past) point → stable_at c me past e ≤ reached (e ∷ past) me
+  pub stable_reached : (e : Entry) (past : List Entry) (point : Point) → Leaves c me (e ∷ past) point → stable_at c me past e ≤ reached (e ∷ past) me
   stable_reached e past point leaves = go (checkpoint_in c e)
     where
       test : (x : ℕ × CheckpointEntry) (b : Bool) → is_stable c me (e ∷ past) x.1 ≡ b → cond b x.1.number 0 ≤ reached (e ∷ past) me
@@ -126,7 +126,7 @@ module _ (c : Configuration) (me : ℕ) where
       go None = omega arith
       go (Some x) = test x (is_stable c me (e ∷ past) x.1) refl
 
-  installed_reached : (e : Entry) (past : List Entry) → party_of e ≡ me → installed_at e ≤ reached (e ∷ past) me
+  pub installed_reached : (e : Entry) (past : List Entry) → party_of e ≡ me → installed_at e ≤ reached (e ∷ past) me
   installed_reached (Installed r k root) past own = let here : cond (r == me) k 0 ≡ k = ap (λ (b : Bool). cond b k 0) (eq-eqb r me own) in omega arith
   installed_reached (Invoke x y z) past own = omega arith
   installed_reached (Got x y) past own = omega arith
@@ -279,7 +279,7 @@ module _ (c : Configuration) (setting : IsConfiguration c) (later start : List E
             in_marks h a b = and_from (nat_lt h i && nat_le i (h + span c)) (is_number i) (and_from (nat_lt h i) (nat_le i (h + span c)) (lt-ltb h i a) (le-leb i (h + span c) b)) given.number
 
         go : (b : Bool) → nat_lt (low c q (whole q)) i ≡ b → Committed c q (whole q) 0 i given.batch ⊎ Reaches c 0 i trace q
-        go true e = inr (reaches c setting later start is_run goes unforged 0 from stays all i given.batch given.says q correct (within (ltb-true (low c q (whole q)) i e)))
+        go true e = inr (reaches c setting later start is_run goes unforged 0 from stays all i q correct (within (ltb-true (low c q (whole q)) i e)))
         go false e = inl (left q correct (ltb-false (low c q (whole q)) i e))
 
     pub committed_first : (q : ℕ) → is_correct_replica c q ≡ true → Committed c q (whole q) 0 i given.batch

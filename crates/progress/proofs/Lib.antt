@@ -21,3 +21,17 @@ pub mod Resending
 pub mod Genuine
 pub mod FirstView
 pub mod EveryCall
+pub mod Gathering
+pub mod Happened
+pub mod Listing
+pub mod Within
+pub mod Leaving
+pub mod Entering
+pub mod Silence
+pub mod SilentView
+pub mod Choosing
+pub mod Changing
+pub mod Begun
+pub mod NextView
+pub mod Faults
+pub mod SecondView

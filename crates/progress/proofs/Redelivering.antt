@@ -81,13 +81,14 @@ module _ (c : Configuration) (setting : IsConfiguration c) (later start : List E
     leaves : Leaves c q (whole q) point
     leaves = proceeds_leaves c q (whole q) [] point point proceeds
 
-  active : (i q : ℕ) → is_correct_replica c q ≡ true → (newer now : List Entry) (b : List ℕ) → whole q ≡ newer ++ now → logged c q now v i ≡ Some b → is_active_in c now v ≡ true
+  pub active : (i q : ℕ) → is_correct_replica c q ≡ true → (newer now : List Entry) (b : List ℕ) → whole q ≡ newer ++ now → logged c q now v i ≡ Some b → is_active_in c now v ≡ true
   active i q one newer now b is h = active_once c q v i newer now b (point q one) (subst (λ (xs : List Entry). Leaves c q xs (point q one)) is (leaves q one)) (subst (λ (xs : List Entry). is_active_in c xs v ≡ true) is (stays q one).last) h
 
   -- ---- one number
 
-  module _ (i : ℕ) (batch : List ℕ) (says : Once (SendsBody (record { sender = primary c v; message = PrePrepare v i batch })) (later ++ start)) where
-    -- what is said of the number comes to a replica within whose marks it stays
+  -- what is said of a number comes to a replica within whose marks it stays
+
+  module _ (i : ℕ) where
     pub reaches : (s : ℕ) → is_correct_replica c s ≡ true → StaysInMarks c i later start s → Reaches c v i trace s
     reaches s other marks q one message of shared = go (q == s) refl
       where
@@ -128,6 +129,7 @@ module _ (c : Configuration) (setting : IsConfiguration c) (later start : List E
         go true e = own e
         go false e = got e
 
+  module _ (i : ℕ) (batch : List ℕ) (says : Once (SendsBody (record { sender = primary c v; message = PrePrepare v i batch })) (later ++ start)) where
     abbrev p0 : ℕ
     p0 = primary c v
 
@@ -158,7 +160,7 @@ module _ (c : Configuration) (setting : IsConfiguration c) (later start : List E
     committed_where settled genuine s other = committed_by c setting trace goes safe unforged v i batch from (active i) settled begins shared genuine s other
 
   pub committed : (i : ℕ) (given : IsGiven c v i later start) (s : ℕ) → is_correct_replica c s ≡ true → Committed c s (whole s) v i given.batch
-  committed i given s other = committed_where i given.batch given.says (λ x h. inr (reaches i given.batch given.says x h (given.each x h).0)) (λ q h. (given.each q h).1) s other
+  committed i given s other = committed_where i given.batch given.says (λ x h. inr (reaches i x h (given.each x h).0)) (λ q h. (given.each q h).1) s other
 
   -- ---- a replica comes to each number in turn
 

@@ -7,3 +7,9 @@ pub mod Redelivered
 pub mod Waiting
 pub mod FirstView
 pub mod EveryCall
+pub mod Leaving
+pub mod Changing
+pub mod Begun
+pub mod NextView
+pub mod SilentView
+pub mod SecondView
