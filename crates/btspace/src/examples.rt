@@ -2,6 +2,8 @@
 
 use crate::tests::clusters::{CLUSTER_SETTINGS, is_answered};
 use one_space::local;
+use space::Version;
+use std::alloc::Global;
 
 const LOCK_SCRIPT: &str = r#"# A lock on a printer: whoever has taken its one token holds it.
 
@@ -215,6 +217,54 @@ found ("job" "wash" 1)
 absent
 "#;
 
+const EVENTS_SCRIPT: &str =
+    r#"# Events that a collector takes in batches. It needs a space of version 2: btspace local --space 2.
+
+# Each event has an identifier of 128 bits, a wide number.
+out ("event" w73786976294838206465 "start")
+out ("event" w73786976294838206466 "load")
+out ("event" w73786976294838206467 "stop")
+
+# A wide number is of a kind of its own: ?int asks for another.
+rdp ("event" ?int ?text)
+rdp ("event" ?wide ?text)
+
+# An event that comes again changes nothing.
+cas ("event" w73786976294838206465 *) ("event" w73786976294838206465 "start")
+
+# The collector takes the oldest two events at once.
+inAll 2 ("event" ?wide ?text)
+
+# It takes all that are left, up to 64.
+inAll 64 ("event" ?wide ?text)
+
+# Nothing is left to take.
+inAll 64 ("event" ?wide ?text)
+
+# The numbers 3 and w3 are two values, and each is read by its own kind.
+out ("count" 3)
+out ("count" w3)
+rdp ("count" ?int)
+rdp ("count" ?wide)
+rdAll 64 ("count" *)
+"#;
+
+const EVENTS_RESULTS: &str = r#"done
+done
+done
+absent
+found ("event" w73786976294838206465 "start")
+swapped false
+all 2 ("event" w73786976294838206465 "start") ("event" w73786976294838206466 "load")
+all 1 ("event" w73786976294838206467 "stop")
+all 0
+done
+done
+found ("count" 3)
+found ("count" w3)
+all 2 ("count" 3) ("count" w3)
+"#;
+
 static ROWS: [(&str, &str); 5] = [
     (LOCK_SCRIPT, LOCK_RESULTS),
     (BARRIER_SCRIPT, BARRIER_RESULTS),
@@ -223,15 +273,22 @@ static ROWS: [(&str, &str); 5] = [
     (QUEUE_SCRIPT, QUEUE_RESULTS),
 ];
 
+// A cluster's space is of version 1, so these run on a space of its own alone.
+static WIDE_ROWS: [(&str, &str); 1] = [(EVENTS_SCRIPT, EVENTS_RESULTS)];
+
+fn is_run(alloc: Global, version: Version, row: &(&str, &str)) -> bool {
+    let mut written = Vec::new(alloc);
+    local(alloc, version, row.0.as_bytes(), &mut written).is_ok()
+        && written.as_slice() == row.1.as_bytes()
+}
+
 #[test]
 fn runs_the_examples(rt: HostRuntime) {
-    for (script, results) in &ROWS {
-        let mut written = Vec::new(rt.alloc());
-        assert!(rt;
-            local(rt.alloc(), script.as_bytes(), &mut written).is_ok(),
-            "{script}"
-        );
-        assert!(rt; written.as_slice() == results.as_bytes(), "{script}");
+    for row in &ROWS {
+        assert!(rt; is_run(rt.alloc(), Version::One, row), "{}", row.0);
+    }
+    for row in &WIDE_ROWS {
+        assert!(rt; is_run(rt.alloc(), Version::Two, row), "{}", row.0);
     }
 }
 

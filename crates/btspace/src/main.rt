@@ -4,8 +4,8 @@
 //!
 //! `local` and `show` are those of `one_space`. What `run` writes is a result line for each operation, in their order:
 //! that of the answer which the operation's client accepted to this call of its, in a trace of the cluster that is
-//! linearizable unless two different texts of it have one digest. At a fault it writes nothing, unless the writer failed.
-//! The status of words that are no request follows from why they are none.
+//! linearizable unless two different texts of it have one digest. At a fault it writes nothing, unless the writer
+//! failed. The status of words that are no request follows from why they are none.
 //!
 //! That a faulty party is refused before the script is read, and what is shown while it runs, is tested.
 #![tactic(auto)]
@@ -17,7 +17,7 @@ mod run;
 mod schedule;
 
 use cluster_run::{Open, is_faultless};
-use command_line::{NoRequest, Printed, Request, read_words};
+use command_line::{NoRequest, Printed, Request, SpaceVersion, read_words};
 use config_text::Settings;
 use display::Display;
 use events::Config;
@@ -27,6 +27,7 @@ use one_space::{
 };
 use run::{RunFault, most_operations, run};
 use schedule::{read_settings, schedule};
+use space::Version;
 use std::alloc::Global;
 use std::io::{IsTerminal, Read};
 use std::marker::Brand;
@@ -82,7 +83,7 @@ fn act_on<
         + 'static,
 >(rt: &R, is_terminal: bool, request: Request<'_>) -> u8 {
     match request {
-        Request::Local { script } => run_script(rt, script),
+        Request::Local { script, space } => run_script(rt, version_of(space), script),
         Request::Run { config, script } => run_on_cluster(rt, is_terminal, config, script),
         Request::Show { digits } => print_tuple(rt, digits),
         Request::Schedule {
@@ -90,6 +91,16 @@ fn act_on<
             file,
             printed,
         } => run_configured(rt, config, file, printed),
+    }
+}
+
+fn version_of(asked: SpaceVersion) -> Version
+    ensures one { asked ≡ SpaceVersion.One → result ≡ Version.One }
+    ensures two { asked ≡ SpaceVersion.Two → result ≡ Version.Two }
+{
+    match asked {
+        SpaceVersion::One => Version::One,
+        SpaceVersion::Two => Version::Two,
     }
 }
 

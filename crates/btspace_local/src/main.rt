@@ -3,8 +3,11 @@
 //! This program stands on one space, and so it is built long before the whole one, which has all commands.
 #![tactic(auto)]
 
-use command_line::{NoRequest, Request, read_words};
+ghost use Rattle.std.specs.Prelude.{◌≡◌};
+
+use command_line::{NoRequest, Request, SpaceVersion, read_words};
 use one_space::{Complaint, complain, print_tuple, run_script, words_of};
+use space::Version;
 use std::process::ExitCode;
 use std::rt::{Env, Files};
 
@@ -19,12 +22,22 @@ fn act_on_words<R: Files + Env + Input + Print + Eprint + AllocGlobal>(rt: &R) -
         Err(status) => return status,
     };
     match read_words(rt, words.as_slice()) {
-        Ok(Request::Local { script }) => run_script(rt, script),
+        Ok(Request::Local { script, space }) => run_script(rt, version_of(space), script),
         Ok(Request::Show { digits }) => print_tuple(rt, digits),
         Ok(Request::Run { .. } | Request::Schedule { .. }) => refuse_command(rt),
         Err(NoRequest::Shown) => 0,
         Err(NoRequest::Wrong) => 2,
         Err(NoRequest::Stopped) => complain(rt, Complaint::Stopped),
+    }
+}
+
+fn version_of(asked: SpaceVersion) -> Version
+    ensures one { asked ≡ SpaceVersion.One → result ≡ Version.One }
+    ensures two { asked ≡ SpaceVersion.Two → result ≡ Version.Two }
+{
+    match asked {
+        SpaceVersion::One => Version::One,
+        SpaceVersion::Two => Version::Two,
     }
 }
 

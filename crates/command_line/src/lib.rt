@@ -5,12 +5,14 @@
 //! # What is proved
 //!
 //! `read_words` is safe and returns, on any words. Of `clap`'s errors want of memory gives `Stopped`, only help and
-//! the version give `Shown`, and neither of them gives `Wrong` (`say`). Which words are a request, that not all others
-//! are `Stopped`, and what is printed is tested in `btspace`.
+//! the version give `Shown`, and neither of them gives `Wrong` (`say`). A space is of version 2 exactly if `--space`
+//! has the value 2 (`request_in`). Which words are a request, that not all others are `Stopped`, which values `--space`
+//! takes, and what is printed is tested in `btspace`.
 #![tactic(auto)]
 
-ghost use Rattle.std.specs.Prelude.{◌≡◌, ◌≢◌, ◌⊎◌};
+ghost use Rattle.std.specs.Prelude.{◌≡◌, ◌≢◌, ◌⊎◌, IfSome};
 ghost use Rattle.clap.specs.Values.{kind_of};
+ghost use Rattle.command_line.specs.Requests.{AsksFor, HasVersion};
 
 use clap::error::ErrorKind;
 use clap::{Arg, ArgAction, ArgMatches, Command, Error};
@@ -20,9 +22,10 @@ use std::convert::AsStr;
 /// What the words ask for.
 #[derive(Clone, Copy, Debug, PartialEq, Eq)]
 pub enum Request<'a> {
-    /// The script at this path is to be run.
+    /// The script at this path is to be run on a space of this version.
     Local {
         script: &'a str,
+        space: SpaceVersion,
     },
     /// The tuple of these digits is to be shown.
     Show {
@@ -39,6 +42,13 @@ pub enum Request<'a> {
         file: &'a str,
         printed: Printed,
     },
+}
+
+/// The version of a space that is asked for.
+#[derive(Clone, Copy, Debug, PartialEq, Eq)]
+pub enum SpaceVersion {
+    One,
+    Two,
 }
 
 /// What is printed of a run.
@@ -88,10 +98,13 @@ fn request_of<'a, S: AsStr>(alloc: Global, words: &'a [S]) -> Result<Request<'a>
 }
 
 // The request of a subcommand, whose arguments are required.
-fn request_in<'a>(name: &str, given: &ArgMatches<'a>) -> Option<Request<'a>> {
+fn request_in<'a>(name: &str, given: &ArgMatches<'a>) -> Option<Request<'a>>
+    ensures version { IfSome result (HasVersion given.now) }
+{
     if name == "local" {
         Some(Request::Local {
             script: given.get_str("SCRIPT")?,
+            space: space_version(given),
         })
     } else if name == "run" {
         Some(Request::Run {
@@ -108,6 +121,17 @@ fn request_in<'a>(name: &str, given: &ArgMatches<'a>) -> Option<Request<'a>> {
             file: given.get_str("FILE")?,
             printed: printed_of(given),
         })
+    }
+}
+
+// The option has the value 1 if the words don't name it.
+fn space_version(given: &ArgMatches<'_>) -> SpaceVersion
+    ensures { AsksFor given.now result }
+{
+    if given.get_str("space") == Some("2") {
+        SpaceVersion::Two
+    } else {
+        SpaceVersion::One
     }
 }
 
@@ -134,12 +158,21 @@ fn program<'a>(alloc: Global) -> Result<Command<'a>, AllocError> {
         .subcommand(show(alloc)?)
 }
 
+static SPACE_VERSIONS: [&str; 2] = ["1", "2"];
+
 fn local<'a>(alloc: Global) -> Result<Command<'a>, AllocError> {
     let script = Arg::new(alloc, "SCRIPT")
         .required(true)
         .help("The file of the script, a line for each operation");
+    let space = Arg::new(alloc, "space")
+        .long("space")
+        .value_name("VERSION")
+        .value_parser(SPACE_VERSIONS.as_slice())
+        .default_value("1")
+        .help("The version of the space; one of version 2 also takes wide numbers and inAll");
     Command::new(alloc, "local")
         .about("Runs a script on a space of its own and prints a result line for each operation")
+        .arg(space)?
         .arg(script)
 }
 

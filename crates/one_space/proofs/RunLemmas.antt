@@ -9,7 +9,7 @@ use Rattle.tuple_codec.specs.Operations.{Operation}
 use Rattle.tuple_codec.specs.OperationView.{operation_of}
 use Rattle.tuple_text.specs.Lines.{IsLine}
 use Rattle.tuple_text.specs.declared.faults.LineFault.TheVariants.{TooLong}
-use Rattle.space.specs.Applying.{Contents, no_tuples, outcome, tuples_after}
+use Rattle.space.specs.Applying.{Contents, outcome, tuples_after}
 use Rattle.space.specs.Births.{SpaceState, tuples_of, state_after}
 use Rattle.one_space.specs.Run.{Ending, complete, refused_at, cut_short, result_line, Runs, at_end, stops, skips, answers, refuses, is_late}
 use Rattle.one_space.specs.NextLines.{Gives, Fails, BeginsWith, IsNextLine}
@@ -27,31 +27,31 @@ use Rattle.std.specs.declared.alloc.Global.{Global}
 use Rattle.space.proofs.Batches.{next_after}
 use Rattle.space.proofs.Keeping.{tuples_of-state_after}
 
-pub starts_out : (known old : Option (List ℕ)) → IfSome known (λ bytes. Along bytes known old old 1 no_tuples [])
-starts_out None old = tt
-starts_out (Some bytes) old = record { rest = bytes; done = []; known_is = refl; wrote = Appends-nil old; leads = λ more ending r. r }
+pub starts_out : (initial : Contents) (known old : Option (List ℕ)) → IfSome known (λ bytes. Along initial bytes known old old 1 initial [])
+starts_out initial None old = tt
+starts_out initial (Some bytes) old = record { rest = bytes; done = []; known_is = refl; wrote = Appends-nil old; leads = λ more ending r. r }
 
-module _ (bytes : List ℕ) (known old new : Option (List ℕ)) (n : ℕ) (ts : Contents) (pending : List ℕ) (along : Along bytes known old new n ts pending) where
+module _ (initial : Contents) (bytes : List ℕ) (known old new : Option (List ℕ)) (n : ℕ) (ts : Contents) (pending : List ℕ) (along : Along initial bytes known old new n ts pending) where
   -- nothing more is written
-  adds : (ending : Ending) → Runs n ts (lines along.rest) [] ending → AddsResults bytes ending old new pending
-  adds ending r = (along.done, subst (λ w. Runs 1 no_tuples (lines bytes) w ending) (append-nil (along.done ++ pending)) (along.leads [] ending r), along.wrote)
+  adds : (ending : Ending) → Runs n ts (lines along.rest) [] ending → AddsResults initial bytes ending old new pending
+  adds ending r = (along.done, subst (λ w. Runs 1 initial (lines bytes) w ending) (append-nil (along.done ++ pending)) (along.leads [] ending r), along.wrote)
 
-  pub at_last : lines along.rest ≡ [] → AddsResults bytes complete old new pending
+  pub at_last : lines along.rest ≡ [] → AddsResults initial bytes complete old new pending
   at_last e = adds complete (subst (λ ls. Runs n ts ls [] complete) (sym e) at_end)
 
-  pub cut : AddsResults bytes cut_short old new pending
+  pub cut : AddsResults initial bytes cut_short old new pending
   cut = adds cut_short stops
 
-  pub late : 2 ^ 48 ≤ n → BeginsWith (λ _. Unit {0}) along.rest → AddsResults bytes (refused_at n TooLong) old new pending
+  pub late : 2 ^ 48 ≤ n → BeginsWith (λ _. Unit {0}) along.rest → AddsResults initial bytes (refused_at n TooLong) old new pending
   late h b = adds (refused_at n TooLong) (subst (λ ls. Runs n ts ls [] (refused_at n TooLong)) (sym b.split) (is_late h))
 
-  pub failed : (failure : NoLine) → n < 2 ^ 48 → Fails failure along.rest → StopsBy (fault_at n failure) bytes old new pending
+  pub failed : (failure : NoLine) → n < 2 ^ 48 → Fails failure along.rest → StopsBy (fault_at n failure) initial bytes old new pending
   failed (no.Refused fault) below f =
       adds (refused_at n fault) (subst (λ ls. Runs n ts ls [] (refused_at n fault)) (sym f.1.split) (refuses below f.0 f.1.holds))
   failed no.NoMemory below f = cut
   failed (no.Read error) below f = cut
 
-  pub past_skipped : (left : Option (List ℕ)) → n < 2 ^ 48 → Gives next.Skipped along.rest left → Along bytes left old new (n + 1) ts pending
+  pub past_skipped : (left : Option (List ℕ)) → n < 2 ^ 48 → Gives next.Skipped along.rest left → Along initial bytes left old new (n + 1) ts pending
   past_skipped left below given = record {
     rest = given.1.rest;
     done = along.done;
@@ -61,7 +61,7 @@ module _ (bytes : List ℕ) (known old new : Option (List ℕ)) (n : ℕ) (ts : 
   }
 
   pub past_operation : (left : Option (List ℕ)) (o : Operation) (first : List ℕ) (more_pending : List ℕ) (after : Contents) → n < 2 ^ 48 → IsNextLine first along.rest left
-      → IsLine o first → after ≡ tuples_after ts o → more_pending ≡ pending ++ result_line (outcome ts o) → Along bytes left old new (n + 1) after more_pending
+      → IsLine o first → after ≡ tuples_after ts o → more_pending ≡ pending ++ result_line (outcome ts o) → Along initial bytes left old new (n + 1) after more_pending
   past_operation left o first more_pending after below given is_line e w = record {
     rest = given.rest;
     done = along.done;
@@ -70,21 +70,21 @@ module _ (bytes : List ℕ) (known old new : Option (List ℕ)) (n : ℕ) (ts : 
     leads = λ more ending r.
         let answered = along.leads (result_line (outcome ts o) ++ more) ending
         (subst (λ ls. Runs n ts ls (result_line (outcome ts o) ++ more) ending) (sym given.split) (answers o below is_line (subst (λ us. Runs (n + 1) us (lines given.rest) more ending) e r))) in
-        subst (λ l. Runs 1 no_tuples (lines bytes) l ending)
+        subst (λ l. Runs 1 initial (lines bytes) l ending)
         (sym (append_assoc (along.done ++ pending) (result_line (outcome ts o)) more) ∙ ap (λ l. l ++ more) (append_assoc along.done pending (result_line (outcome ts o)) ∙ ap (λ l. along.done ++ l) (sym w)))
         answered;
   }
 
 -- A front of what was pending went to the writer.
-pub moved : (bytes : List ℕ) (known old new written : Option (List ℕ)) (n : ℕ) (ts : Contents) (pending still : List ℕ)
-    → Along bytes known old new n ts pending → MovesOn new written pending still → Along bytes known old written n ts still
-moved bytes known old new written n ts pending still along moves = record {
+pub moved : (initial : Contents) (bytes : List ℕ) (known old new written : Option (List ℕ)) (n : ℕ) (ts : Contents) (pending still : List ℕ)
+    → Along initial bytes known old new n ts pending → MovesOn new written pending still → Along initial bytes known old written n ts still
+moved initial bytes known old new written n ts pending still along moves = record {
   rest = along.rest;
   done = along.done ++ moves.gone;
   known_is = along.known_is;
   wrote = Appends-trans old new written along.done moves.gone along.wrote moves.wrote;
   leads = λ more ending r.
-      subst (λ l. Runs 1 no_tuples (lines bytes) (l ++ more) ending) (ap (λ l. along.done ++ l) (sym moves.split) ∙ sym (append_assoc along.done moves.gone still)) (along.leads more ending r);
+      subst (λ l. Runs 1 initial (lines bytes) (l ++ more) ending) (ap (λ l. along.done ++ l) (sym moves.split) ∙ sym (append_assoc along.done moves.gone still)) (along.leads more ending r);
 }
 
 -- Nothing went to the writer, or all.
@@ -99,29 +99,29 @@ moves_all old new held still appended none = record {
 }
 
 -- what a step of the run says of the bytes that are left, where they are known
-pub known_of : (P : List ℕ → Type 0) (bytes : List ℕ) (known old new : Option (List ℕ)) (n : ℕ) (ts : Contents) (pending : List ℕ)
-    (along : Along bytes known old new n ts pending) → IfSome known P → P along.rest
-known_of P bytes known old new n ts pending along h = subst (λ o. IfSome o P) along.known_is h
+pub known_of : (P : List ℕ → Type 0) (initial : Contents) (bytes : List ℕ) (known old new : Option (List ℕ)) (n : ℕ) (ts : Contents) (pending : List ℕ)
+    (along : Along initial bytes known old new n ts pending) → IfSome known P → P along.rest
+known_of P initial bytes known old new n ts pending along h = subst (λ o. IfSome o P) along.known_is h
 
 pub each_known : (P Q : List ℕ → Type 0) (start : Option (List ℕ)) → ((bytes : List ℕ) → P bytes → Q bytes) → IfSome start P → IfSome start Q
 each_known P Q None f h = tt
 each_known P Q (Some bytes) f h = f bytes h
 
-pub at_number : (start known old new : Option (List ℕ)) (n m : ℕ) (ts : Contents) (pending : List ℕ) → n ≡ m
-    → IfSome start (λ bytes. Along bytes known old new n ts pending)
-    → IfSome start (λ bytes. Along bytes known old new m ts pending)
-at_number start known old new n m ts pending e h =
-    subst (λ k. IfSome start (λ bytes. Along bytes known old new k ts pending)) e h
+pub at_number : (initial : Contents) (start known old new : Option (List ℕ)) (n m : ℕ) (ts : Contents) (pending : List ℕ) → n ≡ m
+    → IfSome start (λ bytes. Along initial bytes known old new n ts pending)
+    → IfSome start (λ bytes. Along initial bytes known old new m ts pending)
+at_number initial start known old new n m ts pending e h =
+    subst (λ k. IfSome start (λ bytes. Along initial bytes known old new k ts pending)) e h
 
 -- an operation raises the next birth number by 257 at the most
 pub state_after_next : (s : SpaceState) (o : Operation) → (state_after s o).next ≤ s.next + 257
 state_after_next s o = omega (arith, next_after s o)
 
 -- What reading the next line tells of the bytes that are left.
-module _ (bytes : List ℕ) (known old new : Option (List ℕ)) (n : ℕ) (ts : Contents) (pending : List ℕ) (along : Along bytes known old new n ts pending)
+module _ (initial : Contents) (bytes : List ℕ) (known old new : Option (List ℕ)) (n : ℕ) (ts : Contents) (pending : List ℕ) (along : Along initial bytes known old new n ts pending)
     (left : Option (List ℕ)) (result : Result NextLine NoLine) (read : IfSome known (λ xs. MatchResult result (λ x. Gives x xs left) (λ why. Fails why xs))) where
   told : MatchResult result (λ x. Gives x along.rest left) (λ why. Fails why along.rest)
-  told = known_of (λ xs. MatchResult result (λ x. Gives x xs left) (λ why. Fails why xs)) bytes known old new n ts pending along read
+  told = known_of (λ xs. MatchResult result (λ x. Gives x xs left) (λ why. Fails why xs)) initial bytes known old new n ts pending along read
 
   gives : (field x : NextLine) → result ≡ Ok field → field ≡ x → Gives x along.rest left
   gives field x e f =
@@ -130,35 +130,35 @@ module _ (bytes : List ℕ) (known old new : Option (List ℕ)) (n : ℕ) (ts : 
   fails : (why : NoLine) → result ≡ Err why → Fails why along.rest
   fails why e = subst (λ r. MatchResult r (λ y. Gives y along.rest left) (λ why. Fails why along.rest)) e told
 
-  pub ends : (field : NextLine) → result ≡ Ok field → field ≡ next.End → AddsResults bytes complete old new pending
-  ends field e f = at_last bytes known old new n ts pending along (gives field next.End e f)
+  pub ends : (field : NextLine) → result ≡ Ok field → field ≡ next.End → AddsResults initial bytes complete old new pending
+  ends field e f = at_last initial bytes known old new n ts pending along (gives field next.End e f)
 
-  pub skips_on : (field : NextLine) → n < 2 ^ 48 → result ≡ Ok field → field ≡ next.Skipped → Along bytes left old new (n + 1) ts pending
-  skips_on field below e f = past_skipped bytes known old new n ts pending along left below (gives field next.Skipped e f)
+  pub skips_on : (field : NextLine) → n < 2 ^ 48 → result ≡ Ok field → field ≡ next.Skipped → Along initial bytes left old new (n + 1) ts pending
+  skips_on field below e f = past_skipped initial bytes known old new n ts pending along left below (gives field next.Skipped e f)
 
-  pub fails_so : (why : NoLine) → n < 2 ^ 48 → result ≡ Err why → StopsBy (fault_at n why) bytes old new pending
-  fails_so why below e = failed bytes known old new n ts pending along why below (fails why e)
+  pub fails_so : (why : NoLine) → n < 2 ^ 48 → result ≡ Err why → StopsBy (fault_at n why) initial bytes old new pending
+  fails_so why below e = failed initial bytes known old new n ts pending along why below (fails why e)
 
   pub runs_on : (field : NextLine) (op : Op Global) (after before : SpaceState) (more_pending : List ℕ) → n < 2 ^ 48
       → result ≡ Ok field → field ≡ next.Operation op → ts ≡ tuples_of before
       → after ≡ state_after before (operation_of op)
       → more_pending ≡ pending ++ result_line (outcome ts (operation_of op))
-      → Along bytes left old new (n + 1) (tuples_of after) more_pending
+      → Along initial bytes left old new (n + 1) (tuples_of after) more_pending
   runs_on field op after before more_pending below e f t s w =
       let given = gives field (next.Operation op) e f in
       let is_after : tuples_of after ≡ tuples_after ts (operation_of op) =
       ap tuples_of s
       ∙ (tuples_of-state_after before (operation_of op) ∙ ap (λ us. tuples_after us (operation_of op)) (sym t)) in
-      past_operation bytes known old new n ts pending along left (operation_of op) given.0 more_pending
+      past_operation initial bytes known old new n ts pending along left (operation_of op) given.0 more_pending
       (tuples_of after) below given.1 given.2 is_after w
 
-  pub stops_keeping : (still : List ℕ) → still ≡ pending → AddsResults bytes cut_short old new still
+  pub stops_keeping : (still : List ℕ) → still ≡ pending → AddsResults initial bytes cut_short old new still
   stops_keeping still e =
-      subst (λ p. AddsResults bytes cut_short old new p) (sym e) (cut bytes known old new n ts pending along)
+      subst (λ p. AddsResults initial bytes cut_short old new p) (sym e) (cut initial bytes known old new n ts pending along)
 
 -- What is left behind the last line that there may be.
-module _ (bytes : List ℕ) (known old new : Option (List ℕ)) (n : ℕ) (ts : Contents) (pending : List ℕ)
-    (along : Along bytes known old new n ts pending) (result : Result Bool ReadFault)
+module _ (initial : Contents) (bytes : List ℕ) (known old new : Option (List ℕ)) (n : ℕ) (ts : Contents) (pending : List ℕ)
+    (along : Along initial bytes known old new n ts pending) (result : Result Bool ReadFault)
     (more : IfSome known (λ xs. IfOk result (λ is_more.
     MatchBool is_more (BeginsWith (λ _. Unit {0}) xs) (lines xs ≡ [])))) where
   left_behind : (field : Bool) → result ≡ Ok field
@@ -167,66 +167,71 @@ module _ (bytes : List ℕ) (known old new : Option (List ℕ)) (n : ℕ) (ts : 
       let LeftBehind : List ℕ → Bool → Type 0 =
       λ xs is_more. MatchBool is_more (BeginsWith (λ _. Unit {0}) xs) (lines xs ≡ []) in
       subst (λ r. IfOk r (LeftBehind along.rest)) e
-      (known_of (λ xs. IfOk result (LeftBehind xs)) bytes known old new n ts pending along more)
+      (known_of (λ xs. IfOk result (LeftBehind xs)) initial bytes known old new n ts pending along more)
 
   pub one_too_many : (field : Bool) → result ≡ Ok field → field ≡ true → 2 ^ 48 ≤ n
-      → AddsResults bytes (refused_at n TooLong) old new pending
+      → AddsResults initial bytes (refused_at n TooLong) old new pending
   one_too_many field e f low =
-      late bytes known old new n ts pending along low
+      late initial bytes known old new n ts pending along low
       (subst (λ b. MatchBool b (BeginsWith (λ _. Unit {0}) along.rest) (lines along.rest ≡ [])) f (left_behind field e))
 
-  pub none_left : (field : Bool) → result ≡ Ok field → field ≡ false → AddsResults bytes complete old new pending
+  pub none_left : (field : Bool) → result ≡ Ok field → field ≡ false → AddsResults initial bytes complete old new pending
   none_left field e f =
-      at_last bytes known old new n ts pending along
+      at_last initial bytes known old new n ts pending along
       (subst (λ b. MatchBool b (BeginsWith (λ _. Unit {0}) along.rest) (lines along.rest ≡ [])) f (left_behind field e))
 
-  pub not_read : (fault : ReadFault) → StopsBy (read_fault_of fault) bytes old new pending
-  not_read pieces.NoMemory = cut bytes known old new n ts pending along
-  not_read (pieces.Read error) = cut bytes known old new n ts pending along
+  pub not_read : (fault : ReadFault) → StopsBy (read_fault_of fault) initial bytes old new pending
+  not_read pieces.NoMemory = cut initial bytes known old new n ts pending along
+  not_read (pieces.Read error) = cut initial bytes known old new n ts pending along
 
 -- The results that were pending are written too.
-module _ (start old new written : Option (List ℕ)) (pending : List ℕ) (appended : Appends new written pending) where
-  all_written : (bytes : List ℕ) (ending : Ending) → AddsResults bytes ending old new pending → AddsResults bytes ending old written []
+module _ (initial : Contents) (start old new written : Option (List ℕ)) (pending : List ℕ) (appended : Appends new written pending) where
+  all_written : (bytes : List ℕ) (ending : Ending) → AddsResults initial bytes ending old new pending → AddsResults initial bytes ending old written []
   all_written bytes ending a =
-      (a.0 ++ pending, subst (λ w. Runs 1 no_tuples (lines bytes) w ending) (sym (append-nil (a.0 ++ pending))) a.1, Appends-trans old new written a.0 pending a.2 appended)
+      (a.0 ++ pending, subst (λ w. Runs 1 initial (lines bytes) w ending) (sym (append-nil (a.0 ++ pending))) a.1, Appends-trans old new written a.0 pending a.2 appended)
 
-  pub written_at_last : (e : Ending) → IfSome start (λ bytes. AddsResults bytes e old new pending) → IfSome start (λ bytes. AddsResults bytes e old written [])
+  pub written_at_last : (e : Ending) → IfSome start (λ bytes. AddsResults initial bytes e old new pending) → IfSome start (λ bytes. AddsResults initial bytes e old written [])
   written_at_last e h =
-      each_known (λ bytes. AddsResults bytes e old new pending) (λ bytes. AddsResults bytes e old written []) start (λ bytes a. all_written bytes e a) h
+      each_known (λ bytes. AddsResults initial bytes e old new pending) (λ bytes. AddsResults initial bytes e old written []) start (λ bytes a. all_written bytes e a) h
 
-  stops_written : (bytes : List ℕ) (fault : LocalFault) → StopsBy fault bytes old new pending → StopsBy fault bytes old written []
+  stops_written : (bytes : List ℕ) (fault : LocalFault) → StopsBy fault initial bytes old new pending → StopsBy fault initial bytes old written []
   stops_written bytes (local.Refused line fault) a = all_written bytes (refused_at line fault) a
   stops_written bytes local.NoMemory a = all_written bytes cut_short a
   stops_written bytes (local.Read error) a = all_written bytes cut_short a
   stops_written bytes (local.Write error) a = tt
 
-  pub written_at_fault : (fault : LocalFault) → IfSome start (λ bytes. StopsBy fault bytes old new pending) → IfSome start (λ bytes. StopsBy fault bytes old written [])
+  pub written_at_fault : (fault : LocalFault) → IfSome start (λ bytes. StopsBy fault initial bytes old new pending) → IfSome start (λ bytes. StopsBy fault initial bytes old written [])
   written_at_fault fault h =
-      each_known (λ bytes. StopsBy fault bytes old new pending) (λ bytes. StopsBy fault bytes old written []) start (λ bytes a. stops_written bytes fault a) h
+      each_known (λ bytes. StopsBy fault initial bytes old new pending) (λ bytes. StopsBy fault initial bytes old written []) start (λ bytes a. stops_written bytes fault a) h
 
 -- nothing is promised where the writer failed
-pub write_stops : (bytes : List ℕ) (old written : Option (List ℕ)) (left : List ℕ) (fault : LocalFault)
-    → IsWriteFault fault → StopsBy fault bytes old written left
-write_stops bytes old written left (local.Refused line fault) h = absurd h
-write_stops bytes old written left local.NoMemory h = absurd h
-write_stops bytes old written left (local.Read error) h = absurd h
-write_stops bytes old written left (local.Write error) h = tt
+pub write_stops : (initial : Contents) (bytes : List ℕ) (old written : Option (List ℕ)) (left : List ℕ) (fault : LocalFault)
+    → IsWriteFault fault → StopsBy fault initial bytes old written left
+write_stops initial bytes old written left (local.Refused line fault) h = absurd h
+write_stops initial bytes old written left local.NoMemory h = absurd h
+write_stops initial bytes old written left (local.Read error) h = absurd h
+write_stops initial bytes old written left (local.Write error) h = tt
 
-pub write_fault : (start old written : Option (List ℕ)) (left : List ℕ) (fault : LocalFault)
-    → IsWriteFault fault → IfSome start (λ bytes. StopsBy fault bytes old written left)
-write_fault None old written left fault h = tt
-write_fault (Some bytes) old written left fault h = write_stops bytes old written left fault h
+pub write_fault : (initial : Contents) (start old written : Option (List ℕ)) (left : List ℕ) (fault : LocalFault)
+    → IsWriteFault fault → IfSome start (λ bytes. StopsBy fault initial bytes old written left)
+write_fault initial None old written left fault h = tt
+write_fault initial (Some bytes) old written left fault h = write_stops initial bytes old written left fault h
 
-pub no_start : (start old : Option (List ℕ)) → IfSome start (λ bytes. AddsResults bytes cut_short old old [])
-no_start None old = tt
-no_start (Some bytes) old = ([], stops, Appends-nil old)
+pub no_start : (initial : Contents) (start old : Option (List ℕ)) → IfSome start (λ bytes. AddsResults initial bytes cut_short old old [])
+no_start initial None old = tt
+no_start initial (Some bytes) old = ([], stops, Appends-nil old)
 
 -- The writer took what was pending, or failed.
-pub ends_written : (start old new written : Option (List ℕ)) (pending : List ℕ) (result : Result (Unit {0}) LocalFault)
-    → OnOk result (Appends new written pending) → IfErr result IsWriteFault → IfSome start (λ bytes. AddsResults bytes complete old new pending)
-    → IfSome start (λ bytes. MatchResult result (λ _. AddsResults bytes complete old written []) (λ fault. StopsBy fault bytes old written []))
-ends_written start old new written pending (Ok u) a f h = written_at_last start old new written pending a complete h
-ends_written start old new written pending (Err fault) a f h = write_fault start old written [] fault f
+pub ends_written : (initial : Contents) (start old new written : Option (List ℕ)) (pending : List ℕ) (result : Result (Unit {0}) LocalFault)
+    → OnOk result (Appends new written pending) → IfErr result IsWriteFault → IfSome start (λ bytes. AddsResults initial bytes complete old new pending)
+    → IfSome start (λ bytes. MatchResult result (λ _. AddsResults initial bytes complete old written []) (λ fault. StopsBy fault initial bytes old written []))
+ends_written initial start old new written pending (Ok u) a f h = written_at_last initial start old new written pending a complete h
+ends_written initial start old new written pending (Err fault) a f h = write_fault initial start old written [] fault f
+
+-- What a run says of what the space held and of the bytes is so of what these are equal to.
+pub of_equals : (P : Contents → List ℕ → Type 0) (from to : Contents) (known start : Option (List ℕ)) → from ≡ to → known ≡ start
+    → IfSome known (P from) → IfSome start (P to)
+of_equals P from to known start e f h = subst (λ ts. IfSome start (P ts)) e (subst (λ s. IfSome s (P from)) f h)
 
 -- A new buffer holds nothing back.
 pub new_remaining : {T A : Type 0} (remaining : T → Option (List ℕ)) (reader : BufReader T A) (inner : T) → reader_inner reader ≡ inner → reader_buffer reader ≡ [] → reader_capacity reader ≡ 8192

@@ -2,7 +2,7 @@
 use Rattle.std.specs.Prelude.{◌≡◌, ℕ, List, [], ◌++◌, Option, Some, IfSome, Result, MatchResult, Contains}
 use Rattle.std.specs.Str.Lines.{lines}
 use Rattle.std.specs.Io.KnownBytes.{Appends}
-use Rattle.space.specs.Applying.{Contents, no_tuples}
+use Rattle.space.specs.Applying.{Contents}
 use Rattle.one_space.specs.Run.{Ending, complete, refused_at, cut_short, Runs}
 use Rattle.one_space.specs.declared.input.NoLine.{NoLine}
 use Rattle.one_space.specs.declared.input.NoLine.TheVariants as no
@@ -11,27 +11,31 @@ use Rattle.one_space.specs.declared.pieces.ReadFault.TheVariants as pieces
 use Rattle.one_space.specs.declared.session.LocalFault.{LocalFault}
 use Rattle.one_space.specs.declared.session.LocalFault.TheVariants.{Refused, NoMemory, Read, Write}
 
--- The result lines of a run over the bytes that ends so were added, but for the last ones, which are pending.
-abbrev pub AddsResults : List ℕ → Ending → Option (List ℕ) → Option (List ℕ) → List ℕ → Type 0
-AddsResults bytes ending old new pending =
-    (done : List ℕ) × Runs 1 no_tuples (lines bytes) (done ++ pending) ending × Appends old new done
+-- The result lines of a run over the bytes that ends so were added, but for the last ones, which are pending. The run
+-- begins with what the space holds initially.
+abbrev pub AddsResults : Contents → List ℕ → Ending → Option (List ℕ) → Option (List ℕ) → List ℕ → Type 0
+AddsResults initial bytes ending old new pending =
+    (done : List ℕ) × Runs 1 initial (lines bytes) (done ++ pending) ending × Appends old new done
 
-abbrev pub StopsBy : LocalFault → List ℕ → Option (List ℕ) → Option (List ℕ) → List ℕ → Type 0
-StopsBy (Refused line fault) bytes old new pending = AddsResults bytes (refused_at line fault) old new pending
-StopsBy NoMemory bytes old new pending = AddsResults bytes cut_short old new pending
-StopsBy (Read error) bytes old new pending = AddsResults bytes cut_short old new pending
-StopsBy (Write error) bytes old new pending = Unit {0}
+abbrev pub StopsBy : LocalFault → Contents → List ℕ → Option (List ℕ) → Option (List ℕ) → List ℕ → Type 0
+StopsBy (Refused line fault) initial bytes old new pending = AddsResults initial bytes (refused_at line fault) old new pending
+StopsBy NoMemory initial bytes old new pending = AddsResults initial bytes cut_short old new pending
+StopsBy (Read error) initial bytes old new pending = AddsResults initial bytes cut_short old new pending
+StopsBy (Write error) initial bytes old new pending = Unit {0}
 
 -- A run over the bytes went to their end, or stopped by the fault.
-abbrev pub EndsRun : Result (Unit {0}) LocalFault → List ℕ → Option (List ℕ) → Option (List ℕ) → List ℕ → Type 0
-EndsRun result bytes old new pending =
-    MatchResult result (λ _. AddsResults bytes complete old new pending) (λ fault. StopsBy fault bytes old new pending)
+abbrev pub EndsRun : Result (Unit {0}) LocalFault → Contents → List ℕ
+    → Option (List ℕ) → Option (List ℕ) → List ℕ → Type 0
+EndsRun result initial bytes old new pending =
+    MatchResult result
+    (λ _. AddsResults initial bytes complete old new pending)
+    (λ fault. StopsBy fault initial bytes old new pending)
 
 -- A run over the reader's bytes ends, where they are known.
-abbrev pub EndsKnown : {W : Type 0} → (W → Option (List ℕ)) → Result (Unit {0}) LocalFault
+abbrev pub EndsKnown : {W : Type 0} → (W → Option (List ℕ)) → Result (Unit {0}) LocalFault → Contents
     → Option (List ℕ) → W → W → List ℕ → Type 0
-EndsKnown contents result known old new pending =
-    IfSome known (λ bytes. EndsRun result bytes (contents old) (contents new) pending)
+EndsKnown contents result initial known old new pending =
+    IfSome known (λ bytes. EndsRun result initial bytes (contents old) (contents new) pending)
 
 -- the fault of a line of this number
 abbrev pub fault_at : ℕ → NoLine → LocalFault
@@ -40,16 +44,16 @@ fault_at line no.NoMemory = NoMemory
 fault_at line (no.Read error) = Read error
 
 -- What was written and is pending, and any run over the lines that are left from number n on, make a run from the
--- start.
+-- start, where the space held what it holds initially.
 pub record Along
-    (bytes : List ℕ) (known old new : Option (List ℕ)) (n : ℕ) (ts : Contents) (pending : List ℕ)
+    (initial : Contents) (bytes : List ℕ) (known old new : Option (List ℕ)) (n : ℕ) (ts : Contents) (pending : List ℕ)
     : Type 0 where
   pub rest : List ℕ
   pub done : List ℕ
   pub known_is : known ≡ Some rest
   pub wrote : Appends old new done
   pub leads : (more : List ℕ) (ending : Ending) → Runs n ts (lines rest) more ending
-      → Runs 1 no_tuples (lines bytes) ((done ++ pending) ++ more) ending
+      → Runs 1 initial (lines bytes) ((done ++ pending) ++ more) ending
 
 -- A front of these bytes went to the writer, and the others are left.
 pub record MovesOn (old new : Option (List ℕ)) (bytes left : List ℕ) : Type 0 where

@@ -24,22 +24,23 @@ moment_of left written session =
     record { left = left; written = written; tuples = tuples_of session.space; pending = session.results.items }
 
 -- The run over the bytes is at its line of this number.
-abbrev pub IsAt : List ℕ → Option (List ℕ) → ℕ → Moment → Type 0
-IsAt bytes start n now = Along bytes now.left start now.written n now.tuples now.pending
+abbrev pub IsAt : Contents → List ℕ → Option (List ℕ) → ℕ → Moment → Type 0
+IsAt initial bytes start n now = Along initial bytes now.left start now.written n now.tuples now.pending
 
 -- The line was run, or there is none, or the run stopped.
 abbrev pub RunsLine : Result Bool LocalFault → ℕ → Moment → Moment → Type 0
 RunsLine result n old new =
-    (bytes : List ℕ) (start : Option (List ℕ)) → IsAt bytes start n old
+    (initial : Contents) (bytes : List ℕ) (start : Option (List ℕ)) → IsAt initial bytes start n old
     → MatchResult result
-    (λ more. MatchBool more (IsAt bytes start (n + 1) new) (AddsResults bytes complete start new.written new.pending))
-    (λ fault. StopsBy fault bytes start new.written new.pending)
+    (λ more. MatchBool more
+    (IsAt initial bytes start (n + 1) new) (AddsResults initial bytes complete start new.written new.pending))
+    (λ fault. StopsBy fault initial bytes start new.written new.pending)
 
 -- The run ends behind the last line that there may be.
 abbrev pub EndsLines : Result (Unit {0}) LocalFault → Moment → Moment → Type 0
 EndsLines result old new =
-    (bytes : List ℕ) (start : Option (List ℕ)) → IsAt bytes start (2 ^ 48) old
-    → EndsRun result bytes start new.written new.pending
+    (initial : Contents) (bytes : List ℕ) (start : Option (List ℕ)) → IsAt initial bytes start (2 ^ 48) old
+    → EndsRun result initial bytes start new.written new.pending
 
 -- The result line of the operation is put behind the others.
 abbrev pub AddsResult : {A : Type 0} → Op A → SpaceState → Vec ℕ Global → Vec ℕ Global → Type 0

@@ -1,5 +1,5 @@
--- What the lines of a script come to. They run on one space, which is empty at first, and each operation writes its
--- outcome on a line of its own, until a line is refused.
+-- What the lines of a script come to. They run on one space, and each operation writes its outcome on a line of
+-- its own, until a line is refused.
 use Rattle.std.specs.Prelude.{◌≢◌, ℕ, ◌+◌, ◌^◌, ◌<◌, ◌≤◌, List, [], ◌∷◌, ◌++◌}
 use Rattle.tuple_codec.specs.Operations.{Operation, Outcome}
 use Rattle.tuple_text.specs.Lines.{IsLine, IsSkipped}

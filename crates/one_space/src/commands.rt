@@ -7,6 +7,7 @@ use crate::complaints::Complaint;
 use crate::digits::show;
 use crate::script::read_script;
 use crate::session::local;
+use space::Version;
 use std::alloc::Global;
 use std::io::{self, Read};
 use std::rt::{Env, Files};
@@ -42,19 +43,28 @@ fn refuse_words<R: Eprint>(rt: &R, error: &io::Error) -> u8 {
     2
 }
 
-/// Runs the script at this path by [`local`], and gives the status.
-pub fn run_script<R: Files + Input + Print + Eprint + AllocGlobal>(rt: &R, path: &str) -> u8 {
+/// Runs the script at this path by [`local`], on a space of this version, and gives the status.
+pub fn run_script<R: Files + Input + Print + Eprint + AllocGlobal>(
+    rt: &R,
+    version: Version,
+    path: &str,
+) -> u8 {
     if path == STANDARD_INPUT {
-        return run_lines(rt, rt.reader(), path);
+        return run_lines(rt, version, rt.reader(), path);
     }
     match fs::open(rt, path) {
-        Ok(file) => run_lines(rt, file, path),
+        Ok(file) => run_lines(rt, version, file, path),
         Err(error) => complain(rt, Complaint::of_open(&error, path)),
     }
 }
 
-fn run_lines<R: Print + Eprint + AllocGlobal, I: Read + Drop>(rt: &R, input: I, path: &str) -> u8 {
-    match local(rt.alloc(), input, &mut io::writer(rt)) {
+fn run_lines<R: Print + Eprint + AllocGlobal, I: Read + Drop>(
+    rt: &R,
+    version: Version,
+    input: I,
+    path: &str,
+) -> u8 {
+    match local(rt.alloc(), version, input, &mut io::writer(rt)) {
         Ok(()) => 0,
         Err(fault) => complain(rt, Complaint::of_local(&fault, path)),
     }

@@ -3,13 +3,14 @@
 ghost use Rattle.std.specs.Prelude.{◌≡◌, ◌^◌, ◌<◌, ◌≤◌, ◌+◌, ◌*◌, ℕ, List, [], Option, OnOk, OnErr, IfErr};
 ghost use Rattle.std.specs.Io.Buffered.{reader_buffer, reader_remaining};
 ghost use Rattle.tuple_codec.specs.OperationView.{operation_of};
-ghost use Rattle.space.specs.Births.{Follows, TuplesFollow, empty_state};
+ghost use Rattle.space.specs.Applying.{nothing_in};
+ghost use Rattle.space.specs.Births.{Follows, TuplesFollow, empty_in, tuples_of};
 ghost use Rattle.one_space.specs.Endings.{EndsKnown, HeldForLine, IsWriteFault, fault_at, read_fault_of};
 ghost use Rattle.one_space.specs.Moments.{moment_of, RunsLine, EndsLines, AddsResult, WritesDue, WritesAll};
 
 use crate::input::{NextLine, NoLine, has_line, next_line};
 use crate::pieces::ReadFault;
-use space::Space;
+use space::{Space, Version};
 use std::alloc::Global;
 use std::io::{self, BufReader, Read, Write};
 use terms::NoMemory;
@@ -47,23 +48,25 @@ impl From<NoMemory> for LocalFault {
     }
 }
 
-/// Runs the lines of a script on a space of its own and writes the results, a line each, as it goes: the reader is
-/// asked for more bytes only when the results of all lines that it gave whole are written and flushed. Lines are
-/// numbered from 1 and stay below 2 to the power of 48. At a fault the results of the lines before it are written,
-/// unless writing failed.
+/// Runs the lines of a script on a space of its own, of this version, and writes the results, a line each, as it goes:
+/// the reader is asked for more bytes only when the results of all lines that it gave whole are written and flushed.
+/// Lines are numbered from 1 and stay below 2 to the power of 48. At a fault the results of the lines before it are
+/// written, unless writing failed.
 pub fn local<R: Read + Drop, W: Write>(
     alloc: Global,
+    version: Version,
     reader: R,
     writer: &mut W,
 ) -> Result<(), LocalFault>
-    ensures { EndsKnown W.contents result (R.remaining reader) writer.old writer.new [] }
+    ensures { EndsKnown W.contents result (nothing_in version) (R.remaining reader)
+        writer.old writer.new [] }
 {
     let mut input = match BufReader::new(alloc, reader) {
         Ok(input) => input,
         Err(_) => return Err(LocalFault::NoMemory),
     };
     let mut session = Session {
-        space: Space::new(alloc),
+        space: new_space(alloc, version),
         line: Vec::new(alloc),
         results: Vec::new(alloc),
     };
@@ -74,6 +77,16 @@ pub fn local<R: Read + Drop, W: Write>(
             Ok(()) => Err(fault),
             Err(error) => Err(error),
         },
+    }
+}
+
+// The empty space of this version.
+fn new_space(alloc: Global, version: Version) -> Space
+    ensures { result ≡ empty_in version }
+{
+    match version {
+        Version::One => Space::new(alloc),
+        Version::Two => Space::new_v2(alloc),
     }
 }
 
@@ -92,10 +105,10 @@ impl Session {
         reader: &mut BufReader<R>,
         writer: &mut W,
     ) -> Result<(), LocalFault>
-        requires new_space { self.old.space ≡ empty_state }
+        requires no_births { self.old.space.next ≡ 0 }
         requires no_results { self.old.results.items ≡ [] }
-        ensures { EndsKnown W.contents result (reader_remaining R.remaining reader.old)
-            writer.old writer.new self.new.results.items }
+        ensures { EndsKnown W.contents result (tuples_of self.old.space)
+            (reader_remaining R.remaining reader.old) writer.old writer.new self.new.results.items }
     {
         for number in 1..LINES_END {
             match self.run_line(alloc, number, reader, writer) {

@@ -2,12 +2,13 @@
 
 use crate::endings::{Ending, local_ending};
 use one_space::local;
+use space::Version;
 use std::alloc::{AllocError, Global};
 use std::test::Fail;
 use tuple_text::LineFault;
 
-// Scripts, their results, and how they end.
-static ROWS: [(&str, &str, Ending); 14] = [
+// Scripts on a space of version 1, their results, and how they end.
+static ROWS: [(&str, &str, Ending); 20] = [
     (
         "out (\"a\\n\")\nrdp (?text)\n",
         "done\nfound (\"a\\n\")\n",
@@ -74,19 +75,113 @@ static ROWS: [(&str, &str, Ending); 14] = [
         Ending::Refused(1, LineFault::BadByte { offset: 7 }),
     ),
     (
+        "out (w1)\nout (1)\nrdp (?wide)\ncas (w1) (2)\nrdAll 64 (*)\n",
+        "refused\ndone\nrefused\nrefused\nall 1 (1)\n",
+        Ending::Complete,
+    ),
+    (
+        "out (w)\n",
+        "",
+        Ending::Refused(1, LineFault::BadByte { offset: 6 }),
+    ),
+    (
+        "out (w01)\n",
+        "",
+        Ending::Refused(1, LineFault::BadByte { offset: 7 }),
+    ),
+    (
+        "out (w170141183460469231731687303715884105728)\n",
+        "",
+        Ending::Refused(1, LineFault::BadByte { offset: 44 }),
+    ),
+    ("inp ((?wide))\n", "refused\n", Ending::Complete),
+    (
+        "out (1)\ninAll 64 (*)\ninp (*)\n",
+        "done\nrefused\nfound (1)\n",
+        Ending::Complete,
+    ),
+    (
         "out (?int)\n",
         "",
         Ending::Refused(1, LineFault::BadByte { offset: 5 }),
     ),
 ];
 
+// The same on a space of version 2. Another implementation, in Python, gives these results too.
+static WIDE_ROWS: [(&str, &str, Ending); 11] = [
+    (
+        "out (w1)\nrdp (?wide)\nrdp (w1)\nrdp (1)\nrdp (?int)\ninp (*)\n",
+        "done\nfound (w1)\nfound (w1)\nabsent\nabsent\nfound (w1)\n",
+        Ending::Complete,
+    ),
+    (
+        "out (w-170141183460469231731687303715884105728)\nrdp (?wide)\n",
+        "done\nfound (w-170141183460469231731687303715884105728)\n",
+        Ending::Complete,
+    ),
+    (
+        "out (w170141183460469231731687303715884105727 \"a\")\ninp (?wide ?text)\n",
+        "done\nfound (w170141183460469231731687303715884105727 \"a\")\n",
+        Ending::Complete,
+    ),
+    (
+        "out ((w0))\nrdp ((?wide))\nrdp (?tuple)\nrdp (?wide)\n",
+        "done\nfound ((w0))\nfound ((w0))\nabsent\n",
+        Ending::Complete,
+    ),
+    (
+        "cas (w1) (w2)\ncas (w2) (1)\ncas (w2) (w2)\nrdAll 64 (*)\n",
+        "swapped true\nswapped false\nswapped false\nall 1 (w2)\n",
+        Ending::Complete,
+    ),
+    (
+        "out (1)\nout (w1)\nout (2)\nout (3)\ninAll 2 (?int)\nrdAll 64 (*)\n",
+        "done\ndone\ndone\ndone\nall 2 (1) (2)\nall 2 (w1) (3)\n",
+        Ending::Complete,
+    ),
+    (
+        "out (1)\nout (1)\ninAll 64 (*)\ninAll 64 (*)\nrdp (*)\ninAll 1 (w3)\n",
+        "done\ndone\nall 2 (1) (1)\nall 0\nabsent\nall 0\n",
+        Ending::Complete,
+    ),
+    (
+        "inAll 65 (*)\n",
+        "",
+        Ending::Refused(1, LineFault::BadByte { offset: 7 }),
+    ),
+    (
+        "inAll 0 (*)\n",
+        "",
+        Ending::Refused(1, LineFault::BadByte { offset: 6 }),
+    ),
+    (
+        "inall 1 (*)\n",
+        "",
+        Ending::Refused(1, LineFault::BadByte { offset: 2 }),
+    ),
+    (
+        "out (w-0)\n",
+        "",
+        Ending::Refused(1, LineFault::BadByte { offset: 7 }),
+    ),
+];
+
+fn is_run(alloc: Global, version: Version, row: &(&str, &str, Ending)) -> bool {
+    let (ending, written) = outcome(alloc, version, row.0.as_bytes());
+    ending == row.2 && written.as_slice() == row.1.as_bytes()
+}
+
 #[test]
 fn runs_worked_rows(rt: HostRuntime) {
-    for (script, results, ending) in &ROWS {
-        let mut written = Vec::new(rt.alloc());
-        let given = local_ending(local(rt.alloc(), script.as_bytes(), &mut written));
-        assert_eq!(rt; given, *ending, "{script}");
-        assert!(rt; written.as_slice() == results.as_bytes(), "{script}");
+    for row in &ROWS {
+        assert!(rt; is_run(rt.alloc(), Version::One, row), "{}", row.0);
+    }
+}
+
+#[test]
+fn runs_wide_rows(rt: HostRuntime) {
+    for row in &WIDE_ROWS {
+        assert!(rt; is_run(rt.alloc(), Version::Two, row), "{}", row.0);
     }
 }
 
@@ -107,21 +202,21 @@ fn repeated(
     Ok(text)
 }
 
-// How a script ends, and what it writes.
-fn outcome(alloc: Global, script: &[u8]) -> (Ending, Vec<u8>) {
+// How a script on a space of this version ends, and what it writes.
+fn outcome(alloc: Global, version: Version, script: &[u8]) -> (Ending, Vec<u8>) {
     let mut written = Vec::new(alloc);
-    let ending = local_ending(local(alloc, script, &mut written));
+    let ending = local_ending(local(alloc, version, script, &mut written));
     (ending, written)
 }
 
 #[test]
 fn judges_long_texts(rt: HostRuntime) -> Result<(), Fail> {
     let script = repeated(rt.alloc(), "out (\"", "a", 1020, "\")\n")?;
-    let (ending, written) = outcome(rt.alloc(), script.as_slice());
+    let (ending, written) = outcome(rt.alloc(), Version::One, script.as_slice());
     assert_eq!(rt; ending, Ending::Complete);
     assert!(rt; written.as_slice() == b"done\n".as_slice());
     let script = repeated(rt.alloc(), "out (\"", "a", 1021, "\")\n")?;
-    let (ending, written) = outcome(rt.alloc(), script.as_slice());
+    let (ending, written) = outcome(rt.alloc(), Version::One, script.as_slice());
     assert_eq!(rt; ending, Ending::Refused(1, LineFault::TooLong));
     assert!(rt; written.is_empty());
     Ok(())
@@ -130,22 +225,27 @@ fn judges_long_texts(rt: HostRuntime) -> Result<(), Fail> {
 #[test]
 fn judges_long_lists(rt: HostRuntime) -> Result<(), Fail> {
     let script = repeated(rt.alloc(), "out (", "1 ", 32, ")\n")?;
-    let (ending, _) = outcome(rt.alloc(), script.as_slice());
+    let (ending, _) = outcome(rt.alloc(), Version::One, script.as_slice());
     assert_eq!(rt; ending, Ending::Complete);
     let script = repeated(rt.alloc(), "out (", "1 ", 33, ")\n")?;
-    let (ending, _) = outcome(rt.alloc(), script.as_slice());
+    let (ending, _) = outcome(rt.alloc(), Version::One, script.as_slice());
     assert_eq!(rt; ending, Ending::Refused(1, LineFault::TooManyFields));
     Ok(())
 }
 
-#[test]
-fn a_space_is_full(rt: HostRuntime) -> Result<(), Fail> {
+// A space of this version takes so many tuples and no more, until one is taken.
+fn is_full_behind(alloc: Global, version: Version, most: usize) -> Result<bool, AllocError> {
     let tail = "out (2)\ncas (2) (2)\ncas (1) (2)\ninp (1)\nout (2)\n";
     let ends = "full\nfull\nswapped false\nfound (1)\ndone\n";
-    let script = repeated(rt.alloc(), "", "out (1)\n", 8192, tail)?;
-    let results = repeated(rt.alloc(), "", "done\n", 8192, ends)?;
-    let (ending, written) = outcome(rt.alloc(), script.as_slice());
-    assert_eq!(rt; ending, Ending::Complete);
-    assert!(rt; written.as_slice() == results.as_slice());
+    let script = repeated(alloc, "", "out (1)\n", most, tail)?;
+    let results = repeated(alloc, "", "done\n", most, ends)?;
+    let (ending, written) = outcome(alloc, version, script.as_slice());
+    Ok(ending == Ending::Complete && written.as_slice() == results.as_slice())
+}
+
+#[test]
+fn a_space_is_full(rt: HostRuntime) -> Result<(), Fail> {
+    assert!(rt; is_full_behind(rt.alloc(), Version::One, 8192)?);
+    assert!(rt; is_full_behind(rt.alloc(), Version::Two, 12288)?);
     Ok(())
 }

@@ -2,6 +2,8 @@
 
 use crate::endings::{Ending, local_ending, show_ending};
 use one_space::{Complaint, LocalFault, ShowFault, local, read_script, show};
+use space::Version;
+use std::alloc::{AllocError, Global};
 use std::io::{self, Read, Write};
 use std::test::Fail;
 use tuple_text::LineFault;
@@ -103,7 +105,7 @@ static SCRIPTS: [(&str, &str, Ending); 8] = [
 fn runs_scripts(rt: HostRuntime) {
     for &(script, results, ending) in &SCRIPTS {
         let mut written = Vec::new(rt.alloc());
-        let given = local_ending(local(rt.alloc(), script.as_bytes(), &mut written));
+        let given = local_ending(local(rt.alloc(), Version::One, script.as_bytes(), &mut written));
         assert_eq!(rt; given, ending, "{script}");
         assert!(rt; written.as_slice() == results.as_bytes(), "{script}");
     }
@@ -143,7 +145,7 @@ fn keeps_results_where_reading_fails(rt: HostRuntime) {
         front: b"out (1)\nrdp (".as_slice(),
     };
     let mut written = Vec::new(rt.alloc());
-    let ending = local_ending(local(rt.alloc(), reader, &mut written));
+    let ending = local_ending(local(rt.alloc(), Version::One, reader, &mut written));
     assert_eq!(rt; ending, Ending::Read);
     assert!(rt; written.as_slice() == b"done\n".as_slice());
 }
@@ -156,7 +158,7 @@ fn keeps_results_where_memory_runs_out(rt: HostRuntime) {
     let results = b"done\nfound (1)\nabsent\n".as_slice();
     let mut room = [0; 64];
     let mut rest = room.as_mut_slice();
-    let ending = local_ending(local(rt.alloc(), script, &mut rest));
+    let ending = local_ending(local(rt.alloc(), Version::One, script, &mut rest));
     let left = rest.len();
     let written = &room[..room.len().saturating_sub(left)];
     match ending {
@@ -172,7 +174,7 @@ fn keeps_results_where_memory_runs_out(rt: HostRuntime) {
 #[test]
 fn tells_that_writing_fails(rt: HostRuntime) {
     let script = b"out (1)\n".as_slice();
-    let ending = local_ending(local(rt.alloc(), script, &mut Closed));
+    let ending = local_ending(local(rt.alloc(), Version::One, script, &mut Closed));
     assert_eq!(rt; ending, Ending::Write);
     let ending = show_ending(show(rt.alloc(), "00", &mut Closed));
     assert_eq!(rt; ending, Ending::Write);
@@ -202,39 +204,62 @@ fn shows_tuples(rt: HostRuntime) {
     }
 }
 
-#[test]
-fn says_what_went_wrong(rt: HostRuntime) -> Result<(), Fail> {
+fn is_said(alloc: Global, complaint: &Complaint<'_>, text: &str) -> Result<bool, AllocError> {
+    let said = format!(in alloc; "{complaint}")?;
+    Ok(said.as_str() == text)
+}
+
+// Whether the complaint is said so, and the program ends with this status.
+fn ends(
+    alloc: Global,
+    complaint: &Complaint<'_>,
+    text: &str,
+    status: u8,
+) -> Result<bool, AllocError> {
+    Ok(is_said(alloc, complaint, text)? && complaint.status() == status)
+}
+
+fn says_refused_line(alloc: Global) -> Result<bool, AllocError> {
     let fault = LocalFault::Refused {
         line: 3,
         fault: LineFault::BadByte { offset: 5 },
     };
-    let rows = [
-        (
-            Complaint::of_local(&fault, "a.bts"),
-            "line 3: refused 6 at byte 5",
+    let complaint = Complaint::of_local(&fault, "a.bts");
+    ends(alloc, &complaint, "line 3: refused 6 at byte 5", 1)
+}
+
+fn says_others(alloc: Global) -> Result<bool, AllocError> {
+    let unreadable = Complaint::Unreadable { path: "a.bts" };
+    Ok(
+        ends(
+            alloc,
+            &Complaint::of_show(&ShowFault::Malformed),
+            "refused 5",
             1,
-        ),
-        (Complaint::of_show(&ShowFault::Malformed), "refused 5", 1),
-        (
-            Complaint::Unreadable { path: "a.bts" },
-            "cannot read a.bts",
-            1,
-        ),
-        (Complaint::Stopped, "stopped", 3),
-    ];
-    for (complaint, text, status) in rows {
-        let said = format!(in rt.alloc(); "{complaint}")?;
-        assert!(rt; said.as_str() == text);
-        assert_eq!(rt; complaint.status(), status);
+        )? && ends(alloc, &unreadable, "cannot read a.bts", 1)?
+            && ends(alloc, &Complaint::Stopped, "stopped", 3)?,
+    )
+}
+
+static LINES: [(LineFault, &str); 3] = [
+    (LineFault::TooManyFields, "line 1: refused 1"),
+    (LineFault::TooDeep, "line 1: refused 2"),
+    (LineFault::TooLong, "line 1: refused 3"),
+];
+
+fn says_lines(alloc: Global) -> Result<bool, AllocError> {
+    for &(fault, text) in &LINES {
+        if !is_said(alloc, &Complaint::Line { number: 1, fault }, text)? {
+            return Ok(false);
+        }
     }
-    for (fault, text) in [
-        (LineFault::TooManyFields, "line 1: refused 1"),
-        (LineFault::TooDeep, "line 1: refused 2"),
-        (LineFault::TooLong, "line 1: refused 3"),
-    ] {
-        let complaint = Complaint::Line { number: 1, fault };
-        let said = format!(in rt.alloc(); "{complaint}")?;
-        assert!(rt; said.as_str() == text);
-    }
+    Ok(true)
+}
+
+#[test]
+fn says_what_went_wrong(rt: HostRuntime) -> Result<(), Fail> {
+    assert!(rt; says_refused_line(rt.alloc())?);
+    assert!(rt; says_others(rt.alloc())?);
+    assert!(rt; says_lines(rt.alloc())?);
     Ok(())
 }

@@ -2,6 +2,7 @@
 
 use crate::endings::{Ending, local_ending};
 use one_space::local;
+use space::Version;
 use std::cell::{Cell, RefCell};
 use std::io::{self, Read, Write};
 
@@ -115,7 +116,7 @@ fn answers_before_it_asks(rt: HostRuntime) {
         held: Vec::new(rt.alloc()),
         screen: &screen,
     };
-    let ending = local_ending(local(rt.alloc(), typist, &mut printer));
+    let ending = local_ending(local(rt.alloc(), Version::One, typist, &mut printer));
     assert_eq!(rt; ending, Ending::Complete);
     assert!(rt; screen.is_right.get());
     assert!(rt; screen.shows(SHOWN));

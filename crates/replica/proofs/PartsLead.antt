@@ -18,7 +18,7 @@ use Rattle.view_change.specs.ReceivedView.{ReceivedState, AreReceived, configura
 use Rattle.view_change.proofs.Opening.{signed_is}
 use Rattle.replica.specs.declared.replica.Event.{Event}
 use Rattle.replica.specs.declared.replica.Event.TheVariants as events
-use Rattle.replica.specs.Fits.{EventLeads}
+use Rattle.replica.specs.Fits.{EventLeads, SendsAsMeant}
 use Rattle.replica.specs.State.{MemberData, OrdererData, DeskData, OrdererPart, DeskPart, ReplicaData, IsOrdererPart, IsDeskPart, AreOne}
 use Rattle.replica.specs.Desking.{IsNewDesk}
 use Rattle.replica.specs.Taking.{IsNewOrderer}
@@ -170,6 +170,9 @@ together_one o d x y t are_o are_d o_is d_is = (
 pub replica_leads : (r : ReplicaData) (o : OrdererPart) (d : DeskPart) (event : Event) (outs : List Output) → d.member ≡ r.desk.member → BothLead r.orderer r.desk event outs o d → EventLeads r event outs (record { orderer = o; desk = d })
 replica_leads r o d event outs same leads c history fits =
     subst (λ (m : MemberData). FitBoth c m.me o d (after_event r.desk.member.me (input_of r.desk.member.me event) outs history)) (sym same) (leads c r.desk.member.me history fits)
+
+pub replica_sends : (r : ReplicaData) (outs : List Output) → BothSendAsMeant r.orderer r.desk outs → SendsAsMeant r outs
+replica_sends r outs meant c history fits = meant c r.desk.member.me history fits
 
 -- ---- parts that are not together fit nothing
 

@@ -11,7 +11,7 @@ use Rattle.tuple_codec.specs.Operations.{Outcome}
 use Rattle.tuple_codec.specs.Spelling.{SpellsOutcome, outcome_spelling}
 use Rattle.tuple_codec.specs.Reading.{number_of}
 use Rattle.tuple_codec.proofs.Readers.{bytes_drop}
-use Rattle.tuple_codec.proofs.Numbers.{number_8_found}
+use Rattle.tuple_codec.proofs.Numbers.{number_found}
 use Rattle.reply_cache.specs.declared.cache.Reply.{Reply}
 use Rattle.reply_cache.specs.Replies.{Kept, Replies, last_of, IsReply}
 use Rattle.reply_cache.specs.ReplyView.{reply_of, padded, AreSlots}
@@ -25,7 +25,7 @@ number_front : (bs : List ℕ) → 8 ≤ length bs → AreBytes bs → bs ≡ to
 unfolding number_of
 number_front bs l h =
     let read : number_of 8 bs ≡ Some (big_number 8 bs, drop 8 bs) = ap (λ b. cond b None (Some (big_number 8 bs, drop 8 bs))) (le-ltb (length bs) 8 l) in
-    (number_8_found bs (drop 8 bs) (big_number 8 bs) h read).0.whole
+    (number_found 8 bs (drop 8 bs) (big_number 8 bs) h read).0.whole
 
 -- A reply that was read by its parts.
 module _ (text front rest : List ℕ) (timestamp number : ℕ) (r : Outcome) (long : 16 ≤ length text) (bytes : AreBytes text) (is_timestamp : timestamp ≡ big_number 8 text) (is_front : front ≡ drop 8 text)

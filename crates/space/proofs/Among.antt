@@ -57,6 +57,17 @@ matching_one p es b = go (lookup (is_at (nat_cmp b)) es)
     go None = refl
     go (Some t) = one t (is_match p t)
 
+pub one_found : (m : Entry → Bool) (es : List Entry) (b : ℕ) → filter m (found_at es b) ≡ option_to_list (find m (found_at es b))
+one_found m es b = go (lookup (is_at (nat_cmp b)) es)
+  where
+    one : (e : Entry) (a : Bool) → cond a (e ∷ []) [] ≡ option_to_list (cond a (Some e) None)
+    one e true = refl
+    one e false = refl
+
+    go : (o : Option TupleTree) → filter m (map (λ (t : TupleTree). (b, t)) (option_to_list o)) ≡ option_to_list (find m (map (λ (t : TupleTree). (b, t)) (option_to_list o)))
+    go None = refl
+    go (Some t) = one (b, t) (m (b, t))
+
 -- ---- one birth more
 
 module _ (es : List Entry) (births : List ℕ) (i b : ℕ) (within : i < length births) (is : b ≡ get_or births i b) where
@@ -91,6 +102,25 @@ module _ (es : List Entry) (births : List ℕ) (i b : ℕ) (within : i < length 
   pub copied_next : (p : TemplateTree) → None ≡ find (λ e. is_match p e.1) (found_at es b)
       → filter (is_match p) (map (λ e. e.1) (entries_at es (drop i births))) ≡ filter (is_match p) (map (λ e. e.1) (entries_at es (drop (i + 1) births)))
   copied_next p h = matches_next p None h
+
+  entries_next : (m : Entry → Bool) (o : Option Entry) → o ≡ find m (found_at es b)
+      → filter m (entries_at es (drop i births)) ≡ option_to_list o ++ filter m (entries_at es (drop (i + 1) births))
+  entries_next m o h =
+      let rest : List Entry = entries_at es (drop (i + 1) births) in
+      ap (filter m) next_entries ∙ filter-append m (found_at es b) rest
+      ∙ ap (λ (xs : List Entry). xs ++ filter m rest) (one_found m es b ∙ ap (λ (x : Option Entry). option_to_list x) (sym h))
+
+  pub births_here : (m : Entry → Bool) (e : Entry) (n : ℕ) (ys : List ℕ) → Some e ≡ find m (found_at es b) → length ys < n
+      → ys ++ take (n - length ys) (map (λ e. e.0) (filter m (entries_at es (drop i births)))) ≡ (ys ++ e.0 ∷ []) ++ take (n - length (ys ++ e.0 ∷ [])) (map (λ e. e.0) (filter m (entries_at es (drop (i + 1) births))))
+  births_here m e n ys h l =
+      let rest : List ℕ = map (λ (x : Entry). x.0) (filter m (entries_at es (drop (i + 1) births))) in
+      let left : ℕ = n - length (ys ++ e.0 ∷ []) in
+      let k : n - length ys ≡ suc left = omega (arith, length_push ys e.0) in
+      ap (λ (xs : List Entry). ys ++ take (n - length ys) (map (λ e. e.0) xs)) (entries_next m (Some e) h) ∙ ap (λ j. ys ++ take j (e.0 ∷ rest)) k ∙ sym (append_assoc ys (e.0 ∷ []) (take left rest))
+
+  pub births_next : (m : Entry → Bool) → None ≡ find m (found_at es b)
+      → map (λ e. e.0) (filter m (entries_at es (drop i births))) ≡ map (λ e. e.0) (filter m (entries_at es (drop (i + 1) births)))
+  births_next m h = ap (map (λ (x : Entry). x.0)) (entries_next m None h)
 
   text_next : entries_at es (take (i + 1) births) ≡ entries_at es (take i births) ++ found_at es b
   text_next =

@@ -1,17 +1,18 @@
 -- Which pages an operation changes.
 use Rattle.std.proofs.Common.{◌≡◌, ◌≢◌, ◌⊎◌, inl, inr, ℕ, zero, suc, ◌%◌, ◌<◌, Bool, true, false, cond, List, [], ◌∷◌, ◌++◌, length, get_or, set, Some, refl, sym, ap, ◌∙◌, arith, append-nil}
-use Rattle.std.specs.Prelude.{◌==◌, find, remove, is_some}
+use Rattle.std.specs.Prelude.{◌==◌, All, Contains, find, map, remove, is_some}
 use Rattle.std.proofs.lemmas.Bool.{cases_eq, ne_eqb}
 use Rattle.std.proofs.lemmas.List.{get_or-set_same, get_or-set_other, length-set}
+use Rattle.std.proofs.lemmas.List.Elements.{All-nil, All-cons}
 use Rattle.tuple_tree.specs.Values.{TupleTree, TemplateTree}
 use Rattle.template_match.specs.Tests.{is_match}
 use Rattle.space.specs.Applying.{has_room, first_match}
-use Rattle.space.specs.Births.{Entry, SpaceState, tuples_of, birth_of, with_birth, with_tuple, without_match, state_after}
+use Rattle.space.specs.Births.{Entry, SpaceState, tuples_of, birth_of, with_birth, with_tuple, without_match, served_state}
 use Rattle.space.specs.Pages.{entries_text, on_page, page_text}
-use Rattle.space.specs.Watching.{KeepsPage, MarksChanged}
+use Rattle.space.specs.Marking.{with_pages}
 use Rattle.space.proofs.Texts.{on_page-append}
 use Rattle.space.proofs.Trees.{first_taken}
-use Rattle.tuple_codec.specs.Operations.{Operation, cas}
+use Rattle.tuple_codec.specs.Operations.{cas}
 
 elsewhere : (page : ℕ) (e : Entry) → e.0 % 256 ≢ page → on_page page (e ∷ []) ≡ []
 unfolding on_page
@@ -30,7 +31,7 @@ module _ (s : SpaceState) (page : ℕ) (other : birth_of s % 256 ≢ page) where
       go true = added t
       go false = refl
 
-  pub text_swapped : (p : TemplateTree) (t : TupleTree) → page_text (state_after s (cas p t)) page ≡ page_text s page
+  pub text_swapped : (p : TemplateTree) (t : TupleTree) → page_text (served_state s (cas p t)) page ≡ page_text s page
   text_swapped p t = go (is_some (first_match p (tuples_of s)))
     where
       go : (b : Bool) → page_text (cond b s (with_tuple s t)) page ≡ page_text s page
@@ -51,19 +52,27 @@ text_taken s p e page h other =
 
 -- ---- sets of pages
 
--- with one page more
-pub marks_one : (s : SpaceState) (o : Operation) (old new : List Bool) (at : ℕ) → length new ≡ 256 → at < 256 → new ≡ set old at true → ((page : ℕ) → at ≢ page → KeepsPage s o page) → MarksChanged s o old new
-marks_one s o old new at long within is keeps page l none = go (cases_eq page at)
-  where
-    go : (page ≡ at) ⊎ (page ≢ at) → (get_or old page false ≡ false) × KeepsPage s o page
-    go (inl same) =
-        let inside : at < length old = omega (arith, long, within, ap length is, length-set old at true) in
-        let marked : get_or new page false ≡ true =
-        ap (λ (xs : List Bool). get_or xs page false) is ∙ ap (λ (i : ℕ). get_or (set old at true) i false) same ∙ get_or-set_same old at true false inside in
-        absurd (let e : true ≡ false = sym marked ∙ none in cc)
-    go (inr other) =
-        (sym (get_or-set_other old at page true false other) ∙ ap (λ (xs : List Bool). get_or xs page false) (sym is) ∙ none, keeps page (λ q. other (sym q)))
+-- A page that isn't there afterwards wasn't before, and none of the births lies on it.
+pub unmarked : (births : List ℕ) (old : List Bool) (page : ℕ) → length old ≡ 256 → page < 256 → get_or (with_pages old births) page false ≡ false
+    → (get_or old page false ≡ false) × All (λ b. b % 256 ≢ page) births
+unmarked [] old page long within none = (none, All-nil _)
+unmarked (b ∷ bs) old page long within none =
+    let at : ℕ = b % 256 in
+    let rest = unmarked bs (set old at true) page (omega (arith, length-set old at true)) within none in
+    let other : at ≢ page = λ same.
+    let marked : get_or (set old at true) page false ≡ true = ap (λ (i : ℕ). get_or (set old at true) i false) (sym same) ∙ get_or-set_same old at true false (omega arith) in
+    absurd (let e : true ≡ false = sym marked ∙ rest.0 in cc) in
+    (sym (get_or-set_other old at page true false (λ q. other (sym q))) ∙ rest.0, All-cons (λ b. b % 256 ≢ page) b bs other rest.1)
 
--- with no page more
-pub marks_none : (s : SpaceState) (o : Operation) (old : List Bool) → ((page : ℕ) → KeepsPage s o page) → MarksChanged s o old old
-marks_none s o old keeps page l none = (none, keeps page)
+-- One of the births lies on a page that is there afterwards and wasn't before.
+pub marked : (births : List ℕ) (old : List Bool) (page : ℕ) → get_or (with_pages old births) page false ≡ true → get_or old page false ≡ false → Contains (map (λ b. b % 256) births) page
+marked [] old page now before = absurd (let e : true ≡ false = sym now ∙ before in cc)
+marked (b ∷ bs) old page now before = go (cases_eq page (b % 256)) (marked bs (set old (b % 256) true) page now)
+  where
+    go : (page ≡ b % 256) ⊎ (page ≢ b % 256) → (get_or (set old (b % 256) true) page false ≡ false → Contains (map (λ b. b % 256) bs) page)
+        → Contains (map (λ b. b % 256) (b ∷ bs)) page
+    go (inl same) below = (0, omega arith, sym same)
+    go (inr other) below =
+        let rest = below (get_or-set_other old (b % 256) page true false other ∙ before) in
+        let l = rest.1 in
+        (suc rest.0, omega arith, rest.2)

@@ -11,6 +11,7 @@ use Rattle.tuple_codec.specs.Reading.{tuple_at}
 use Rattle.tuple_codec.proofs.Grammar.{one, tuple_reads}
 use Rattle.space.specs.Births.{Entry, SpaceState, IsState}
 use Rattle.space.specs.Reading.{IsEntry}
+use Rattle.space.specs.declared.version.Version.{Version}
 use Rattle.space.specs.Pages.{entry_text, entries_text, on_page, page_text, header_text, IsStateAt}
 
 -- ---- numbers and texts
@@ -123,7 +124,8 @@ pages_determine s t m n h k e pages =
     let next : s.next ≡ t.next = bytes_same s.next t.next (next_fits s m h) (next_fits t n k) header.1 in
     let entries : s.entries ≡ t.entries = entries_from_pages s.entries t.entries h.state.rising k.state.rising (λ page l.
     entries_same (on_page page s.entries) (on_page page t.entries) (on_page_fits s page h.state (next_fits s m h)) (on_page_fits t page k.state (next_fits t n k)) (pages page l)) in
-    (header.0, build s.entries t.entries s.next t.next entries next)
+    (header.0, build s.version t.version s.entries t.entries s.next t.next (h.version ∙ sym k.version) entries next)
   where
-    build : (es fs : List Entry) (a b : ℕ) → es ≡ fs → a ≡ b → ◌≡◌ {A = SpaceState} (record { entries = es; next = a }) (record { entries = fs; next = b })
-    build es fs a b p q = rw (p, q) refl
+    build : (v w : Version) (es fs : List Entry) (a b : ℕ) → v ≡ w → es ≡ fs → a ≡ b
+        → ◌≡◌ {A = SpaceState} (record { version = v; entries = es; next = a }) (record { version = w; entries = fs; next = b })
+    build v w es fs a b o p q = rw (o, p, q) refl

@@ -12,7 +12,7 @@ use Rattle.space.specs.Births.{Entry, SpaceState, IsState, tuples_of, without_ma
 use Rattle.space.proofs.Listing.{find-map, found_at, removed_none}
 use Rattle.space.proofs.Storing.{oldest_taken}
 
-none_passes : (test : Entry → Bool) (es : List Entry) → find test es ≡ None → without_first test es ≡ es
+pub none_passes : (test : Entry → Bool) (es : List Entry) → find test es ≡ None → without_first test es ≡ es
 none_passes test es e = go (position test es) refl
   where
     go : (o : Option ℕ) → position test es ≡ o → without_first test es ≡ es
@@ -25,12 +25,12 @@ on_err (Ok x) p = tt
 on_err (Err e) p = p
 
 -- there is a first match among matches
-pub some_matched : (p : TemplateTree) (ts : List TupleTree) → filter (is_match p) ts ≢ [] → is_some (first_match p ts) ≡ true
+pub some_matched : (p : TemplateTree) (ts : List TupleTree) → filter (is_match p) ts ≢ [] → is_some (find (is_match p) ts) ≡ true
 some_matched p [] h = absurd (h refl)
 some_matched p (t ∷ ts) h = go (is_match p t) h (some_matched p ts)
   where
-    go : (b : Bool) → cond b (t ∷ filter (is_match p) ts) (filter (is_match p) ts) ≢ [] → (filter (is_match p) ts ≢ [] → is_some (first_match p ts) ≡ true)
-        → is_some (cond b (Some t) (first_match p ts)) ≡ true
+    go : (b : Bool) → cond b (t ∷ filter (is_match p) ts) (filter (is_match p) ts) ≢ [] → (filter (is_match p) ts ≢ [] → is_some (find (is_match p) ts) ≡ true)
+        → is_some (cond b (Some t) (find (is_match p) ts)) ≡ true
     go true h below = refl
     go false h below = below h
 
@@ -53,11 +53,11 @@ module _ (s : SpaceState) (p : TemplateTree) where
       go (Some x) = refl
 
   pub none_taken : None ≡ find (λ e. is_match p e.1) s.entries → without_match s p ≡ s
-  none_taken e = ap (λ es. record { entries = es; next = s.next }) (none_passes (λ (x : Entry). is_match p x.1) s.entries (sym e))
+  none_taken e = ap (λ es. record s { entries = es }) (none_passes (λ (x : Entry). is_match p x.1) s.entries (sym e))
 
   module _ (h : IsState s) (b : ℕ) (t : TupleTree) (e : Some (b, t) ≡ find (λ e. is_match p e.1) s.entries) where
-    pub one_taken : record { entries = remove_entry (is_at (nat_cmp b)) s.entries; next = s.next } ≡ without_match s p
-    one_taken = ap (λ es. record { entries = es; next = s.next }) (oldest_taken (λ (x : Entry). is_match p x.1) s.entries b t h.rising (sym e)).left
+    pub one_taken : record s { entries = remove_entry (is_at (nat_cmp b)) s.entries } ≡ without_match s p
+    one_taken = ap (λ es. record s { entries = es }) (oldest_taken (λ (x : Entry). is_match p x.1) s.entries b t h.rising (sym e)).left
 
     pub one_stored : lookup (is_at (nat_cmp b)) s.entries ≡ Some t
     one_stored = (oldest_taken (λ (x : Entry). is_match p x.1) s.entries b t h.rising (sym e)).stored

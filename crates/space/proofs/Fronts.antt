@@ -10,7 +10,7 @@ use Rattle.tuple_tree.specs.Values.{TupleTree, AreBytes}
 use Rattle.tuple_codec.specs.Spelling.{SpellsTuple, tuple_spelling}
 use Rattle.tuple_codec.specs.Reading.{number_of}
 use Rattle.tuple_codec.proofs.Readers.{bytes_drop}
-use Rattle.tuple_codec.proofs.Numbers.{number_8_found}
+use Rattle.tuple_codec.proofs.Numbers.{number_found}
 use Rattle.space.specs.Births.{Entry}
 use Rattle.space.specs.Pages.{entry_text}
 use Rattle.space.specs.Reading.{IsEntry, IsHeader}
@@ -21,7 +21,7 @@ pub number_front : (bs : List ℕ) → 8 ≤ length bs → AreBytes bs → bs �
 unfolding number_of
 number_front bs l h =
     let read : number_of 8 bs ≡ Some (big_number 8 bs, drop 8 bs) = ap (λ b. cond b None (Some (big_number 8 bs, drop 8 bs))) (le-ltb (length bs) 8 l) in
-    (number_8_found bs (drop 8 bs) (big_number 8 bs) h read).0.whole
+    (number_found 8 bs (drop 8 bs) (big_number 8 bs) h read).0.whole
 
 pub number_again : (n : ℕ) (rest : List ℕ) → n < 2 ^ 64 → big_number 8 (to_be_bytes w64 n ++ rest) ≡ n
 number_again n rest l = big_number-reads_back 8 n rest l

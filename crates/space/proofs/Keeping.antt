@@ -1,5 +1,5 @@
 -- Operations keep what a state is.
-use Rattle.std.proofs.Common.{◌≡◌, ℕ, suc, ◌+◌, ◌-◌, ◌%◌, ◌≤◌, ◌<◌, Bool, true, false, cond, List, [], ◌∷◌, ◌++◌, length, take, drop, get_or, set, Option, Some, None, refl, sym, ap, subst, ◌∙◌, arith, inl, inr, eq-eqb}
+use Rattle.std.proofs.Common.{◌≡◌, ℕ, zero, suc, ◌+◌, ◌-◌, ◌%◌, ◌≤◌, ◌<◌, Bool, true, false, cond, List, [], ◌∷◌, ◌++◌, length, map, take, drop, get_or, set, Option, Some, None, refl, sym, ap, subst, ◌∙◌, arith, inl, inr, eq-eqb}
 use Rattle.std.specs.Prelude.{◌==◌, All, position, is_some, nat_lt, remove}
 use Rattle.std.proofs.lemmas.Bool.{cases_eq, ltb-true, ltb-false, eqb-true, ne_eqb}
 use Rattle.std.proofs.lemmas.List.{length_push, length-map, map-append, get_or-set_same, get_or-set_other}
@@ -8,18 +8,25 @@ use Rattle.std.proofs.lemmas.List.Elements.{All-nil, All-push, All-append, All-t
 use Rattle.std.proofs.lemmas.List.Quantifiers.{all_pairs_push, all_pairs_remove}
 use Rattle.tuple_tree.specs.Items.{none}
 use Rattle.tuple_tree.specs.Values.{TupleTree, TemplateTree, IsTuple}
-use Rattle.tuple_codec.specs.Operations.{Operation, out, rdp, inp, cas, rd_all, IsOperation, is_read_only}
+use Rattle.tuple_codec.specs.Operations.{Operation, out, rdp, inp, cas, rd_all, in_all, IsOperation, is_read_only}
 use Rattle.template_match.specs.Tests.{is_match}
-use Rattle.space.specs.Applying.{Contents, has_room, first_match, with_newest, tuples_after}
-use Rattle.space.specs.Births.{Entry, SpaceState, empty_state, tuples_of, page_count, has_page_room, first_passing, birth_of, with_birth, with_tuple, without_match, state_after, IsState, IsNextBirth}
+use Rattle.space.specs.Applying.{Contents, has_room, most_tuples, refuses, without_first, without_firsts, first_match, with_newest, served_after, tuples_after}
+use Rattle.space.specs.Births.{Entry, SpaceState, empty_in, tuples_of, page_count, has_page_room, first_passing, birth_of, with_birth, with_tuple, without_match, without_matches, served_state, state_after, IsState, IsNextBirth}
 use Rattle.space.specs.Counted.{IsCounted}
+use Rattle.space.specs.declared.version.Version.{Version}
+use Rattle.space.specs.declared.version.Version.TheVariants as versions
 use Rattle.space.proofs.Passing.{first_passing-least, first_passing-agree}
 use Rattle.space.proofs.Listing.{removed_at, removed_none, position-first, without_first-map}
 use Rattle.space.proofs.Paging as paging
 use Rattle.space.proofs.Paging.{page_count_push, page_count-remove}
 
-pub IsState-empty : IsState empty_state
-IsState-empty = record {
+-- The pages hold 16,384 tuples, more than each version allows.
+pub most_fit : (v : Version) → most_tuples v < 16384
+most_fit versions.One = omega arith
+most_fit versions.Two = omega arith
+
+pub IsState-empty : (v : Version) → IsState (empty_in v)
+IsState-empty v = record {
   rising = λ i j d l m. absurd (omega arith);
   below_next = All-nil _;
   pages = λ page. omega arith;
@@ -27,7 +34,7 @@ IsState-empty = record {
   tuples = All-nil _;
 }
 
-pub IsNextBirth-birth_of : (s : SpaceState) → length s.entries < 8192 → IsNextBirth s (birth_of s)
+pub IsNextBirth-birth_of : (s : SpaceState) → length s.entries < 16384 → IsNextBirth s (birth_of s)
 IsNextBirth-birth_of s l =
     let h = paging.has_room s.entries 256 s.next (omega arith) (omega arith) in
     let not_below = h.not_below in
@@ -39,10 +46,11 @@ IsNextBirth-birth_of s l =
       least = λ n from below. ltb-false (page_count s.entries (n % 256)) 64 (first_passing-least (has_page_room s.entries) 256 s.next n from below);
     }
 
-pub IsState-with_birth : (s : SpaceState) (t : TupleTree) → IsState s → IsTuple t → length s.entries < 8192 → IsState (with_birth s t)
+pub IsState-with_birth : (s : SpaceState) (t : TupleTree) → IsState s → IsTuple t → length s.entries < most_tuples s.version → IsState (with_birth s t)
 IsState-with_birth s t h valid l =
     let b = birth_of s in
-    let n = IsNextBirth-birth_of s l in
+    let fit = most_fit s.version in
+    let n = IsNextBirth-birth_of s (omega arith) in
     let above : s.next ≤ b = n.not_below in
     record {
       rising = all_pairs_push (λ e f. e.0 < f.0) s.entries (b, t) h.rising (λ k d m. let x = All-get_or (λ e. e.0 < s.next) s.entries k d m h.below_next in omega arith);
@@ -58,14 +66,15 @@ IsState-with_birth s t h valid l =
         go : (b : Bool) → (birth_of s % 256 == page) ≡ b → page_count s.entries page + cond b 1 0 ≤ 64
         go true e =
             let same : birth_of s % 256 ≡ page = eqb-true (birth_of s % 256) page e in
-            let room = subst (λ q. page_count s.entries q < 64) same (IsNextBirth-birth_of s l).room in
+            let fit = most_fit s.version in
+            let room = subst (λ q. page_count s.entries q < 64) same (IsNextBirth-birth_of s (omega arith)).room in
             omega arith
         go false e = let most = h.pages page in omega arith
 
 All-remove : {X : Type 0} (P : X → Type 0) (xs : List X) (i : ℕ) → All P xs → All P (remove xs i)
 All-remove P xs i h = All-append P (take i xs) (drop (suc i) xs) (All-take P i xs h) (All-drop P (suc i) xs h)
 
-pub IsState-remove : (s : SpaceState) (i : ℕ) → IsState s → i < length s.entries → IsState (record { entries = remove s.entries i; next = s.next })
+pub IsState-remove : (s : SpaceState) (i : ℕ) → IsState s → i < length s.entries → IsState (record s { entries = remove s.entries i })
 IsState-remove s i h l = record {
   rising = all_pairs_remove (λ e f. e.0 < f.0) s.entries i l h.rising;
   below_next = All-remove (λ e. e.0 < s.next) s.entries i h.below_next;
@@ -78,64 +87,96 @@ pub IsState-without_match : (s : SpaceState) (p : TemplateTree) → IsState s �
 IsState-without_match s p h = go (position (λ e. is_match p e.1) s.entries) refl
   where
     go : (o : Option ℕ) → position (λ e. is_match p e.1) s.entries ≡ o → IsState (without_match s p)
-    go None e = subst (λ es. IsState (record { entries = es; next = s.next })) (sym (removed_none (λ e. is_match p e.1) s.entries e)) h
+    go None e = subst (λ es. IsState (record s { entries = es })) (sym (removed_none (λ e. is_match p e.1) s.entries e)) h
     go (Some i) e =
-        subst (λ es. IsState (record { entries = es; next = s.next })) (sym (removed_at (λ e. is_match p e.1) s.entries i e))
+        subst (λ es. IsState (record s { entries = es })) (sym (removed_at (λ e. is_match p e.1) s.entries i e))
         (IsState-remove s i h (position-first (λ e. is_match p e.1) s.entries i e).1)
 
-length-tuples_of : (s : SpaceState) → length (tuples_of s) ≡ length s.entries
+pub IsState-without_matches : (n : ℕ) (s : SpaceState) (p : TemplateTree) → IsState s → IsState (without_matches s n p)
+IsState-without_matches zero s p h = h
+IsState-without_matches (suc n) s p h = IsState-without_matches n (without_match s p) p (IsState-without_match s p h)
+
+length-tuples_of : (s : SpaceState) → length (tuples_of s).tuples ≡ length s.entries
 length-tuples_of s = length-map s.entries (λ e. e.1)
 
 IsState-with_tuple : (s : SpaceState) (t : TupleTree) → IsState s → IsTuple t → IsState (with_tuple s t)
 IsState-with_tuple s t h valid = go (has_room (tuples_of s)) refl
   where
     go : (b : Bool) → has_room (tuples_of s) ≡ b → IsState (cond b (with_birth s t) s)
-    go true e = let l = ltb-true (length (tuples_of s)) 8192 e in IsState-with_birth s t h valid (omega (arith, length-tuples_of s))
+    go true e = let l = ltb-true (length (tuples_of s).tuples) (most_tuples s.version) e in IsState-with_birth s t h valid (omega (arith, length-tuples_of s))
     go false e = h
 
-pub IsState-state_after : (s : SpaceState) (o : Operation) → IsState s → IsOperation o → IsState (state_after s o)
-IsState-state_after s (out t) h valid = IsState-with_tuple s t h valid
-IsState-state_after s (rdp p) h valid = h
-IsState-state_after s (inp p) h valid = IsState-without_match s p h
-IsState-state_after s (cas p t) h valid = go (is_some (first_match p (tuples_of s)))
+IsState-served_state : (s : SpaceState) (o : Operation) → IsState s → IsOperation o → IsState (served_state s o)
+IsState-served_state s (out t) h valid = IsState-with_tuple s t h valid
+IsState-served_state s (rdp p) h valid = h
+IsState-served_state s (inp p) h valid = IsState-without_match s p h
+IsState-served_state s (cas p t) h valid = go (is_some (first_match p (tuples_of s)))
   where
     go : (b : Bool) → IsState (cond b s (with_tuple s t))
     go true = h
     go false = IsState-with_tuple s t h valid.1
-IsState-state_after s (rd_all n p) h valid = h
+IsState-served_state s (rd_all n p) h valid = h
+IsState-served_state s (in_all n p) h valid = IsState-without_matches n s p h
+
+pub IsState-state_after : (s : SpaceState) (o : Operation) → IsState s → IsOperation o → IsState (state_after s o)
+IsState-state_after s o h valid = go (refuses s.version o)
+  where
+    go : (b : Bool) → IsState (cond b s (served_state s o))
+    go true = h
+    go false = IsState-served_state s o h valid
 
 tuples_of-with_tuple : (s : SpaceState) (t : TupleTree) → tuples_of (with_tuple s t) ≡ with_newest (tuples_of s) t
 tuples_of-with_tuple s t = go (has_room (tuples_of s))
   where
-    go : (b : Bool) → tuples_of (cond b (with_birth s t) s) ≡ cond b (tuples_of s ++ t ∷ []) (tuples_of s)
-    go true = map-append (λ e. e.1) s.entries ((birth_of s, t) ∷ [])
+    go : (b : Bool) → tuples_of (cond b (with_birth s t) s) ≡ cond b (record (tuples_of s) { tuples = (tuples_of s).tuples ++ t ∷ [] }) (tuples_of s)
+    go true = ap (λ ts. record (tuples_of s) { tuples = ts }) (map-append (λ e. e.1) s.entries ((birth_of s, t) ∷ []))
     go false = refl
 
-pub tuples_of-state_after : (s : SpaceState) (o : Operation) → tuples_of (state_after s o) ≡ tuples_after (tuples_of s) o
-tuples_of-state_after s (out t) = tuples_of-with_tuple s t
-tuples_of-state_after s (rdp p) = refl
-tuples_of-state_after s (inp p) = without_first-map (λ e. e.1) (is_match p) s.entries
-tuples_of-state_after s (cas p t) = go (is_some (first_match p (tuples_of s)))
+without_firsts-map : (n : ℕ) (p : TemplateTree) (es : List Entry) → map (λ e. e.1) (without_firsts n (λ (e : Entry). is_match p e.1) es) ≡ without_firsts n (is_match p) (map (λ e. e.1) es)
+without_firsts-map zero p es = refl
+without_firsts-map (suc n) p es = without_firsts-map n p (without_first (λ e. is_match p e.1) es) ∙ ap (without_firsts n (is_match p)) (without_first-map (λ (e : Entry). e.1) (is_match p) es)
+
+tuples_of-served_state : (s : SpaceState) (o : Operation) → tuples_of (served_state s o) ≡ served_after (tuples_of s) o
+tuples_of-served_state s (out t) = tuples_of-with_tuple s t
+tuples_of-served_state s (rdp p) = refl
+tuples_of-served_state s (inp p) = ap (λ ts. record (tuples_of s) { tuples = ts }) (without_first-map (λ e. e.1) (is_match p) s.entries)
+tuples_of-served_state s (cas p t) = go (is_some (first_match p (tuples_of s)))
   where
     go : (b : Bool) → tuples_of (cond b s (with_tuple s t)) ≡ cond b (tuples_of s) (with_newest (tuples_of s) t)
     go true = refl
     go false = tuples_of-with_tuple s t
-tuples_of-state_after s (rd_all n p) = refl
+tuples_of-served_state s (rd_all n p) = refl
+tuples_of-served_state s (in_all n p) = ap (λ ts. record (tuples_of s) { tuples = ts }) (without_firsts-map n p s.entries)
+
+pub tuples_of-state_after : (s : SpaceState) (o : Operation) → tuples_of (state_after s o) ≡ tuples_after (tuples_of s) o
+tuples_of-state_after s o = go (refuses s.version o)
+  where
+    go : (b : Bool) → tuples_of (cond b s (served_state s o)) ≡ cond b (tuples_of s) (served_after (tuples_of s) o)
+    go true = refl
+    go false = tuples_of-served_state s o
 
 -- What only reads leaves the tuples as they are.
 pub read_same : (ts : Contents) (o : Operation) → is_read_only o ≡ true → tuples_after ts o ≡ ts
-read_same ts (out t) h = absurd cc
-read_same ts (rdp p) h = refl
-read_same ts (inp p) h = absurd cc
-read_same ts (cas p t) h = absurd cc
-read_same ts (rd_all n p) h = refl
+read_same ts o h = go (refuses ts.version o)
+  where
+    served : (o : Operation) → is_read_only o ≡ true → served_after ts o ≡ ts
+    served (out t) h = absurd cc
+    served (rdp p) h = refl
+    served (inp p) h = absurd cc
+    served (cas p t) h = absurd cc
+    served (rd_all n p) h = refl
+    served (in_all n p) h = absurd cc
+
+    go : (b : Bool) → cond b ts (served_after ts o) ≡ ts
+    go true = refl
+    go false = served o h
 
 -- The table of how many tuples lie on each page.
-module _ (es : List Entry) (next : ℕ) (counts : List ℕ) (h : IsCounted es next counts) where
+module _ (version : Version) (es : List Entry) (next : ℕ) (counts : List ℕ) (h : IsCounted version es next counts) where
   pub few_on_page : (birth : ℕ) → get_or counts (birth % 256) 0 ≤ 64
   few_on_page birth = let most = h.state.pages (birth % 256) in let e = h.counted (birth % 256) (omega arith) in omega arith
 
-  pub birth_by_counts : (s : SpaceState) → s ≡ record { entries = es; next = next } → first_passing (λ birth. nat_lt (get_or counts (birth % 256) 0) 64) 256 next ≡ birth_of s
+  pub birth_by_counts : (s : SpaceState) → s ≡ record { version = version; entries = es; next = next } → first_passing (λ birth. nat_lt (get_or counts (birth % 256) 0) 64) 256 next ≡ birth_of s
   birth_by_counts s e =
       first_passing-agree (λ birth. nat_lt (get_or counts (birth % 256) 0) 64) (has_page_room es) (λ birth. ap (λ n. nat_lt n 64) (h.counted (birth % 256) (omega arith))) 256 next
       ∙ ap birth_of (sym e)
@@ -190,28 +231,28 @@ module _ (es : List Entry) (next : ℕ) (counts : List ℕ) (h : IsCounted es ne
       let one : cond {A = ℕ} (b % 256 == b % 256) 1 0 ≡ 1 = ap (λ (x : Bool). cond {A = ℕ} x 1 0) (eq-eqb (b % 256) (b % 256) refl) in
       omega arith
 
-  pub birth_soon : (b : ℕ) → b ≡ first_passing (λ birth. nat_lt (get_or counts (birth % 256) 0) 64) 256 next → length es < 8192 → b < next + 256
+  pub birth_soon : (b : ℕ) → b ≡ first_passing (λ birth. nat_lt (get_or counts (birth % 256) 0) 64) 256 next → length es < most_tuples version → b < next + 256
   birth_soon b e l =
-      let s : SpaceState = record { entries = es; next = next } in
-      subst (λ n. n < next + 256) (sym (e ∙ birth_by_counts s refl)) (IsNextBirth-birth_of s l).soon
+      let s : SpaceState = record { version = version; entries = es; next = next } in
+      subst (λ n. n < next + 256) (sym (e ∙ birth_by_counts s refl)) (IsNextBirth-birth_of s (let fit = most_fit version in omega arith)).soon
 
-  pub birth_from : (b : ℕ) → b ≡ first_passing (λ birth. nat_lt (get_or counts (birth % 256) 0) 64) 256 next → length es < 8192 → next ≤ b
+  pub birth_from : (b : ℕ) → b ≡ first_passing (λ birth. nat_lt (get_or counts (birth % 256) 0) 64) 256 next → length es < most_tuples version → next ≤ b
   birth_from b e l =
-      let s : SpaceState = record { entries = es; next = next } in
-      subst (λ n. next ≤ n) (sym (e ∙ birth_by_counts s refl)) (IsNextBirth-birth_of s l).not_below
+      let s : SpaceState = record { version = version; entries = es; next = next } in
+      subst (λ n. next ≤ n) (sym (e ∙ birth_by_counts s refl)) (IsNextBirth-birth_of s (let fit = most_fit version in omega arith)).not_below
 
-  pub IsCounted-push : (b : ℕ) (t : TupleTree) (items : List Entry) → length counts ≡ 256 → IsTuple t → length es < 8192
+  pub IsCounted-push : (b : ℕ) (t : TupleTree) (items : List Entry) → length counts ≡ 256 → IsTuple t → length es < most_tuples version
       → b ≡ first_passing (λ birth. nat_lt (get_or counts (birth % 256) 0) 64) 256 next → items ≡ es ++ (b, t) ∷ []
-      → IsCounted items (b + 1) (set counts (b % 256) (get_or counts (b % 256) 0 + 1))
+      → IsCounted version items (b + 1) (set counts (b % 256) (get_or counts (b % 256) 0 + 1))
   IsCounted-push b t items long valid l e is =
-      let s : SpaceState = record { entries = es; next = next } in
-      let kept = subst (λ n. IsState (record { entries = es ++ (n, t) ∷ []; next = n + 1 })) (sym (e ∙ birth_by_counts s refl)) (IsState-with_birth s t h.state valid l) in
-      subst (λ xs. IsCounted xs (b + 1) (set counts (b % 256) (get_or counts (b % 256) 0 + 1))) (sym is)
+      let s : SpaceState = record { version = version; entries = es; next = next } in
+      let kept = subst (λ n. IsState (record { version = version; entries = es ++ (n, t) ∷ []; next = n + 1 })) (sym (e ∙ birth_by_counts s refl)) (IsState-with_birth s t h.state valid l) in
+      subst (λ xs. IsCounted version xs (b + 1) (set counts (b % 256) (get_or counts (b % 256) 0 + 1))) (sym is)
       (record { state = kept; counted = counted_push b t (set counts (b % 256) (get_or counts (b % 256) 0 + 1)) long refl })
 
   pub IsCounted-remove : (i b : ℕ) (t : TupleTree) (items : List Entry) → length counts ≡ 256 → i < length es → (b, t) ≡ get_or es i (b, t) → items ≡ remove es i
-      → IsCounted items next (set counts (b % 256) (get_or counts (b % 256) 0 - 1))
+      → IsCounted version items next (set counts (b % 256) (get_or counts (b % 256) 0 - 1))
   IsCounted-remove i b t items long within is removed =
-      let s : SpaceState = record { entries = es; next = next } in
-      subst (λ xs. IsCounted xs next (set counts (b % 256) (get_or counts (b % 256) 0 - 1))) (sym removed)
+      let s : SpaceState = record { version = version; entries = es; next = next } in
+      subst (λ xs. IsCounted version xs next (set counts (b % 256) (get_or counts (b % 256) 0 - 1))) (sym removed)
       (record { state = IsState-remove s i h.state within; counted = counted_remove i b t (set counts (b % 256) (get_or counts (b % 256) 0 - 1)) long within is refl })

@@ -9,6 +9,7 @@ pub mod Finding
 pub mod Texts
 pub mod Determining
 pub mod Batches
+pub mod Versions
 pub mod Placing
 pub mod Fronts
 pub mod Loading
@@ -19,4 +20,6 @@ pub mod Storing
 pub mod Among
 pub mod Changing
 pub mod Answering
+pub mod Taking
+pub mod Touching
 pub mod InOrder

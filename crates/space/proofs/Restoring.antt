@@ -13,6 +13,7 @@ use Rattle.space.specs.Births.{Entry, SpaceState, IsState, page_count}
 use Rattle.space.specs.Counted.{IsCounted}
 use Rattle.space.specs.Pages.{ArePages, MayBePages, entries_text, on_page}
 use Rattle.space.specs.Reading.{IsPage, IsPageRead, ArePagesRead, ArePagesOf, IsHeader}
+use Rattle.space.specs.declared.version.Version.TheVariants as versions
 use Rattle.space.proofs.Determining.{entries_same, entries_from_pages, on_page_fits, pages_determine}
 use Rattle.space.proofs.Loading.{on_page-all, IsPage-fits}
 
@@ -39,11 +40,11 @@ IsPage-of_state s page h = record {
 -- the texts are so many as pages, and the header is that of a state with no tuples
 pub MayBePages-read : (texts : List (List ℕ)) (header : List ℕ) (number next : ℕ) → length texts ≡ 256 → IsHeader header number next → MayBePages texts header
 MayBePages-read texts header number next all h =
-    let s : SpaceState = record { entries = []; next = next } in
+    let s : SpaceState = record { version = versions.One; entries = []; next = next } in
     let valid : IsState s = record { rising = λ i j d l m. absurd (omega arith); below_next = All-nil _; pages = λ page. omega arith; count = omega arith; tuples = All-nil _ } in
     record {
       all = all;
-      heading = (s, number, record { state = valid; births = h.births; few = h.few }, h.spelled);
+      heading = (s, number, record { state = valid; version = refl; births = h.births; few = h.few }, h.spelled);
     }
 
 -- ---- page by page
@@ -82,7 +83,7 @@ ArePagesRead-more n next texts text old new counts count h l is read counted = r
 -- ---- all pages
 
 module _ (next : ℕ) (texts : List (List ℕ)) (es : List Entry) (counts : List ℕ) (h : ArePagesRead 256 next texts es counts) where
-  IsState-read : length es ≤ 8192 → IsState (record { entries = es; next = next })
+  IsState-read : length es ≤ 8192 → IsState (record { version = versions.One; entries = es; next = next })
   IsState-read few = record {
     rising = h.rising;
     below_next = all_from_pages (λ e. e.0 < next) es (λ page l. (h.valid page l).below_next);
@@ -94,11 +95,11 @@ module _ (next : ℕ) (texts : List (List ℕ)) (es : List Entry) (counts : List
     tuples = all_from_pages (λ e. IsTuple e.1) es (λ page l. (h.valid page l).tuples);
   }
 
-  pub IsCounted-read : length es ≤ 8192 → IsCounted es next counts
+  pub IsCounted-read : length es ≤ 8192 → IsCounted versions.One es next counts
   IsCounted-read few = record { state = IsState-read few; counted = λ page l. h.counted page l ∙ sym (page_count-on_page es page) }
 
-  pub ArePagesOf-read : length es ≤ 8192 → ArePagesOf next texts (record { entries = es; next = next })
-  ArePagesOf-read few = record { state = IsState-read few; same_next = refl; each = h.spelled }
+  pub ArePagesOf-read : length es ≤ 8192 → ArePagesOf next texts (record { version = versions.One; entries = es; next = next })
+  ArePagesOf-read few = record { state = IsState-read few; version = refl; same_next = refl; each = h.spelled }
 
   -- a state with these pages has these tuples
   pub same_entries : (s : SpaceState) → next < 2 ^ 64 → ArePagesOf next texts s → es ≡ s.entries
@@ -112,7 +113,7 @@ ArePages-read texts header s number next all head of =
     let same = of.same_next in
     let births = head.births in
     record {
-      state = record { state = of.state; births = omega arith; few = head.few };
+      state = record { state = of.state; version = of.version; births = omega arith; few = head.few };
       heading = head.spelled ∙ ap (λ n. 1 ∷ to_be_bytes w64 number ++ to_be_bytes w64 n) (sym same);
       all = all;
       each = of.each;

@@ -1,5 +1,5 @@
 -- The tables and the index follow the tuples.
-use Rattle.std.proofs.Common.{◌≡◌, ℕ, suc, ◌+◌, ◌-◌, ◌%◌, ◌≤◌, ◌<◌, Bool, true, false, cond, List, [], ◌∷◌, ◌++◌, length, map, get_or, set, Some, refl, sym, ap, subst, ◌∙◌, arith, inl, inr}
+use Rattle.std.proofs.Common.{◌≡◌, ℕ, suc, ◌+◌, ◌-◌, ◌%◌, ◌≤◌, ◌<◌, Bool, true, false, cond, List, [], ◌∷◌, ◌++◌, length, map, take, get_or, set, Some, refl, sym, ap, subst, ◌∙◌, arith, inl, inr}
 use Rattle.std.specs.Prelude.{◌==◌, ◌&&◌, All, AllPairs, filter, find, remove, nat_lt}
 use Rattle.std.specs.Ordering.{nat_cmp, is_eq}
 use Rattle.std.specs.Str.{bytes_eq}
@@ -9,14 +9,15 @@ use Rattle.std.proofs.lemmas.Bool.{cases_eq}
 use Rattle.std.proofs.lemmas.List.Elements.{All-weaker}
 use Rattle.tuple_tree.specs.Values.{TupleTree, TemplateTree, IsTuple}
 use Rattle.template_match.specs.Tests.{is_match}
-use Rattle.space.specs.Applying.{without_first}
-use Rattle.space.specs.Births.{Entry, SpaceState, IsState, tuples_of, first_passing, birth_of, with_birth}
+use Rattle.space.specs.Applying.{most_tuples, without_first}
+use Rattle.space.specs.Births.{Entry, SpaceState, IsState, tuples_of, first_passing, birth_of, oldest_births, with_birth}
 use Rattle.space.specs.Candidates.{is_candidate, candidates_of}
 use Rattle.space.specs.Counted.{IsIndexed}
 use Rattle.space.specs.Filing.{births_by, page_key, IsIndexOf}
 use Rattle.space.specs.Found.{entries_at}
 use Rattle.space.specs.Pages.{on_page, entries_text, page_text}
 use Rattle.space.specs.declared.index.Index.{Index}
+use Rattle.space.specs.declared.version.Version.{Version}
 use Rattle.space.proofs.Filing.{entries_of_births, find-filter, filter-same, each_found, at_other, at_same}
 use Rattle.space.proofs.Keying.{match_is_candidate}
 use Rattle.space.proofs.Trees.{IsTaken, first_taken, removed_by_place, inserted_last}
@@ -31,7 +32,7 @@ module _ (s : SpaceState) (h : IsState s) where
       ap (find (λ e. is_match p e.1)) (entries_of_births (λ e. is_candidate p e.1) s.entries h.rising)
       ∙ find-filter (λ (e : Entry). is_match p e.1) (λ e. is_candidate p e.1) (λ e. match_is_candidate p e.1) s.entries
 
-  pub matches_among : (p : TemplateTree) → filter (is_match p) (map (λ e. e.1) (entries_at s.entries (candidates_of p s))) ≡ filter (is_match p) (tuples_of s)
+  pub matches_among : (p : TemplateTree) → filter (is_match p) (map (λ e. e.1) (entries_at s.entries (candidates_of p s))) ≡ filter (is_match p) (tuples_of s).tuples
   matches_among p =
       ap (λ (es : List Entry). filter (is_match p) (map (λ e. e.1) es)) (entries_of_births (λ e. is_candidate p e.1) s.entries h.rising)
       ∙ mapped s.entries
@@ -49,6 +50,27 @@ module _ (s : SpaceState) (h : IsState s) where
       mapped : (es : List Entry) → filter (is_match p) (map (λ e. e.1) (filter (λ (e : Entry). is_candidate p e.1) es)) ≡ filter (is_match p) (map (λ e. e.1) es)
       mapped [] = refl
       mapped (e ∷ es) = go (filter (λ (x : Entry). is_candidate p x.1) es) es e (is_candidate p e.1) (match_is_candidate p e.1) (mapped es)
+
+  -- the births of the oldest matches are among the candidates
+  pub births_among : (p : TemplateTree) (n : ℕ) → oldest_births n p (entries_at s.entries (candidates_of p s)) ≡ oldest_births n p s.entries
+  births_among p n =
+      ap (λ (es : List Entry). oldest_births n p es) (entries_of_births (λ e. is_candidate p e.1) s.entries h.rising)
+      ∙ ap (λ (es : List Entry). take n (map (λ e. e.0) es)) (passing s.entries)
+    where
+      go : (e : Entry) (xs : List Entry) (b : Bool) → (is_match p e.1 ≡ true → b ≡ true)
+          → filter (λ (x : Entry). is_match p x.1) (cond b (e ∷ xs) xs) ≡ cond (is_match p e.1) (e ∷ filter (λ (x : Entry). is_match p x.1) xs) (filter (λ (x : Entry). is_match p x.1) xs)
+      go e xs true k = refl
+      go e xs false k = last (is_match p e.1) k
+        where
+          last : (a : Bool) → (a ≡ true → false ≡ true) → filter (λ (x : Entry). is_match p x.1) xs ≡ cond a (e ∷ filter (λ (x : Entry). is_match p x.1) xs) (filter (λ (x : Entry). is_match p x.1) xs)
+          last true f = absurd (let g : false ≡ true = f refl in cc)
+          last false f = refl
+
+      passing : (es : List Entry) → filter (λ (e : Entry). is_match p e.1) (filter (λ (e : Entry). is_candidate p e.1) es) ≡ filter (λ (e : Entry). is_match p e.1) es
+      passing [] = refl
+      passing (e ∷ es) =
+          go e (filter (λ (x : Entry). is_candidate p x.1) es) (is_candidate p e.1) (match_is_candidate p e.1)
+          ∙ ap (λ (xs : List Entry). cond (is_match p e.1) (e ∷ xs) xs) (passing es)
 
   -- the births of a page lead to its tuples
   pub page_among : (page : ℕ) → entries_text (entries_at s.entries (births_by (λ e. bytes_eq (page_key e) (page ∷ [])) s.entries)) ≡ page_text s page
@@ -93,43 +115,43 @@ oldest_taken test es b t h f =
       left = removed_by_place es i b (b, t) h p.1.within (ap (λ (e : Entry). e.0) (sym here)) ∙ sym p.1.left;
     }
 
-module _ (es : List Entry) (next : ℕ) (counts : List ℕ) (index : Index) (h : IsIndexed es next counts index) (b : ℕ) (t : TupleTree) (stored : lookup (is_at (nat_cmp b)) es ≡ Some t) where
+module _ (version : Version) (es : List Entry) (next : ℕ) (counts : List ℕ) (index : Index) (h : IsIndexed version es next counts index) (b : ℕ) (t : TupleTree) (stored : lookup (is_at (nat_cmp b)) es ≡ Some t) where
   pub taken_counted : 1 ≤ get_or counts (b % 256) 0
-  taken_counted = let p = lookup_place es b t stored in counted_one es next counts h.counts p.0 b t p.1.within p.1.here
+  taken_counted = let p = lookup_place es b t stored in counted_one version es next counts h.counts p.0 b t p.1.within p.1.here
 
   pub IsIndexed-taken : (items : List Entry) (new : Index) → length counts ≡ 256 → items ≡ remove_entry (is_at (nat_cmp b)) es
       → ((fs : List Entry) (i : ℕ) → AllPairs (λ e f. e.0 < f.0) fs → i < length fs → (b, t) ≡ get_or fs i (b, t) → IsIndexOf index fs → IsIndexOf new (remove fs i))
-      → IsIndexed items next (set counts (b % 256) (get_or counts (b % 256) 0 - 1)) new
+      → IsIndexed version items next (set counts (b % 256) (get_or counts (b % 256) 0 - 1)) new
   IsIndexed-taken items new long is moved =
       let p = lookup_place es b t stored in
       let rising = h.counts.state.rising in
       let left : items ≡ remove es p.0 = is ∙ removed_by_place es p.0 b (b, t) rising p.1.within (ap (λ (e : Entry). e.0) (sym p.1.here)) in
       record {
-        counts = IsCounted-remove es next counts h.counts p.0 b t items long p.1.within p.1.here left;
+        counts = IsCounted-remove version es next counts h.counts p.0 b t items long p.1.within p.1.here left;
         indexed = subst (IsIndexOf new) (sym left) (moved es p.0 rising p.1.within p.1.here h.indexed);
       }
 
 -- ---- a tuple is added
 
-module _ (es : List Entry) (next : ℕ) (counts : List ℕ) (index : Index) (h : IsIndexed es next counts index) (b : ℕ) (newest : next ≤ b) where
+module _ (version : Version) (es : List Entry) (next : ℕ) (counts : List ℕ) (index : Index) (h : IsIndexed version es next counts index) (b : ℕ) (newest : next ≤ b) where
   all_older : All (λ e. e.0 < b) es
   all_older = All-weaker (λ e. e.0 < next) (λ e. e.0 < b) (λ e l. omega arith) es h.counts.state.below_next
 
-  pub IsIndexed-added : (t : TupleTree) (items : List Entry) (new : Index) → length counts ≡ 256 → IsTuple t → length es < 8192
+  pub IsIndexed-added : (t : TupleTree) (items : List Entry) (new : Index) → length counts ≡ 256 → IsTuple t → length es < most_tuples version
       → b ≡ first_passing (λ birth. nat_lt (get_or counts (birth % 256) 0) 64) 256 next → items ≡ insert_entry nat_cmp es b t
       → ((fs : List Entry) → IsIndexOf index fs → IsIndexOf new (fs ++ (b, t) ∷ []))
-      → IsIndexed items (b + 1) (set counts (b % 256) (get_or counts (b % 256) 0 + 1)) new
+      → IsIndexed version items (b + 1) (set counts (b % 256) (get_or counts (b % 256) 0 + 1)) new
   IsIndexed-added t items new long valid room is put moved =
       let last : items ≡ es ++ (b, t) ∷ [] = put ∙ inserted_last es b t all_older in
       record {
-        counts = IsCounted-push es next counts h.counts b t items long valid room is last;
+        counts = IsCounted-push version es next counts h.counts b t items long valid room is last;
         indexed = subst (IsIndexOf new) (sym last) (moved es h.indexed);
       }
 
   pub added_state : (t : TupleTree) (items : List Entry) → b ≡ first_passing (λ birth. nat_lt (get_or counts (birth % 256) 0) 64) 256 next → items ≡ insert_entry nat_cmp es b t
-      → record { entries = items; next = b + 1 } ≡ with_birth (record { entries = es; next = next }) t
+      → record { version = version; entries = items; next = b + 1 } ≡ with_birth (record { version = version; entries = es; next = next }) t
   added_state t items is put =
-      let s : SpaceState = record { entries = es; next = next } in
-      let same : b ≡ birth_of s = is ∙ birth_by_counts es next counts h.counts s refl in
-      ap (λ (xs : List Entry). record { entries = xs; next = b + 1 }) (put ∙ inserted_last es b t all_older)
-      ∙ ap (λ (n : ℕ). record { entries = es ++ (n, t) ∷ []; next = n + 1 }) same
+      let s : SpaceState = record { version = version; entries = es; next = next } in
+      let same : b ≡ birth_of s = is ∙ birth_by_counts version es next counts h.counts s refl in
+      ap (λ (xs : List Entry). record { version = version; entries = xs; next = b + 1 }) (put ∙ inserted_last es b t all_older)
+      ∙ ap (λ (n : ℕ). record { version = version; entries = es ++ (n, t) ∷ []; next = n + 1 }) same

@@ -3,17 +3,20 @@ use Rattle.std.specs.Prelude.{◌≡◌, ℕ, ◌%◌, ◌<◌, Bool, nat_lt, Li
 use Rattle.space.specs.Births.{Entry, SpaceState, IsState, page_count}
 use Rattle.space.specs.Filing.{IsIndexOf}
 use Rattle.space.specs.declared.index.Index.{Index}
+use Rattle.space.specs.declared.version.Version.{Version}
 
 -- whether the page of a birth number has room, by how many tuples lie on each page
 abbrev pub has_counted_room : List ℕ → ℕ → Bool
 has_counted_room page_counts birth = nat_lt (slice_index page_counts (birth % 256)) 64
 
 -- The tuples and the next number are a state, and the table has how many tuples lie on each page.
-pub record IsCounted (entries : List Entry) (next : ℕ) (page_counts : List ℕ) : Type 0 where
-  pub state : let s : SpaceState = record { entries = entries; next = next } in IsState s
+pub record IsCounted (version : Version) (entries : List Entry) (next : ℕ) (page_counts : List ℕ) : Type 0 where
+  pub state : let s : SpaceState = record { version = version; entries = entries; next = next } in IsState s
   pub counted : (page : ℕ) → page < 256 → slice_index page_counts page ≡ page_count entries page
 
 -- The tables and the index are those of the tuples.
-pub record IsIndexed (entries : List Entry) (next : ℕ) (page_counts : List ℕ) (index : Index) : Type 0 where
-  pub counts : IsCounted entries next page_counts
+pub record IsIndexed
+    (version : Version) (entries : List Entry) (next : ℕ) (page_counts : List ℕ) (index : Index)
+    : Type 0 where
+  pub counts : IsCounted version entries next page_counts
   pub indexed : IsIndexOf index entries

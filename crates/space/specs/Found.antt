@@ -1,5 +1,5 @@
 -- What the private functions that find entries by their births speak of.
-use Rattle.std.specs.Prelude.{◌≡◌, ℕ, List, take, map, filter, find, flat_map, Option, option_map, option_to_list, Result, IfOk}
+use Rattle.std.specs.Prelude.{◌≡◌, ℕ, List, take, map, filter, find, flat_map, fold, Option, option_map, option_to_list, Result, IfOk}
 use Rattle.std.specs.Borrow.{Bor}
 use Rattle.std.specs.Ordering.{nat_cmp}
 use Rattle.std.specs.Map.{lookup, remove_entry}
@@ -24,6 +24,10 @@ births_text es births = entries_text (entries_at es births)
 -- the state without the entry of a birth
 abbrev pub without_birth : SpaceState → ℕ → SpaceState
 without_birth s birth = record s { entries = remove_entry (is_at (nat_cmp birth)) s.entries }
+
+-- the state without the entries of these births
+abbrev pub without_births : SpaceState → List ℕ → SpaceState
+without_births s births = fold without_birth s births
 
 -- the oldest entry that the template matches
 abbrev pub oldest_in : TemplateTree → List Entry → Option Entry

@@ -1,5 +1,6 @@
 pub mod Ages
 pub mod Answers
+pub mod Serving
 pub mod Applying
 pub mod BirthListView
 pub mod Births
@@ -9,7 +10,9 @@ pub mod Filing
 pub mod Found
 pub mod Keys
 pub mod Laws
+pub mod Marking
 pub mod Pages
 pub mod Reading
 pub mod Stored
+pub mod VersionCode
 pub mod Watching

@@ -8,6 +8,7 @@ use Rattle.tuple_codec.specs.Spelling.{tuple_spelling}
 use Rattle.tuple_codec.specs.declared.bad.Bad.{Bad}
 use Rattle.tuple_codec.specs.declared.bad.Bad.TheVariants.{NoMemory}
 use Rattle.space.specs.Births.{Entry, SpaceState, IsState}
+use Rattle.space.specs.declared.version.Version.TheVariants as versions
 
 abbrev pub entry_text : Entry → List ℕ
 entry_text e = to_be_bytes w64 e.0 ++ tuple_spelling e.1
@@ -27,9 +28,10 @@ abbrev pub header_text : SpaceState → ℕ → List ℕ
 header_text s number = 1 ∷ to_be_bytes w64 number ++ to_be_bytes w64 s.next
 
 -- A state after so many executed batches: each batch has at most 16 requests, and each request takes at most 256
--- births.
+-- births. Pages don't tell the version, which is 1.
 pub record IsStateAt (s : SpaceState) (number : ℕ) : Type 0 where
   pub state : IsState s
+  pub version : s.version ≡ versions.One
   pub births : s.next ≤ 4096 * number
   pub few : number < 2 ^ 48
 

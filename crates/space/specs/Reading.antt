@@ -7,6 +7,7 @@ use Rattle.tuple_codec.specs.declared.bad.Bad.{Bad}
 use Rattle.tuple_codec.specs.declared.bad.Bad.TheVariants.{NoMemory}
 use Rattle.space.specs.Births.{Entry, SpaceState, IsState}
 use Rattle.space.specs.Pages.{entry_text, entries_text, on_page, page_text}
+use Rattle.space.specs.declared.version.Version.TheVariants as versions
 
 -- what can be written as an entry of a page
 pub record IsEntry (e : Entry) : Type 0 where
@@ -95,6 +96,7 @@ pub record ArePagesRead (n next : ℕ) (texts : List (List ℕ)) (es : List Entr
 -- the texts of pages are those of a state with this next birth number
 pub record ArePagesOf (next : ℕ) (texts : List (List ℕ)) (s : SpaceState) : Type 0 where
   pub state : IsState s
+  pub version : s.version ≡ versions.One
   pub same_next : s.next ≡ next
   pub each : (page : ℕ) → page < 256 → slice_index_or texts page [] ≡ page_text s page
 

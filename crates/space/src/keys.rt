@@ -3,7 +3,7 @@
 ghost use Rattle.std.specs.Prelude.{◌≡◌, ◌+◌, ◌≤◌, ◌<◌, ◌++◌, ◌∷◌, length, option_map};
 ghost use Rattle.tuple_tree.specs.Values.{datum_length, IsTemplate};
 ghost use Rattle.tuple_tree.specs.AtomView.{datum_of};
-ghost use Rattle.tuple_codec.specs.Spelling.{datum_spelling, string as string_spelling};
+ghost use Rattle.tuple_codec.specs.Spelling.{datum_spelling, string as string_spelling, wide_bytes as wide_spelling};
 ghost use Rattle.space.specs.Keys.{tuple_key, template_key};
 
 use arrayvec::ArrayVec;
@@ -61,8 +61,19 @@ fn key_of<A: Allocator>(count: usize, first: &Atom<A>) -> Key
             key.push(4);
             key.push(*truth as u8);
         }
+        Atom::Wide(number) => {
+            key.push(6);
+            put(&mut key, &wide_bytes(*number));
+        }
     }
     key
+}
+
+#[tactic(auto, unfolding(tuple_codec::specs::Spelling::wide_bytes))]
+fn wide_bytes(number: i128) -> [u8; 16]
+    ensures { result ≡ wide_spelling number }
+{
+    number.to_be_bytes()
 }
 
 fn put_string(key: &mut Key, string: &[u8])

@@ -6,9 +6,10 @@ ghost use Rattle.space.specs.Births.{SpaceState, IsNextBirth, TuplesFollow, birt
 ghost use Rattle.space.specs.Laws.{StatesStay, AnswersAreValid, PagesDetermine, BatchesLeaveStates};
 ghost use Rattle.space.specs.Pages.{IsStateAt};
 
-/// A new tuple takes the least birth number whose page has room, and such a number is never far.
+/// A new tuple takes the least birth number whose page has room, and such a number is never far. The 256 pages hold
+/// 16,384 tuples, which is more than a space of either version holds.
 pub fn births_are_least()
-    ensures { (s : SpaceState) → length s.entries < 8192 → IsNextBirth s (birth_of s) }
+    ensures { (s : SpaceState) → length s.entries < 16384 → IsNextBirth s (birth_of s) }
 {}
 
 /// Each operation leaves a state.

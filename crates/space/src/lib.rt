@@ -1,23 +1,28 @@
 //! One process's tuple space: a bag of tuples in order of age (Gelernter, Generative communication in Linda, TOPLAS
 //! 1985) under the operations of DepSpace (Bessani and others, EuroSys 2008, section 3).
 //!
-//! The space holds at most [`MAX_TUPLES`] tuples. Where several match, the oldest is chosen. Each stored tuple has a
-//! birth number, which puts it on one of [`PAGES`] pages of at most [`MAX_ON_PAGE`] tuples; that part is this project's
-//! own.
+//! A space has a [`Version`]. One of version 1 holds at most [`MAX_TUPLES`] tuples, 8,192, and refuses each operation
+//! of version 2; one of version 2 holds at most [`MAX_TUPLES_V2`], 12,288. Where several match, the oldest is chosen.
+//! Each stored tuple has a birth number, which puts it on one of [`PAGES`] pages of at most [`MAX_ON_PAGE`] tuples;
+//! that part is this project's own.
 //!
 //! # What is proved
 //!
-//! `apply` answers and leaves what the definition says of the list of tuples in order of age (`outcome`,
-//! `tuples_after`), for `out`, `rdp`, `inp`, `cas` and `rdAll`; at want of memory it is unchanged. `peek` answers
-//! reads alone, and refuses exactly the others. Both tell of want of memory only where the operation adds a tuple or
-//! copies a match (`WantsMemory`). `page_text` and `header_text` are the pages of the definition; `from_pages` gives a
-//! space exactly where the texts are a state's, want of memory aside, which it tells of 256 texts and a state's header
-//! alone. Laws: `births_are_least`, `states_stay_states`, `tuples_follow_states`, `answers_are_valid`,
-//! `pages_determine` (equal pages are equal states), `batches_leave_states`.
+//! `apply` answers and leaves what the definition says of the version and of the list of tuples in order of age
+//! (`outcome`, `tuples_after`), for `out`, `rdp`, `inp`, `cas`, `rdAll` and `inAll`; at want of memory it is unchanged.
+//! A space of version 1 answers `Refused` to `inAll`, and to an operation with a wide number or one that asks for such,
+//! and is unchanged. [`Space::new`] gives version 1, [`Space::new_v2`] version 2, and each operation keeps it. `peek`
+//! answers reads alone, and refuses exactly the others. Both tell of want of memory only where the operation adds a
+//! tuple or copies a match (`WantsMemory`). States whose pages are told are of version 1, and so is what `from_pages`
+//! gives. `page_text` and `header_text` are the pages of the definition; `from_pages` gives a space exactly where the
+//! texts are a state's, want of memory aside, which it tells of 256 texts and a state's header alone. Laws:
+//! `births_are_least`, `states_stay_states`, `tuples_follow_states`, `answers_are_valid`, `pages_determine` (equal
+//! pages are equal states), `batches_leave_states`.
 //!
 //! `candidates` lends the births of the tuples of a template's length and first value, exactly; the operations walk no
-//! others. [`Watched`] is a space that knows which pages its operations touched: a page that is not touched has the text
-//! that it had when `untouch` was last called.
+//! others. [`Watched`] is a space that knows which pages its operations touched: a page that is not touched has the
+//! text that it had when `untouch` was last called. An operation touches no page but those of the tuples that it may
+//! add or take (`MayChange`).
 #![tactic(auto)]
 
 mod birth_list;
@@ -31,6 +36,7 @@ mod pages;
 mod reading;
 mod stored;
 mod tuples;
+mod version;
 mod watched;
 
 pub use births::{MAX_ON_PAGE, PAGES};
@@ -39,5 +45,6 @@ pub use laws::{
     tuples_follow_states,
 };
 pub use pages::HEADER_LEN;
-pub use tuples::{MAX_TUPLES, PeekFault, Space};
+pub use tuples::{PeekFault, Space};
+pub use version::{MAX_TUPLES, MAX_TUPLES_V2, Version};
 pub use watched::Watched;

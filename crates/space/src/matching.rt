@@ -1,13 +1,15 @@
 //! Matches among stored tuples.
 
-ghost use Rattle.std.specs.Prelude.{◌≢◌, [], OnErr};
-ghost use Rattle.space.specs.Found.{IsMatchAt, IsOldestAt, AreOldestAt, matches_at};
+ghost use Rattle.std.specs.Prelude.{◌≡◌, ◌≢◌, [], OnErr};
+ghost use Rattle.space.specs.Births.{oldest_births};
+ghost use Rattle.space.specs.Found.{IsMatchAt, IsOldestAt, AreOldestAt, matches_at, entries_at};
 
 use crate::stored::Stored;
+use arrayvec::ArrayVec;
 use std::alloc::{Allocator, Global};
 use template_match::matches;
 use terms::NoMemory;
-use tuple_codec::{Max, Tuples};
+use tuple_codec::{MAX_ANSWERS, Max, Tuples};
 use tuple_tree::{Template, Tuple};
 
 // The tuple of this birth, where it matches.
@@ -68,4 +70,26 @@ pub fn copies_of_matches<A: Allocator>(
         }
     }
     Ok(copies)
+}
+
+/// The births of the oldest matches among the tuples of these births, so many at the most. Takes no memory.
+pub fn births_of_matches<A: Allocator>(
+    tuples: &Stored,
+    births: &[u64],
+    template: &Template<A>,
+    max: Max,
+) -> ArrayVec<u64, MAX_ANSWERS>
+    ensures { result.items
+        ≡ oldest_births max.count template.now (entries_at tuples.now.entries births.now) }
+{
+    let mut matched = ArrayVec::new();
+    for birth in births {
+        if matched.len() >= max.count as usize {
+            return matched;
+        }
+        if let Some(_tuple) = match_at(tuples, *birth, template) {
+            matched.push(*birth);
+        }
+    }
+    matched
 }

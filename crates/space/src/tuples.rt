@@ -5,33 +5,33 @@ ghost use Rattle.std.specs.Ordering.{nat_cmp};
 ghost use Rattle.std.specs.Map.{lookup};
 ghost use Rattle.std.specs.BTreeMap.{is_at};
 ghost use Rattle.tuple_tree.specs.Values.{IsTuple};
-ghost use Rattle.tuple_codec.specs.Operations.{rdp, inp, cas, rd_all};
+ghost use Rattle.tuple_codec.specs.Operations.{rdp, inp, cas, rd_all, in_all};
 ghost use Rattle.tuple_codec.specs.OperationView.{operation_of, outcome_of};
 ghost use Rattle.space.specs.Answers.{Answers, RefusesChanges, LacksMemory};
 ghost use Rattle.space.specs.Candidates.{candidates_of};
-ghost use Rattle.space.specs.Applying.{outcome, first_match, has_room};
+ghost use Rattle.space.specs.Applying.{served_outcome, first_match, has_room, most_tuples, refuses};
+ghost use Rattle.space.specs.Serving.{AnswersServed, FollowsServed, WantsServed};
 ghost use Rattle.space.specs.Pages.{page_text, header_text, texts_of, ArePages, MayBePages, ReadsEachState};
 ghost use Rattle.space.specs.Reading.{ArePagesOf, ReadsAllPages};
-ghost use Rattle.space.specs.Found.{IsOldest, without_birth};
-ghost use Rattle.space.specs.Watching.{MarksChanged};
-ghost use Rattle.space.specs.Births.{IsState, Follows, TuplesFollow, WantsMemory, empty_state, birth_of, tuples_of, with_birth, with_tuple, without_match};
+ghost use Rattle.space.specs.Found.{IsOldest, without_birth, without_births};
+ghost use Rattle.space.specs.Marking.{MarksChanged, with_pages};
+ghost use Rattle.space.specs.Births.{IsState, Follows, TuplesFollow, WantsMemory, empty_state, empty_in, birth_of, oldest_births, tuples_of, with_birth, with_tuple, without_match, without_matches};
 
 use crate::births::{PAGES, empty_pages, next_birth};
 use crate::index::Index;
-use crate::matching::{copies_of_matches, oldest_match};
+use crate::matching::{births_of_matches, copies_of_matches, oldest_match};
 use crate::pages::{HEADER_LEN, header_of, text_of};
 use crate::reading::{read_header, read_page};
 use crate::stored::Stored;
+use crate::version::{MAX_TUPLES, MAX_TUPLES_V2, Version};
+use arrayvec::ArrayVec;
 use std::alloc::{Allocator, Global};
 use std::collections::BTreeMap;
 use std::marker::Model;
 use terms::NoMemory;
 use thiserror::Error;
-use tuple_codec::{Answer, Bad, Max, Op};
+use tuple_codec::{Answer, Bad, MAX_ANSWERS, Max, Op};
 use tuple_tree::{Template, Tuple};
-
-/// How many tuples a space holds at the most.
-pub const MAX_TUPLES: usize = 8192;
 
 const BIRTHS_END: u64 = 1 << 62;
 
@@ -59,6 +59,7 @@ impl From<NoMemory> for PeekFault {
 #[derive(Drop)]
 pub struct Space {
     alloc: Global,
+    version: Version,
     tuples: Stored,
     next: u64,
     // How many tuples lie on each page, so that a birth number is found without a look at the tuples.
@@ -75,19 +76,36 @@ impl Model for Space {
 
     ghost coded = { space_code };
 
-    ghost view = { λ a. record { entries = a.tuples.entries; next = a.next } };
+    ghost view = { λ a. record { version = a.version; entries = a.tuples.entries; next = a.next } };
 
-    ghost invariant = { λ a. IsIndexed a.tuples.entries a.next a.page_counts a.index };
+    ghost invariant = { λ a. IsIndexed a.version a.tuples.entries a.next a.page_counts a.index };
 }
 
 impl Space {
-    /// The empty space. Takes no memory.
+    /// The empty space of version 1. Takes no memory.
     pub fn new(alloc: Global) -> Space
         ensures state { result ≡ empty_state }
         ensures valid { IsState result }
     {
+        Space::empty(alloc, Version::One)
+    }
+
+    /// The empty space of version 2. Takes no memory.
+    pub fn new_v2(alloc: Global) -> Space
+        ensures state { result ≡ empty_in Version.Two }
+        ensures valid { IsState result }
+    {
+        Space::empty(alloc, Version::Two)
+    }
+
+    // The empty space of a version.
+    fn empty(alloc: Global, version: Version) -> Space
+        ensures state { result ≡ empty_in version }
+        ensures valid { IsState result }
+    {
         Space {
             alloc,
+            version,
             tuples: Stored::new(alloc),
             next: 0,
             page_counts: empty_pages(),
@@ -95,8 +113,8 @@ impl Space {
         }
     }
 
-    /// The space of a state by the texts of its pages 0 to 255 and its header, and how many batches were executed by
-    /// the header.
+    /// The space of version 1 of a state by the texts of its pages 0 to 255 and its header, and how many batches were
+    /// executed by the header.
     ///
     /// # Errors
     ///
@@ -144,6 +162,7 @@ impl Space {
         let tuples = Stored::of(alloc, tuples)?;
         Ok(Space {
             alloc,
+            version: Version::One,
             tuples,
             next,
             page_counts,
@@ -151,10 +170,17 @@ impl Space {
         })
     }
 
-    /// How many tuples there are, 0 to 8,192.
+    /// The version.
+    pub fn version(&self) -> Version
+        ensures { result ≡ self.now.version }
+    {
+        self.version
+    }
+
+    /// How many tuples there are, 0 to 8,192 in version 1, 0 to 12,288 in version 2.
     pub fn count(&self) -> usize
-        ensures value { result ≡ length (tuples_of self.now) }
-        ensures bound { result ≤ 8192 }
+        ensures value { result ≡ length (tuples_of self.now).tuples }
+        ensures bound { result ≤ most_tuples self.now.version }
     {
         self.tuples.len()
     }
@@ -190,10 +216,30 @@ impl Space {
         let _next = self.next;
     }
 
+    // How many tuples the version allows.
+    fn limit(&self) -> usize
+        ensures { result ≡ most_tuples self.now.version }
+    {
+        match self.version {
+            Version::One => MAX_TUPLES,
+            Version::Two => MAX_TUPLES_V2,
+        }
+    }
+
+    // Whether the version refuses the operation.
+    fn is_refused<A: Allocator>(&self, op: &Op<A>) -> bool
+        ensures { result ≡ refuses self.now.version (operation_of op.now) }
+    {
+        match self.version {
+            Version::One => op.is_version_2(),
+            Version::Two => false,
+        }
+    }
+
     // Adds a copy of the tuple as the newest one. An `Err` changes nothing.
     fn insert<A: Allocator>(&mut self, tuple: &Tuple<A>) -> Result<(), NoMemory>
         requires births { self.old.next < 2 ^ 62 }
-        requires room { length self.old.entries < 8192 }
+        requires room { length self.old.entries < most_tuples self.old.version }
         ensures ok { OnOk result (self.new ≡ with_birth self.old tuple.now) }
         ensures err { OnErr result (self.new ≡ self.old) }
     {
@@ -219,7 +265,7 @@ impl Space {
         ensures memory { OnErr result (has_room (tuples_of self.old) ≡ true) }
         ensures err { OnErr result (self.new ≡ self.old) }
     {
-        if self.count() >= MAX_TUPLES {
+        if self.count() >= self.limit() {
             return Ok(false);
         }
         self.insert(tuple)?;
@@ -257,10 +303,32 @@ impl Space {
         }
     }
 
+    // The births of the oldest matches, so many at the most. Takes no memory.
+    fn oldest_births<A: Allocator>(
+        &self,
+        max: Max,
+        template: &Template<A>,
+    ) -> ArrayVec<u64, MAX_ANSWERS>
+        ensures value { result.items ≡ oldest_births max.count template.now self.now.entries }
+        ensures valid { IsState self.now }
+    {
+        let births = self.candidates(template);
+        births_of_matches(&self.tuples, births, template, max)
+    }
+
+    // Takes the tuples of these births.
+    fn remove_all(&mut self, births: &[u64])
+        ensures { self.new ≡ without_births self.old births.now }
+    {
+        for birth in births {
+            let _taken = self.remove(*birth);
+        }
+    }
+
     // Reads the oldest match.
     fn read<A: Allocator>(&self, template: &Template<A>) -> Result<Answer<Global>, NoMemory>
-        ensures value { Answers result self.now (rdp template.now) }
-        ensures memory { OnErr result (WantsMemory self.now (rdp template.now)) }
+        ensures value { AnswersServed result self.now (rdp template.now) }
+        ensures memory { OnErr result (WantsServed self.now (rdp template.now)) }
     {
         match self.oldest_match(template) {
             Some((_, tuple)) => Ok(Answer::Found(tuple.copy_in(self.alloc)?)),
@@ -274,8 +342,8 @@ impl Space {
         max: Max,
         template: &Template<A>,
     ) -> Result<Answer<Global>, NoMemory>
-        ensures value { Answers result self.now (rd_all max.count template.now) }
-        ensures memory { OnErr result (WantsMemory self.now (rd_all max.count template.now)) }
+        ensures value { AnswersServed result self.now (rd_all max.count template.now) }
+        ensures memory { OnErr result (WantsServed self.now (rd_all max.count template.now)) }
     {
         let births = self.candidates(template);
         let copies = copies_of_matches(self.alloc, &self.tuples, births, template, max)?;
@@ -284,7 +352,7 @@ impl Space {
 
     // Takes the oldest match.
     fn take<A: Allocator>(&mut self, template: &Template<A>) -> Answer<Global>
-        ensures value { outcome_of result ≡ outcome (tuples_of self.old) (inp template.now) }
+        ensures value { outcome_of result ≡ served_outcome (tuples_of self.old) (inp template.now) }
         ensures state { self.new ≡ without_match self.old template.now }
     {
         let birth = match self.oldest_match(template) {
@@ -295,6 +363,24 @@ impl Space {
             Some(tuple) => Answer::Found(tuple),
             None => Answer::Absent,
         }
+    }
+
+    // Takes the oldest matches, so many at the most. An `Err` changes nothing.
+    fn take_all<A: Allocator>(
+        &mut self,
+        max: Max,
+        template: &Template<A>,
+    ) -> Result<Answer<Global>, NoMemory>
+        ensures value { AnswersServed result self.old (in_all max.count template.now) }
+        ensures ok { OnOk result (self.new ≡ without_matches self.old max.count template.now) }
+        ensures memory { OnErr result (WantsServed self.old (in_all max.count template.now)) }
+        ensures err { OnErr result (self.new ≡ self.old) }
+    {
+        // All is copied first, so that want of memory takes none.
+        let answer = self.read_all(max, template)?;
+        let births = self.oldest_births(max, template);
+        self.remove_all(births.as_slice());
+        Ok(answer)
     }
 
     fn has_match<A: Allocator>(&self, template: &Template<A>) -> bool
@@ -310,9 +396,9 @@ impl Space {
         tuple: &Tuple<A>,
     ) -> Result<Answer<Global>, NoMemory>
         requires { self.old.next < 2 ^ 62 }
-        ensures value { Answers result self.old (cas template.now tuple.now) }
-        ensures ok { OnOk result (Follows self.old self.new (cas template.now tuple.now)) }
-        ensures memory { OnErr result (WantsMemory self.old (cas template.now tuple.now)) }
+        ensures value { AnswersServed result self.old (cas template.now tuple.now) }
+        ensures ok { OnOk result (FollowsServed self.old self.new (cas template.now tuple.now)) }
+        ensures memory { OnErr result (WantsServed self.old (cas template.now tuple.now)) }
         ensures err { OnErr result (self.new ≡ self.old) }
     {
         if self.has_match(template) {
@@ -325,8 +411,9 @@ impl Space {
         }
     }
 
-    /// Applies an operation. A tuple that is added is copied, and so is one that is read; one that is taken is handed
-    /// out. NoMemory comes only where a tuple is to be copied. It changes nothing.
+    /// Applies an operation. A tuple that is added is copied, and so is one that is read; one that `inp` takes is
+    /// handed out, and those that `inAll` takes are copied first. NoMemory comes only where a tuple is to be copied. It
+    /// changes nothing.
     pub fn apply<A: Allocator>(&mut self, op: &Op<A>) -> Result<Answer<Global>, NoMemory>
         requires { self.old.next < 2 ^ 62 }
         ensures answer { Answers result self.old (operation_of op.now) }
@@ -342,11 +429,14 @@ impl Space {
         result
     }
 
-    /// Adds each page whose text the operation may change to a set of pages. Takes no memory.
+    /// Adds the pages that the operation may change to a set of pages. Takes no memory.
     pub(crate) fn mark_changed<A: Allocator>(&self, op: &Op<A>, pages: &mut [bool; PAGES])
         requires { self.now.next < 2 ^ 62 }
         ensures { MarksChanged self.now (operation_of op.now) pages.old pages.new }
     {
+        if self.is_refused(op) {
+            return;
+        }
         match op {
             Op::Out(_) => add_page(pages, self.next_page()),
             Op::Cas(_, _) => add_page(pages, self.next_page()),
@@ -354,6 +444,10 @@ impl Space {
                 if let Some((birth, _)) = self.oldest_match(template) {
                     add_page(pages, (birth % PAGES as u64) as usize);
                 }
+            }
+            Op::InAll(max, template) => {
+                let births = self.oldest_births(*max, template);
+                add_pages(pages, births.as_slice());
             }
             Op::Rdp(_) | Op::RdAll(_, _) => {}
         }
@@ -375,6 +469,20 @@ impl Space {
         ensures memory { OnErr result (WantsMemory self.old (operation_of op.now)) }
         ensures err { OnErr result (self.new ≡ self.old) }
     {
+        if self.is_refused(op) {
+            return Ok(Answer::Refused);
+        }
+        self.serve(op)
+    }
+
+    // Answers an operation that is not refused.
+    fn serve<A: Allocator>(&mut self, op: &Op<A>) -> Result<Answer<Global>, NoMemory>
+        requires { self.old.next < 2 ^ 62 }
+        ensures answer { AnswersServed result self.old (operation_of op.now) }
+        ensures state { OnOk result (FollowsServed self.old self.new (operation_of op.now)) }
+        ensures memory { OnErr result (WantsServed self.old (operation_of op.now)) }
+        ensures err { OnErr result (self.new ≡ self.old) }
+    {
         match op {
             Op::Out(tuple) => {
                 if self.add(tuple)? {
@@ -387,6 +495,7 @@ impl Space {
             Op::Inp(template) => Ok(self.take(template)),
             Op::Cas(template, tuple) => self.swap(template, tuple),
             Op::RdAll(max, template) => self.read_all(*max, template),
+            Op::InAll(max, template) => self.take_all(*max, template),
         }
     }
 
@@ -399,10 +508,27 @@ impl Space {
         ensures valid { IsState self.now }
     {
         self.note_state();
+        if !op.is_read() {
+            return Err(PeekFault::NotReadOnly);
+        }
+        if self.is_refused(op) {
+            return Ok(Answer::Refused);
+        }
+        self.serve_read(op)
+    }
+
+    // Answers an operation that changes nothing and is not refused.
+    fn serve_read<A: Allocator>(&self, op: &Op<A>) -> Result<Answer<Global>, PeekFault>
+        ensures answer { AnswersServed result self.now (operation_of op.now) }
+        ensures not_read_only { RefusesChanges result (operation_of op.now) }
+        ensures memory { LacksMemory result → WantsServed self.now (operation_of op.now) }
+    {
         match op {
             Op::Rdp(template) => Ok(self.read(template)?),
             Op::RdAll(max, template) => Ok(self.read_all(*max, template)?),
-            Op::Out(_) | Op::Inp(_) | Op::Cas(_, _) => Err(PeekFault::NotReadOnly),
+            Op::Out(_) | Op::Inp(_) | Op::Cas(_, _) | Op::InAll(_, _) => {
+                Err(PeekFault::NotReadOnly)
+            }
         }
     }
 }
@@ -413,6 +539,15 @@ fn add_page(pages: &mut [bool; PAGES], page: usize)
     ensures { pages.new ≡ slice_set pages.old page true }
 {
     pages[page] = true;
+}
+
+// Adds the pages of these births to a set of pages.
+fn add_pages(pages: &mut [bool; PAGES], births: &[u64])
+    ensures { pages.new ≡ with_pages pages.old births.now }
+{
+    for birth in births {
+        add_page(pages, (*birth % PAGES as u64) as usize);
+    }
 }
 
 // Each tuple that the program holds is within the limits.

@@ -4,7 +4,7 @@ ghost use Rattle.std.specs.Prelude.{◌≡◌, ◌^◌, ◌<◌, ℕ, true, fals
 ghost use Rattle.tuple_codec.specs.OperationView.{operation_of};
 ghost use Rattle.space.specs.Answers.{Answers};
 ghost use Rattle.space.specs.Births.{IsState, Follows, WantsMemory};
-ghost use Rattle.space.specs.Watching.{is_touched, TouchesChanges};
+ghost use Rattle.space.specs.Watching.{is_touched, TouchesChanges, TouchesOnly};
 
 use crate::births::PAGES;
 use crate::tuples::Space;
@@ -49,8 +49,8 @@ impl Watched {
         &self.space
     }
 
-    /// Applies an operation as [`Space::apply`] does. Each page whose text changes is touched afterwards. An `Err`
-    /// leaves the space as it was.
+    /// Applies an operation as [`Space::apply`] does. Each page whose text changes is touched afterwards. One that the
+    /// operation can't change is touched only if it was before. An `Err` leaves the space as it was.
     pub fn apply<A: Allocator>(&mut self, op: &Op<A>) -> Result<Answer<Global>, NoMemory>
         requires { self.old.state.next < 2 ^ 62 }
         ensures answer { Answers result self.old.state (operation_of op.now) }
@@ -59,6 +59,7 @@ impl Watched {
         ensures memory { OnErr result (WantsMemory self.old.state (operation_of op.now)) }
         ensures err { OnErr result (self.new.state ≡ self.old.state) }
         ensures touches { TouchesChanges self.old self.new }
+        ensures only { TouchesOnly self.old self.new (operation_of op.now) }
     {
         self.space.mark_changed(op, &mut self.touched);
         self.space.apply(op)

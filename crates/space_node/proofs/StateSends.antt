@@ -17,6 +17,7 @@ use Rattle.reply_cache.specs.contracts.cache.Reply as reply
 use Rattle.reply_cache.specs.contracts.cache.ReplyCache as cache
 use Rattle.reply_cache.specs.contracts.cache.ReplyCache.TheInside as in_cache
 use Rattle.space.proofs.index.Index.TheSendSync.{the_send as index_send}
+use Rattle.space.proofs.version.Version.TheSendSync.{the_send as version_send}
 use Rattle.space.specs.contracts.stored.Stored as stored
 use Rattle.space.specs.contracts.stored.Stored.TheInside as in_stored
 use Rattle.space.specs.contracts.tuples.Space as space
@@ -64,7 +65,7 @@ stored_send = search (sendable, in_stored_send)
 in_space_send : IsSend in_space.the_row
 in_space_send = declared_send in_space.the_type (
   search (sendable, heap_send),
-  (stored_send, (search sendable, (search sendable, (search (sendable, index_send), tt)))),
+  (search (sendable, version_send), (stored_send, (search sendable, (search sendable, (search (sendable, index_send), tt))))),
 )
 
 space_send : IsSend space.the_row

@@ -5,7 +5,7 @@ use Rattle.std.proofs.lemmas.Bool.{and_parts, and_from}
 use Rattle.std.proofs.lemmas.Bool.Decides.{Decides-int_eq, Decides-eqb}
 use Rattle.std.proofs.lemmas.Slice.Eq.{bytes_eq-Decides}
 use Rattle.tuple_tree.specs.Items.{Item, leaf, inner, none, item}
-use Rattle.tuple_tree.specs.Values.{Datum, number, text, bytes, truth, Slot, actual, any, formal, kind_of, TupleTree, TemplateTree}
+use Rattle.tuple_tree.specs.Values.{Datum, number, text, bytes, truth, wide, Slot, actual, any, formal, kind_of, TupleTree, TemplateTree}
 use Rattle.tuple_tree.specs.ValuesCode.{kind_number, kind_from, kind_from-number}
 use Rattle.template_match.specs.Matches.{Matches, FieldMatches, SlotMatches}
 use Rattle.template_match.specs.Tests.{is_match, is_field_match, is_slot_match, datum_eq}
@@ -22,18 +22,27 @@ datum_decides (number m) (number n) = let d = Decides-int_eq m n in (λ h. ap nu
 datum_decides (number m) (text s) = (λ h. cc, λ e. cc)
 datum_decides (number m) (bytes s) = (λ h. cc, λ e. cc)
 datum_decides (number m) (truth b) = (λ h. cc, λ e. cc)
+datum_decides (number m) (wide n) = (λ h. cc, λ e. cc)
 datum_decides (text s) (number n) = (λ h. cc, λ e. cc)
 datum_decides (text s) (text t) = let d = bytes_eq-Decides s t in (λ h. ap text (d.0 h), λ e. d.1 cc)
 datum_decides (text s) (bytes t) = (λ h. cc, λ e. cc)
 datum_decides (text s) (truth b) = (λ h. cc, λ e. cc)
+datum_decides (text s) (wide n) = (λ h. cc, λ e. cc)
 datum_decides (bytes s) (number n) = (λ h. cc, λ e. cc)
 datum_decides (bytes s) (text t) = (λ h. cc, λ e. cc)
 datum_decides (bytes s) (bytes t) = let d = bytes_eq-Decides s t in (λ h. ap bytes (d.0 h), λ e. d.1 cc)
 datum_decides (bytes s) (truth b) = (λ h. cc, λ e. cc)
+datum_decides (bytes s) (wide n) = (λ h. cc, λ e. cc)
 datum_decides (truth b) (number n) = (λ h. cc, λ e. cc)
 datum_decides (truth b) (text s) = (λ h. cc, λ e. cc)
 datum_decides (truth b) (bytes s) = (λ h. cc, λ e. cc)
 datum_decides (truth b) (truth c) = let d = beq_decides b c in (λ h. ap truth (d.0 h), λ e. d.1 cc)
+datum_decides (truth b) (wide n) = (λ h. cc, λ e. cc)
+datum_decides (wide m) (number n) = (λ h. cc, λ e. cc)
+datum_decides (wide m) (text s) = (λ h. cc, λ e. cc)
+datum_decides (wide m) (bytes s) = (λ h. cc, λ e. cc)
+datum_decides (wide m) (truth b) = (λ h. cc, λ e. cc)
+datum_decides (wide m) (wide n) = let d = Decides-int_eq m n in (λ h. ap wide (d.0 h), λ e. d.1 cc)
 
 slot_decides : (s : Slot) (v : Item Datum) → Decides (is_slot_match s v) (SlotMatches s v)
 slot_decides (actual x) (leaf y) = let d = datum_decides x y in (λ h. let e = d.0 h in cc, λ e. d.1 cc)

@@ -4,7 +4,7 @@ use Rattle.std.specs.Ordering.{int_eq}
 use Rattle.std.specs.Str.{bytes_eq}
 use Rattle.std.specs.Bool.{beq}
 use Rattle.tuple_tree.specs.Items.{Item, leaf, inner, none, item}
-use Rattle.tuple_tree.specs.Values.{Datum, number, text, bytes, truth, Slot, actual, any, formal, kind_of, TupleTree, TemplateTree}
+use Rattle.tuple_tree.specs.Values.{Datum, number, text, bytes, truth, wide, Slot, actual, any, formal, kind_of, TupleTree, TemplateTree}
 use Rattle.tuple_tree.specs.ValuesCode.{kind_number}
 
 -- Whether two plain values are equal; values of different kinds never are.
@@ -13,6 +13,7 @@ datum_eq (number m) (number n) = int_eq m n
 datum_eq (text s) (text t) = bytes_eq s t
 datum_eq (bytes s) (bytes t) = bytes_eq s t
 datum_eq (truth b) (truth c) = beq b c
+datum_eq (wide m) (wide n) = int_eq m n
 datum_eq _ _ = false
 
 abbrev pub is_datum : Datum → Item Datum → Bool

@@ -1,52 +1,62 @@
 -- Numbers, strings and flags at the front of bytes.
-use Rattle.std.proofs.Common.{◌≡◌, inl, inr, ℕ, ◌^◌, ◌<◌, ◌≤◌, Bool, true, false, cond, if◌then◌else◌, List, [], ◌∷◌, ◌++◌, length, take, drop, Some, None, ap, sym, refl, ◌∙◌, arith, append_assoc, length-append}
-use Rattle.std.proofs.lemmas.List.{take-append-drop, length-take, take_at, drop_at}
-use Rattle.std.proofs.lemmas.Nat.{be_bytes_2, be_bytes_8}
-use Rattle.std.proofs.lemmas.Bool.{ltb-false, le-ltb, eqb-true}
+use Rattle.std.proofs.Common.{◌≡◌, inl, inr, ℕ, zero, suc, ◌+◌, ◌*◌, ◌^◌, ◌<◌, ◌≤◌, Bool, true, false, cond, if◌then◌else◌, List, [], ◌∷◌, ◌++◌, length, take, drop, Some, None, ap, sym, refl, ◌∙◌, arith, append_assoc, append-nil, length-append}
+use Rattle.std.proofs.lemmas.List.{take-append-drop, length-take, length-take-le, take_at, drop_at}
+use Rattle.std.proofs.lemmas.Nat.{same_from_place}
+use Rattle.std.proofs.lemmas.Bool.{ltb-false, le-ltb, lt-ltb, eqb-true}
 use Rattle.std.proofs.lemmas.Str.{IsUtf8-from_is_utf8, is_utf8-from_IsUtf8}
-use Rattle.std.specs.Int.{w16, w64, to_be_bytes, from_be_bytes}
+use Rattle.std.specs.Int.{w16, to_be_bytes}
 use Rattle.std.specs.Str.{IsUtf8, is_utf8}
 use lib.Dec.{ltb, eqb}
-use Rattle.byteorder.specs.Endian.{big_number, big_bytes}
-use Rattle.byteorder.specs.Numbers.{big_number-reads_back, big_from-lt, big_from-take, length-bytes_high_first}
+use Rattle.byteorder.specs.Endian.{big_from, big_number, big_bytes}
+use Rattle.byteorder.specs.Numbers.{big_number-reads_back, big_from-lt, big_from-take, big_from-cons, length-bytes_high_first}
 use Rattle.tuple_tree.specs.Values.{AreBytes}
 use Rattle.tuple_codec.specs.Reading.{◌>>=◌, byte_at, bytes_at, number_of, string_at, text_at, flag_of, flag_at}
 use Rattle.tuple_codec.specs.Spelling.{string, flag}
 use Rattle.tuple_codec.proofs.Readers.{Takes, Found, Again, bind_some, parts, guard_fails, guard_holds, choice, bytes_take, bytes_drop, byte_found, moved}
+use Rattle.tuple_codec.proofs.SpelledBytes.{high_bytes}
 
--- The bytes of a number are those that the number is made of.
-whole_2 : (bs : List ℕ) → 2 ≤ length bs → AreBytes bs → bs ≡ to_be_bytes w16 (big_number 2 bs) ++ drop 2 bs
-whole_2 bs l h =
-    let b : AreBytes (take 2 bs) = bytes_take 2 bs h in
-    let n : big_number 2 bs ≡ from_be_bytes w16 (take 2 bs) = sym (big_from-take 0 2 2 bs (omega arith)) ∙ omega arith in
-    let q = be_bytes_2 (take 2 bs) (big_number 2 bs) (omega (arith, length-take 2 bs)) b n in
-    sym (take-append-drop 2 bs) ∙ ap (λ xs. xs ++ drop 2 bs) (sym q)
+-- So many bytes are those that their number is made of.
+same_bytes : (k : ℕ) (xs ys : List ℕ) → length xs ≡ k → length ys ≡ k → AreBytes xs → AreBytes ys → big_number k xs ≡ big_number k ys → xs ≡ ys
+same_bytes zero [] [] l m a b e = refl
+same_bytes zero [] (y ∷ ys) l m a b e = absurd (omega arith)
+same_bytes zero (x ∷ xs) ys l m a b e = absurd (omega arith)
+same_bytes (suc k) [] ys l m a b e = absurd (omega arith)
+same_bytes (suc k) (x ∷ xs) [] l m a b e = absurd (omega arith)
+same_bytes (suc k) (x ∷ xs) (y ∷ ys) l m a b e =
+    let below : (zs : List ℕ) (z : ℕ) → z * 256 ^ k + big_from 1 k (z ∷ zs) ≡ z * 256 ^ k + big_number k zs = λ zs z. ap (λ n. z * 256 ^ k + n) (big_from-cons 0 k z zs) in
+    let p = same_from_place x (big_number k xs) y (big_number k ys) (256 ^ k) (big_from-lt 0 k xs (λ i. a (suc i))) (big_from-lt 0 k ys (λ i. b (suc i))) (sym (below xs x) ∙ e ∙ below ys y) in
+    let q = same_bytes k xs ys (omega arith) (omega arith) (λ i. a (suc i)) (λ i. b (suc i)) p.1 in
+    ap (λ z. z ∷ xs) p.0 ∙ ap (λ zs. y ∷ zs) q
 
-whole_8 : (bs : List ℕ) → 8 ≤ length bs → AreBytes bs → bs ≡ to_be_bytes w64 (big_number 8 bs) ++ drop 8 bs
-whole_8 bs l h =
-    let b : AreBytes (take 8 bs) = bytes_take 8 bs h in
-    let n : big_number 8 bs ≡ from_be_bytes w64 (take 8 bs) = sym (big_from-take 0 8 8 bs (omega arith)) ∙ omega arith in
-    let q = be_bytes_8 (take 8 bs) (big_number 8 bs) (omega (arith, length-take 8 bs)) b n in
-    sym (take-append-drop 8 bs) ∙ ap (λ xs. xs ++ drop 8 bs) (sym q)
+whole : (k : ℕ) (bs : List ℕ) → k ≤ length bs → AreBytes bs → bs ≡ big_bytes k (big_number k bs) ++ drop k bs
+whole k bs l h =
+    let n = big_number k bs in
+    let front : big_number k (take k bs) ≡ n = big_from-take 0 k k bs (omega arith) in
+    let again : big_number k (big_bytes k n) ≡ n = ap (big_number k) (sym (append-nil (big_bytes k n))) ∙ big_number-reads_back k n [] (big_from-lt 0 k bs h) in
+    let same : take k bs ≡ big_bytes k n = same_bytes k (take k bs) (big_bytes k n) (length-take-le k bs l) (length-bytes_high_first k n) (bytes_take k bs h) (high_bytes k n) (front ∙ sym again) in
+    sym (take-append-drop k bs) ∙ ap (λ xs. xs ++ drop k bs) same
 
-number_found : (k : ℕ) → ((bs : List ℕ) → k ≤ length bs → AreBytes bs → bs ≡ big_bytes k (big_number k bs) ++ drop k bs) → Found (λ n. n < 256 ^ k) (big_bytes k) (number_of k)
+pub number_found : (k : ℕ) → Found (λ n. n < 256 ^ k) (big_bytes k) (number_of k)
 unfolding number_of
-number_found k law bs rest n h e =
+number_found k bs rest n h e =
     let g = guard_fails (ltb (length bs) k) (Some (big_number k bs, drop k bs)) (n, rest) e in
     let p = parts g.1 in
-    moved (λ n. n < 256 ^ k) (big_bytes k) bs (record { whole = law bs (ltb-false _ _ g.0) h; bytes = bytes_drop k bs h }, big_from-lt 0 k bs h) p.0 p.1
-
-pub number_2_found : Found (λ n. n < 256 ^ 2) (to_be_bytes w16) (number_of 2)
-number_2_found = number_found 2 whole_2
-
-pub number_8_found : Found (λ n. n < 256 ^ 8) (to_be_bytes w64) (number_of 8)
-number_8_found = number_found 8 whole_8
+    moved (λ n. n < 256 ^ k) (big_bytes k) bs (record { whole = whole k bs (ltb-false _ _ g.0) h; bytes = bytes_drop k bs h }, big_from-lt 0 k bs h) p.0 p.1
 
 pub number_again : (k : ℕ) → Again (λ n. n < 256 ^ k) (big_bytes k) (number_of k)
 unfolding number_of
 number_again k n rest p =
     let l : ltb (length (big_bytes k n ++ rest)) k ≡ false = le-ltb _ k (omega (arith, length-append (big_bytes k n) rest, length-bytes_high_first k n)) in
     rw (l, big_number-reads_back k n rest p, drop_at (big_bytes k n) rest k (length-bytes_high_first k n)) refl
+
+-- what is read where there are bytes enough
+pub number_there : (k : ℕ) (bs : List ℕ) → k ≤ length bs → number_of k bs ≡ Some (big_number k bs, drop k bs)
+unfolding number_of
+number_there k bs l = ap (λ b. cond b None (Some (big_number k bs, drop k bs))) (le-ltb _ k l)
+
+pub number_none : (k : ℕ) (bs : List ℕ) → length bs < k → number_of k bs ≡ None
+unfolding number_of
+number_none k bs l = ap (λ b. cond b None (Some (big_number k bs, drop k bs))) (lt-ltb _ k l)
 
 bytes_found : (n : ℕ) → Found (λ s. (length s ≡ n) × AreBytes s) (λ s. s) (bytes_at n)
 unfolding bytes_at
@@ -67,7 +77,7 @@ pub string_found : Found AreBytes string string_at
 unfolding string_at
 string_found bs rest s h e =
     let k = bind_some (number_of 2 bs) (λ n. bytes_at n.0 n.1) (s, rest) e in
-    let a = number_2_found bs k.0.1 k.0.0 h k.1 in
+    let a = number_found 2 bs k.0.1 k.0.0 h k.1 in
     let b = bytes_found k.0.0 k.0.1 rest s a.0.bytes k.2 in
     (record { whole = a.0.whole ∙ ap (λ xs. to_be_bytes w16 k.0.0 ++ xs) b.0.whole ∙ sym (append_assoc (to_be_bytes w16 k.0.0) s rest) ∙ ap (λ n. (to_be_bytes w16 n ++ s) ++ rest) (sym b.1.0); bytes = b.0.bytes }, b.1.1)
 

@@ -3,9 +3,9 @@ use Rattle.std.proofs.Common.{◌≡◌, ℕ, suc, ◌≤◌, false, ◌&&◌, c
 use Rattle.std.proofs.lemmas.Bool.{leb-true, le-leb, and_parts, and_from, ltb-false, le-ltb}
 use lib.Dec.{leb, ltb}
 use Rattle.tuple_tree.specs.Values.{TupleTree, TemplateTree, IsTuple, IsTemplate}
-use Rattle.tuple_codec.specs.Operations.{Operation, out, rdp, inp, cas, rd_all, IsOperation, AreTuples, Outcome, done, found, absent, swapped, all, full, refused, IsOutcome}
-use Rattle.tuple_codec.specs.Reading.{◌>>=◌, read_as, unknown, more, byte_at, flag_at, tuple_at, template_at, cas_at, rd_all_at, operation_rows, operation_behind, operation_at, with_tuple, tuples_at, outcome_rows, outcome_behind, outcome_at}
-use Rattle.tuple_codec.specs.Spelling.{flag, tuple_spelling, template_spelling, operation_spelling, tuples_spelling, outcome_spelling}
+use Rattle.tuple_codec.specs.Operations.{Operation, out, rdp, inp, cas, rd_all, in_all, IsCounted, IsOperation, AreTuples, Outcome, done, found, absent, swapped, all, full, refused, IsOutcome}
+use Rattle.tuple_codec.specs.Reading.{◌>>=◌, read_as, unknown, more, byte_at, flag_at, tuple_at, template_at, cas_at, counted_at, operation_rows, operation_behind, operation_at, with_tuple, tuples_at, outcome_rows, outcome_behind, outcome_at}
+use Rattle.tuple_codec.specs.Spelling.{flag, tuple_spelling, template_spelling, counted_spelling, operation_spelling, tuples_spelling, outcome_spelling}
 use Rattle.tuple_codec.proofs.Readers.{Found, FoundBehind, bind_some, parts, guard_holds, guard_fails, moved, byte_found, as_found, as_again, tag_found, behind_found, RowsFound, ◌⨾◌, found_by_table, unknown_found, Grows, more_found}
 use Rattle.tuple_codec.proofs.Numbers.{flag_found, flag_again}
 use Rattle.tuple_codec.proofs.Grammar.{Reads, tuple_reads, template_reads}
@@ -28,23 +28,23 @@ cas_again p t rest h k =
     ∙ ap (λ o. o >>= λ p. read_as (cas p.0) tuple_at p.1) (template_reads.again p (tuple_spelling t ++ rest) h)
     ∙ as_again (cas p) tuple_at _ rest t (tuple_reads.again t rest k)
 
-rd_all_found : FoundBehind 0x25 IsOperation operation_spelling rd_all_at
-unfolding rd_all_at
-rd_all_found bs rest v h e =
-    let k = bind_some (byte_at bs) (λ n. cond (leb 1 n.0 && leb n.0 64) (read_as (rd_all n.0) template_at n.1) None) (v, rest) e in
+counted_found : Found (λ x. IsCounted x.0 x.1) counted_spelling counted_at
+unfolding counted_at
+counted_found bs rest v h e =
+    let k = bind_some (byte_at bs) (λ n. cond (leb 1 n.0 && leb n.0 64) (read_as (λ p. (n.0, p)) template_at n.1) None) (v, rest) e in
     let a = byte_found bs k.0.1 k.0.0 h k.1 in
-    let g = guard_holds (leb 1 k.0.0 && leb k.0.0 64) (read_as (rd_all k.0.0) template_at k.0.1) (v, rest) k.2 in
+    let g = guard_holds (leb 1 k.0.0 && leb k.0.0 64) (read_as (λ p. (k.0.0, p)) template_at k.0.1) (v, rest) k.2 in
     let l = and_parts (leb 1 k.0.0) (leb k.0.0 64) g.0 in
-    let m = bind_some (template_at k.0.1) (λ t. Some (rd_all k.0.0 t.0, t.1)) (v, rest) g.1 in
+    let m = bind_some (template_at k.0.1) (λ t. Some ((k.0.0, t.0), t.1)) (v, rest) g.1 in
     let b = template_reads.found k.0.1 m.0.1 m.0.0 a.0.bytes m.1 in
     let p = parts m.2 in
-    moved IsOperation operation_spelling (0x25 ∷ bs)
-    (record { whole = ap (λ xs. 0x25 ∷ xs) (a.0.whole ∙ ap (λ xs. k.0.0 ∷ xs) b.0.whole); bytes = b.0.bytes }, (leb-true _ _ l.0, leb-true _ _ l.1, b.1)) p.0 p.1
+    moved (λ x. IsCounted x.0 x.1) counted_spelling bs
+    (record { whole = a.0.whole ∙ ap (λ xs. k.0.0 ∷ xs) b.0.whole; bytes = b.0.bytes }, (leb-true _ _ l.0, leb-true _ _ l.1, b.1)) p.0 p.1
 
-rd_all_again : (n : ℕ) (p : TemplateTree) (rest : List ℕ) → 1 ≤ n → n ≤ 64 → IsTemplate p → rd_all_at (n ∷ template_spelling p ++ rest) ≡ Some (rd_all n p, rest)
-unfolding rd_all_at
-rd_all_again n p rest l m h =
-    ap (λ b. cond b (read_as (rd_all n) template_at (template_spelling p ++ rest)) None) (and_from _ _ (le-leb _ _ l) (le-leb _ _ m)) ∙ as_again (rd_all n) template_at _ rest p (template_reads.again p rest h)
+counted_again : (n : ℕ) (p : TemplateTree) (rest : List ℕ) → IsCounted n p → counted_at (counted_spelling (n, p) ++ rest) ≡ Some ((n, p), rest)
+unfolding counted_at
+counted_again n p rest h =
+    ap (λ b. cond b (read_as (λ t. (n, t)) template_at (template_spelling p ++ rest)) None) (and_from _ _ (le-leb _ _ h.0) (le-leb _ _ h.1)) ∙ as_again (λ t. (n, t)) template_at _ rest p (template_reads.again p rest h.2)
 
 operation_rows_found : RowsFound IsOperation operation_spelling operation_rows
 operation_rows_found =
@@ -52,7 +52,8 @@ operation_rows_found =
     ⨾ as_found IsTemplate IsOperation template_spelling operation_spelling 0x22 rdp template_at template_reads.found (λ t p. (refl, p))
     ⨾ as_found IsTemplate IsOperation template_spelling operation_spelling 0x23 inp template_at template_reads.found (λ t p. (refl, p))
     ⨾ cas_found
-    ⨾ rd_all_found
+    ⨾ as_found (λ x. IsCounted x.0 x.1) IsOperation counted_spelling operation_spelling 0x25 (λ x. rd_all x.0 x.1) counted_at counted_found (λ x p. (refl, p))
+    ⨾ as_found (λ x. IsCounted x.0 x.1) IsOperation counted_spelling operation_spelling 0x26 (λ x. in_all x.0 x.1) counted_at counted_found (λ x p. (refl, p))
     ⨾ tt
 
 behind : (tag : ℕ) → FoundBehind tag IsOperation operation_spelling (operation_behind tag)
@@ -69,7 +70,8 @@ operation_again (out t) rest h = as_again out tuple_at _ rest t (tuple_reads.aga
 operation_again (rdp p) rest h = as_again rdp template_at _ rest p (template_reads.again p rest h)
 operation_again (inp p) rest h = as_again inp template_at _ rest p (template_reads.again p rest h)
 operation_again (cas p t) rest h = cas_again p t rest h.0 h.1
-operation_again (rd_all n p) rest h = rd_all_again n p rest h.0 h.1 h.2
+operation_again (rd_all n p) rest h = as_again (λ x. rd_all x.0 x.1) counted_at _ rest (n, p) (counted_again n p rest h)
+operation_again (in_all n p) rest h = as_again (λ x. in_all x.0 x.1) counted_at _ rest (n, p) (counted_again n p rest h)
 
 pub operation_reads : Reads IsOperation operation_spelling operation_at
 operation_reads = record { found = operation_found; again = operation_again }

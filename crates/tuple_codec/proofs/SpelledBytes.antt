@@ -2,16 +2,16 @@
 use Rattle.std.proofs.Common.{◌≡◌, ℕ, zero, suc, ◌+◌, ◌/◌, ◌<◌, ◌≤◌, Bool, true, false, cond, List, [], ◌∷◌, ◌++◌, length, refl, subst, arith}
 use Rattle.std.proofs.lemmas.Bool.{and_parts, ltb-true}
 use Rattle.std.specs.Prelude.{nat_lt}
-use Rattle.std.specs.Int.{w16, w32, w64, to_be_bytes, bytes_high_first, byte_at, cast_unsigned}
+use Rattle.std.specs.Int.{w16, w32, w64, w128, to_be_bytes, bytes_high_first, byte_at, cast_unsigned}
 use Rattle.std.specs.Str.{IsUtf8}
 use Rattle.std.proofs.Math.Utf8.{scalar, scalars, encode, encodes, next, scalar_cases}
 use Rattle.tuple_tree.specs.Items.{Item, leaf, inner, Items, none, item, how_many}
 use Rattle.tuple_tree.specs.Limits.{IsItem, AreItems}
-use Rattle.tuple_tree.specs.Values.{Datum, number, text, bytes, truth, Slot, actual, any, formal, AreBytes, IsDatum, IsSlot, TupleTree, TemplateTree, IsTuple, IsTemplate}
+use Rattle.tuple_tree.specs.Values.{Datum, number, text, bytes, truth, wide, Slot, actual, any, formal, AreBytes, IsDatum, IsSlot, TupleTree, TemplateTree, IsTuple, IsTemplate}
 use Rattle.tuple_tree.specs.declared.atoms.Kind.{Kind}
 use Rattle.tuple_tree.specs.declared.atoms.Kind.TheVariants as kinds
-use Rattle.tuple_codec.specs.Operations.{Operation, out, rdp, inp, cas, rd_all, IsOperation, AreTuples, Outcome, done, found, absent, swapped, all, full, refused, IsOutcome}
-use Rattle.tuple_codec.specs.Spelling.{string, flag, datum_spelling, formal_tag, slot_spelling, item_spelling, items_spelling, whole_spelling, tuple_spelling, template_spelling, operation_spelling, tuples_spelling, outcome_spelling}
+use Rattle.tuple_codec.specs.Operations.{Operation, out, rdp, inp, cas, rd_all, in_all, IsOperation, AreTuples, Outcome, done, found, absent, swapped, all, full, refused, IsOutcome}
+use Rattle.tuple_codec.specs.Spelling.{string, flag, wide_bytes, datum_spelling, formal_tag, slot_spelling, item_spelling, items_spelling, whole_spelling, tuple_spelling, template_spelling, operation_spelling, tuples_spelling, outcome_spelling}
 use Rattle.tuple_codec.proofs.Readers.{bytes_append}
 
 pub no_bytes : AreBytes []
@@ -27,7 +27,7 @@ byte_below : (k n : ℕ) → byte_at k n < 256
 byte_below zero n = omega arith
 byte_below (suc k) n = omega arith
 
-high_bytes : (k n : ℕ) → AreBytes (bytes_high_first k n)
+pub high_bytes : (k n : ℕ) → AreBytes (bytes_high_first k n)
 high_bytes zero n = no_bytes
 high_bytes (suc k) n = bytes_more (byte_at k n) (bytes_high_first k n) (byte_below k n) (high_bytes k n)
 
@@ -96,10 +96,12 @@ flag_below true = omega arith
 flag_below false = omega arith
 
 datum_bytes : (x : Datum) → IsDatum x → AreBytes (datum_spelling x)
+unfolding wide_bytes
 datum_bytes (number n) h = bytes_more 1 (to_be_bytes w64 (cast_unsigned w64 n)) (omega arith) (bytes_8 (cast_unsigned w64 n))
 datum_bytes (text s) h = bytes_more 2 (string s) (omega arith) (string_bytes s (text_bytes s h))
 datum_bytes (bytes s) h = bytes_more 3 (string s) (omega arith) (string_bytes s h)
 datum_bytes (truth b) h = bytes_more 4 (flag b ∷ []) (omega arith) (bytes_more (flag b) [] (flag_below b) no_bytes)
+datum_bytes (wide n) h = bytes_more 6 (to_be_bytes w128 (cast_unsigned w128 n)) (omega arith) (high_bytes 16 (cast_unsigned w128 n))
 
 formal_below : (k : Kind) → formal_tag k < 256
 formal_below kinds.Number = omega arith
@@ -107,6 +109,7 @@ formal_below kinds.Text = omega arith
 formal_below kinds.Bytes = omega arith
 formal_below kinds.Truth = omega arith
 formal_below kinds.Tuple = omega arith
+formal_below kinds.Wide = omega arith
 
 slot_bytes : (x : Slot) → IsSlot x → AreBytes (slot_spelling x)
 slot_bytes (actual x) h = datum_bytes x h
@@ -142,6 +145,7 @@ operation_bytes (inp p) h = bytes_more 0x23 (template_spelling p) (omega arith) 
 operation_bytes (cas p t) h =
     bytes_more 0x24 (template_spelling p ++ tuple_spelling t) (omega arith) (bytes_append (template_spelling p) (tuple_spelling t) (template_bytes p h.0) (tuple_bytes t h.1))
 operation_bytes (rd_all n p) h = bytes_more 0x25 (n ∷ template_spelling p) (omega arith) (bytes_more n (template_spelling p) (omega (arith, h.1)) (template_bytes p h.2))
+operation_bytes (in_all n p) h = bytes_more 0x26 (n ∷ template_spelling p) (omega arith) (bytes_more n (template_spelling p) (omega (arith, h.1)) (template_bytes p h.2))
 
 tuples_bytes : (ts : List TupleTree) → AreTuples ts → AreBytes (tuples_spelling ts)
 tuples_bytes [] h = no_bytes

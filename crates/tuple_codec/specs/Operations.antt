@@ -1,7 +1,8 @@
 -- Operations on a tuple space and their outcomes (Bessani and others, DepSpace, EuroSys 2008, section 3), apart from
 -- where they lie in memory.
-use Rattle.std.specs.Prelude.{ℕ, ◌≤◌, Bool, true, false, List, [], ◌∷◌, length}
-use Rattle.tuple_tree.specs.Values.{TupleTree, TemplateTree, IsTuple, IsTemplate}
+use Rattle.std.specs.Prelude.{ℕ, ◌≤◌, Bool, true, false, ◌||◌, List, [], ◌∷◌, length}
+use Rattle.tuple_tree.specs.Items.{has_leaf}
+use Rattle.tuple_tree.specs.Values.{TupleTree, TemplateTree, IsTuple, IsTemplate, is_wide, is_wide_slot}
 
 pub data Operation : Type 0 where
   out : TupleTree → Operation
@@ -9,6 +10,7 @@ pub data Operation : Type 0 where
   inp : TemplateTree → Operation
   cas : TemplateTree → TupleTree → Operation
   rd_all : ℕ → TemplateTree → Operation
+  in_all : ℕ → TemplateTree → Operation
 
 pub data Outcome : Type 0 where
   done : Outcome
@@ -19,13 +21,17 @@ pub data Outcome : Type 0 where
   full : Outcome
   refused : Outcome
 
--- An rdAll asks for 1 to 64 tuples.
+-- An rdAll and an inAll ask for 1 to 64 tuples.
+abbrev pub IsCounted : ℕ → TemplateTree → Type 0
+IsCounted n p = (1 ≤ n) × (n ≤ 64) × IsTemplate p
+
 abbrev pub IsOperation : Operation → Type 0
 IsOperation (out t) = IsTuple t
 IsOperation (rdp p) = IsTemplate p
 IsOperation (inp p) = IsTemplate p
 IsOperation (cas p t) = IsTemplate p × IsTuple t
-IsOperation (rd_all n p) = (1 ≤ n) × (n ≤ 64) × IsTemplate p
+IsOperation (rd_all n p) = IsCounted n p
+IsOperation (in_all n p) = IsCounted n p
 
 -- the operations that leave each space as it is
 abbrev pub is_read_only : Operation → Bool
@@ -34,6 +40,16 @@ is_read_only (rdp p) = true
 is_read_only (inp p) = false
 is_read_only (cas p t) = false
 is_read_only (rd_all n p) = true
+is_read_only (in_all n p) = false
+
+-- The operations of version 2: inAll, and those whose tuple or template has a wide number or asks for one, at any level.
+abbrev pub is_version_2 : Operation → Bool
+is_version_2 (out t) = has_leaf is_wide t
+is_version_2 (rdp p) = has_leaf is_wide_slot p
+is_version_2 (inp p) = has_leaf is_wide_slot p
+is_version_2 (cas p t) = has_leaf is_wide_slot p || has_leaf is_wide t
+is_version_2 (rd_all n p) = has_leaf is_wide_slot p
+is_version_2 (in_all n p) = true
 
 abbrev pub AreTuples : List TupleTree → Type 0
 AreTuples [] = Unit {0}

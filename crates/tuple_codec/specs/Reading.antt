@@ -1,13 +1,13 @@
 -- What stands at the front of bytes, and the bytes after it; None where nothing does. The contracts of private functions
 -- speak of these. The public ones speak of Spelling alone.
 use Rattle.std.specs.Prelude.{ℕ, zero, suc, Bool, true, false, ◌&&◌, ◌==◌, nat_lt, nat_le, if◌then◌else◌, List, [], ◌∷◌, ◌++◌, length, take, drop, Option, Some, None}
-use Rattle.std.specs.Int.{w64, cast_signed}
+use Rattle.std.specs.Int.{w64, w128, cast_signed}
 use Rattle.std.specs.Str.{is_utf8}
 use Rattle.byteorder.specs.Endian.{big_number}
 use Rattle.tuple_tree.specs.Items.{Item, leaf, inner, Items, none, with_last}
-use Rattle.tuple_tree.specs.Values.{Datum, number, text, bytes, truth, Slot, actual, any, formal, TupleTree, TemplateTree}
+use Rattle.tuple_tree.specs.Values.{Datum, number, text, bytes, truth, wide, Slot, actual, any, formal, TupleTree, TemplateTree}
 use Rattle.tuple_tree.specs.declared.atoms.Kind.TheVariants as kinds
-use Rattle.tuple_codec.specs.Operations.{Operation, out, rdp, inp, cas, rd_all, Outcome, done, found, absent, swapped, all, full, refused}
+use Rattle.tuple_codec.specs.Operations.{Operation, out, rdp, inp, cas, rd_all, in_all, Outcome, done, found, absent, swapped, all, full, refused}
 
 infixl 10 ◌>>=◌
 abbrev pub ◌>>=◌ : {A B : Type 0} → Option A → (A → Option B) → Option B
@@ -75,12 +75,17 @@ flag_at bs = byte_at bs >>= λ b. flag_of b.0 b.1
 abbrev pub signed_at : Reader Datum
 signed_at = read_as (λ n. number (cast_signed w64 n)) (number_of 8)
 
+-- a signed number of 128 bits
+abbrev pub wide_at : Reader Datum
+wide_at = read_as (λ n. wide (cast_signed w128 n)) (number_of 16)
+
 abbrev pub datum_rows : List (Row Datum)
 datum_rows =
     (1, signed_at)
     ∷ (2, read_as text text_at)
     ∷ (3, read_as bytes string_at)
     ∷ (4, read_as truth flag_at)
+    ∷ (6, wide_at)
     ∷ []
 
 -- the value behind a tag
@@ -95,6 +100,7 @@ formal_rows =
     ∷ (0x13, alone (formal kinds.Bytes))
     ∷ (0x14, alone (formal kinds.Truth))
     ∷ (0x15, alone (formal kinds.Tuple))
+    ∷ (0x16, alone (formal kinds.Wide))
     ∷ []
 
 -- the field behind a tag: where it is no formal's, that of a value
@@ -144,8 +150,9 @@ template_at = framed 1024 (items_at slot_at 7)
 unfoldable pub cas_at : Reader Operation
 cas_at bs = template_at bs >>= λ p. read_as (cas p.0) tuple_at p.1
 
-unfoldable pub rd_all_at : Reader Operation
-rd_all_at bs = byte_at bs >>= λ n. if nat_le 1 n.0 && nat_le n.0 64 then read_as (rd_all n.0) template_at n.1 else None
+-- a count of 1 to 64, and a template
+unfoldable pub counted_at : Reader (ℕ × TemplateTree)
+counted_at bs = byte_at bs >>= λ n. if nat_le 1 n.0 && nat_le n.0 64 then read_as (λ p. (n.0, p)) template_at n.1 else None
 
 abbrev pub operation_rows : List (Row Operation)
 operation_rows =
@@ -153,7 +160,8 @@ operation_rows =
     ∷ (0x22, read_as rdp template_at)
     ∷ (0x23, read_as inp template_at)
     ∷ (0x24, cas_at)
-    ∷ (0x25, rd_all_at)
+    ∷ (0x25, read_as (λ x. rd_all x.0 x.1) counted_at)
+    ∷ (0x26, read_as (λ x. in_all x.0 x.1) counted_at)
     ∷ []
 
 unfoldable pub operation_behind : ℕ → Reader Operation

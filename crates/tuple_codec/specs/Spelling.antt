@@ -1,12 +1,12 @@
 -- The bytes of tuples, templates, operations and outcomes. Each value has one spelling: a count and then the items of
 -- a list, each item behind its tag. Numbers are big-endian.
-use Rattle.std.specs.Prelude.{◌≡◌, ℕ, ◌≤◌, Bool, true, false, List, [], ◌∷◌, ◌++◌, length, take}
-use Rattle.std.specs.Int.{w16, w64, to_be_bytes, cast_unsigned}
+use Rattle.std.specs.Prelude.{◌≡◌, ℕ, ◌≤◌, ℤ, Bool, true, false, List, [], ◌∷◌, ◌++◌, length, take}
+use Rattle.std.specs.Int.{w16, w64, w128, to_be_bytes, cast_unsigned}
 use Rattle.tuple_tree.specs.Items.{Item, leaf, inner, Items, none, item, how_many}
-use Rattle.tuple_tree.specs.Values.{Datum, number, text, bytes, truth, Slot, actual, any, formal, TupleTree, TemplateTree, IsTuple, IsTemplate}
+use Rattle.tuple_tree.specs.Values.{Datum, number, text, bytes, truth, wide, Slot, actual, any, formal, TupleTree, TemplateTree, IsTuple, IsTemplate}
 use Rattle.tuple_tree.specs.declared.atoms.Kind.{Kind}
 use Rattle.tuple_tree.specs.declared.atoms.Kind.TheVariants as kinds
-use Rattle.tuple_codec.specs.Operations.{Operation, out, rdp, inp, cas, rd_all, IsOperation, Outcome, done, found, absent, swapped, all, full, refused, IsOutcome}
+use Rattle.tuple_codec.specs.Operations.{Operation, out, rdp, inp, cas, rd_all, in_all, IsOperation, Outcome, done, found, absent, swapped, all, full, refused, IsOutcome}
 
 -- two bytes of length, and that many bytes
 abbrev pub string : List ℕ → List ℕ
@@ -16,12 +16,17 @@ abbrev pub flag : Bool → ℕ
 flag false = 0
 flag true = 1
 
--- tags 01 to 04
+-- 16 bytes, two's complement
+unfoldable pub wide_bytes : ℤ → List ℕ
+wide_bytes n = to_be_bytes w128 (cast_unsigned w128 n)
+
+-- tags 01 to 04, and 06
 abbrev pub datum_spelling : Datum → List ℕ
 datum_spelling (number n) = 1 ∷ to_be_bytes w64 (cast_unsigned w64 n)
 datum_spelling (text s) = 2 ∷ string s
 datum_spelling (bytes s) = 3 ∷ string s
 datum_spelling (truth b) = 4 ∷ flag b ∷ []
+datum_spelling (wide n) = 6 ∷ wide_bytes n
 
 abbrev pub formal_tag : Kind → ℕ
 formal_tag kinds.Number = 0x11
@@ -29,8 +34,9 @@ formal_tag kinds.Text = 0x12
 formal_tag kinds.Bytes = 0x13
 formal_tag kinds.Truth = 0x14
 formal_tag kinds.Tuple = 0x15
+formal_tag kinds.Wide = 0x16
 
--- tags 10 to 15 beside those of values
+-- tags 10 to 16 beside those of values
 abbrev pub slot_spelling : Slot → List ℕ
 slot_spelling (actual x) = datum_spelling x
 slot_spelling any = 0x10 ∷ []
@@ -67,15 +73,17 @@ template_spelling p = whole_spelling slot_spelling p
 abbrev pub cas_spelling : TemplateTree → TupleTree → List ℕ
 cas_spelling p t = 0x24 ∷ template_spelling p ++ tuple_spelling t
 
-abbrev pub rd_all_spelling : ℕ → TemplateTree → List ℕ
-rd_all_spelling n p = 0x25 ∷ n ∷ template_spelling p
+-- the arguments of an rdAll and of an inAll: how many, and the template
+abbrev pub counted_spelling : ℕ × TemplateTree → List ℕ
+counted_spelling x = x.0 ∷ template_spelling x.1
 
 abbrev pub operation_spelling : Operation → List ℕ
 operation_spelling (out t) = 0x21 ∷ tuple_spelling t
 operation_spelling (rdp p) = 0x22 ∷ template_spelling p
 operation_spelling (inp p) = 0x23 ∷ template_spelling p
 operation_spelling (cas p t) = cas_spelling p t
-operation_spelling (rd_all n p) = rd_all_spelling n p
+operation_spelling (rd_all n p) = 0x25 ∷ counted_spelling (n, p)
+operation_spelling (in_all n p) = 0x26 ∷ counted_spelling (n, p)
 
 abbrev pub tuples_spelling : List TupleTree → List ℕ
 tuples_spelling [] = []

@@ -4,10 +4,10 @@ ghost use Rattle.std.specs.Prelude.{◌≡◌, ◌+◌, ◌*◌, ◌≤◌, leng
 ghost use Rattle.tuple_codec.specs.Operations.{Operation, Outcome};
 ghost use Rattle.tuple_codec.specs.Gives.{Yields};
 ghost use Rattle.tuple_codec.specs.Spelling.{SpellsOperation, SpellsOutcome};
-ghost use Rattle.tuple_codec.specs.Reading.{rest_of, datum_at, slot_at, item_at, items_at, tuple_at, template_at, cas_at, rd_all_at, operation_behind, operation_at, tuples_at, outcome_behind, outcome_at};
+ghost use Rattle.tuple_codec.specs.Reading.{rest_of, datum_at, slot_at, item_at, items_at, tuple_at, template_at, cas_at, counted_at, operation_behind, operation_at, tuples_at, outcome_behind, outcome_at};
 
 use crate::operations::{MAX_ANSWERS, Max};
-use crate::reading::{frame, read_byte, read_flag, read_number, read_string, read_text};
+use crate::reading::{frame, read_byte, read_flag, read_number, read_string, read_text, read_wide};
 use tuple_tree::MAX_FIELDS;
 
 /// Whether the bytes, whole, spell an operation within the limits. Takes no memory.
@@ -48,7 +48,8 @@ fn skip_op_behind(tag: u8, bytes: &[u8]) -> Option<&[u8]>
         0x22 => skip_template(bytes),
         0x23 => skip_template(bytes),
         0x24 => skip_cas(bytes),
-        0x25 => skip_rd_all(bytes),
+        0x25 => skip_counted(bytes),
+        0x26 => skip_counted(bytes),
         _ => None,
     }
 }
@@ -62,9 +63,9 @@ fn skip_cas(bytes: &[u8]) -> Option<&[u8]>
     }
 }
 
-#[tactic(auto, unfolding(crate::specs::Reading::rd_all_at))]
-fn skip_rd_all(bytes: &[u8]) -> Option<&[u8]>
-    ensures { Yields (λ rest. rest.now) result (rest_of (rd_all_at bytes.now)) }
+#[tactic(auto, unfolding(crate::specs::Reading::counted_at))]
+fn skip_counted(bytes: &[u8]) -> Option<&[u8]>
+    ensures { Yields (λ rest. rest.now) result (rest_of (counted_at bytes.now)) }
 {
     let (count, after) = read_byte(bytes)?;
     match Max::new(count) {
@@ -204,7 +205,7 @@ fn skip_slot(tag: u8, bytes: &[u8]) -> Option<&[u8]>
     ensures { Yields (λ rest. rest.now) result (rest_of (slot_at tag bytes.now)) }
 {
     match tag {
-        0x10 | 0x11 | 0x12 | 0x13 | 0x14 | 0x15 => Some(bytes),
+        0x10 | 0x11 | 0x12 | 0x13 | 0x14 | 0x15 | 0x16 => Some(bytes),
         _ => skip_atom(tag, bytes),
     }
 }
@@ -227,6 +228,10 @@ fn skip_atom(tag: u8, bytes: &[u8]) -> Option<&[u8]>
             None => None,
         },
         4 => match read_flag(bytes) {
+            Some((_, rest)) => Some(rest),
+            None => None,
+        },
+        6 => match read_wide(bytes) {
             Some((_, rest)) => Some(rest),
             None => None,
         },

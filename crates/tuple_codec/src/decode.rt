@@ -13,7 +13,7 @@ ghost use Rattle.tuple_codec.specs.Reading.{read_as, byte_at, datum_at, slot_at,
 
 use crate::bad::Bad;
 use crate::check::{skip_template, skip_tuple};
-use crate::reading::{frame, read_byte, read_flag, read_number, read_string, read_text};
+use crate::reading::{frame, read_byte, read_flag, read_number, read_string, read_text, read_wide};
 use std::alloc::Allocator;
 use terms::NoMemory;
 use tuple_tree::{Atom, Field, Kind, MAX_FIELDS, Refusal, Template, Tuple, Value};
@@ -242,6 +242,7 @@ fn read_slot<'b, A: Allocator + Clone>(
         0x13 => Ok((Field::Formal(Kind::Bytes), bytes)),
         0x14 => Ok((Field::Formal(Kind::Truth), bytes)),
         0x15 => Ok((Field::Formal(Kind::Tuple), bytes)),
+        0x16 => Ok((Field::Formal(Kind::Wide), bytes)),
         _ => read_actual(alloc, tag, bytes),
     }
 }
@@ -297,6 +298,10 @@ fn read_atom<'b, A: Allocator + Clone>(
         },
         4 => match read_flag(bytes) {
             Some((truth, rest)) => Ok((Atom::Truth(truth), rest)),
+            None => Err(Bad::Malformed),
+        },
+        6 => match read_wide(bytes) {
+            Some((number, rest)) => Ok((Atom::Wide(number), rest)),
             None => Err(Bad::Malformed),
         },
         _ => Err(Bad::Malformed),

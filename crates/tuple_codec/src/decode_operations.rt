@@ -1,11 +1,11 @@
 //! From bytes to operations and answers.
 
 ghost use Rattle.std.specs.Prelude.{◌≡◌, ◌≢◌, ◌+◌, ◌<◌, ◌≤◌, length, IfErr, OnOk};
-ghost use Rattle.tuple_codec.specs.Operations.{out, rdp, inp};
+ghost use Rattle.tuple_codec.specs.Operations.{out, rdp, inp, rd_all, in_all};
 ghost use Rattle.tuple_codec.specs.OperationView.{operation_of, outcome_of};
 ghost use Rattle.tuple_codec.specs.Gives.{Gives, DecodesSpelled, DecodesEach};
 ghost use Rattle.tuple_codec.specs.Spelling.{SpellsOperation, SpellsOutcome, FrontSpellsOperation, FrontSpellsOutcome};
-ghost use Rattle.tuple_codec.specs.Reading.{read_as, tuple_at, template_at, cas_at, rd_all_at, operation_behind, operation_at, tuples_at, found_at, swapped_at, all_at, outcome_behind, outcome_at, with_tuple};
+ghost use Rattle.tuple_codec.specs.Reading.{read_as, tuple_at, template_at, cas_at, counted_at, operation_behind, operation_at, tuples_at, found_at, swapped_at, all_at, outcome_behind, outcome_at, with_tuple};
 
 use crate::bad::Bad;
 use crate::check::{skip_answer, skip_op};
@@ -14,7 +14,7 @@ use crate::operations::{Answer, MAX_ANSWERS, Max, Op, Tuples};
 use crate::reading::read_flag;
 use std::alloc::Allocator;
 use terms::NoMemory;
-use tuple_tree::Tuple;
+use tuple_tree::{Template, Tuple};
 
 /// The operation at the front, and how many bytes spell it.
 ///
@@ -90,6 +90,7 @@ fn read_op_behind<'b, A: Allocator + Clone>(
         0x23 => read_inp(alloc, bytes),
         0x24 => read_cas(alloc, bytes),
         0x25 => read_rd_all(alloc, bytes),
+        0x26 => read_in_all(alloc, bytes),
         _ => Err(Bad::Malformed),
     }
 }
@@ -130,18 +131,44 @@ fn read_cas<'b, A: Allocator + Clone>(alloc: &A, bytes: &'b [u8]) -> Result<(Op<
     Ok((Op::Cas(template, tuple), rest))
 }
 
-#[tactic(auto, unfolding(crate::specs::Reading::rd_all_at))]
 fn read_rd_all<'b, A: Allocator + Clone>(
     alloc: &A,
     bytes: &'b [u8],
 ) -> Result<(Op<A>, &'b [u8]), Bad>
-    ensures { Gives (λ x. (operation_of x.0, x.1.now)) result (rd_all_at bytes.now) }
+    ensures { Gives (λ x. (operation_of x.0, x.1.now)) result
+        (read_as (λ x. rd_all x.0 x.1) counted_at bytes.now) }
+{
+    match read_counted(alloc, bytes) {
+        Ok(((max, template), rest)) => Ok((Op::RdAll(max, template), rest)),
+        Err(bad) => Err(bad),
+    }
+}
+
+fn read_in_all<'b, A: Allocator + Clone>(
+    alloc: &A,
+    bytes: &'b [u8],
+) -> Result<(Op<A>, &'b [u8]), Bad>
+    ensures { Gives (λ x. (operation_of x.0, x.1.now)) result
+        (read_as (λ x. in_all x.0 x.1) counted_at bytes.now) }
+{
+    match read_counted(alloc, bytes) {
+        Ok(((max, template), rest)) => Ok((Op::InAll(max, template), rest)),
+        Err(bad) => Err(bad),
+    }
+}
+
+#[tactic(auto, unfolding(crate::specs::Reading::counted_at))]
+fn read_counted<'b, A: Allocator + Clone>(
+    alloc: &A,
+    bytes: &'b [u8],
+) -> Result<((Max, Template<A>), &'b [u8]), Bad>
+    ensures { Gives (λ x. ((x.0.0.count, x.0.1), x.1.now)) result (counted_at bytes.now) }
 {
     let (count, after) = next_byte(bytes)?;
     match Max::new(count) {
         Some(max) => {
             let (template, rest) = read_template(alloc, after)?;
-            Ok((Op::RdAll(max, template), rest))
+            Ok(((max, template), rest))
         }
         None => Err(Bad::Malformed),
     }

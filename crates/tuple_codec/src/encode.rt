@@ -9,7 +9,7 @@ ghost use Rattle.tuple_tree.specs.TemplateView.{field_of};
 ghost use Rattle.tuple_codec.specs.Puts.{Puts};
 ghost use Rattle.tuple_codec.specs.Operations.{all};
 ghost use Rattle.tuple_codec.specs.OperationView.{op_spelling, answer_spelling};
-ghost use Rattle.tuple_codec.specs.Spelling.{flag, datum_spelling, formal_tag, value_spelling, field_spelling, tuple_spelling, template_spelling, cas_spelling, rd_all_spelling, tuples_spelling, outcome_spelling};
+ghost use Rattle.tuple_codec.specs.Spelling.{flag, datum_spelling, formal_tag, value_spelling, field_spelling, tuple_spelling, template_spelling, cas_spelling, counted_spelling, tuples_spelling, outcome_spelling};
 ghost use Rattle.tuple_codec.specs.Spelling as Spelling;
 
 use crate::operations::{Answer, Max, Op, Tuples};
@@ -99,7 +99,8 @@ fn put_op<A: Allocator, B: Allocator>(op: &Op<A>, out: &mut Vec<u8, B>) -> Resul
         Op::Rdp(template) => put_template_behind(0x22, template, out),
         Op::Inp(template) => put_template_behind(0x23, template, out),
         Op::Cas(template, tuple) => put_cas(template, tuple, out),
-        Op::RdAll(max, template) => put_rd_all(*max, template, out),
+        Op::RdAll(max, template) => put_counted(0x25, *max, template, out),
+        Op::InAll(max, template) => put_counted(0x26, *max, template, out),
     }
 }
 
@@ -114,14 +115,15 @@ fn put_cas<A: Allocator, B: Allocator>(
     put_tuple(tuple, out)
 }
 
-fn put_rd_all<A: Allocator, B: Allocator>(
+fn put_counted<A: Allocator, B: Allocator>(
+    tag: u8,
     max: Max,
     template: &Template<A>,
     out: &mut Vec<u8, B>,
 ) -> Result<(), NoMemory>
-    ensures { Puts (rd_all_spelling max.count template.now) out.old.items out.new.items result }
+    ensures { Puts (tag ∷ counted_spelling (max.count, template.now)) out.old.items out.new.items result }
 {
-    put_byte(0x25, out)?;
+    put_byte(tag, out)?;
     put_template_behind(max.count, template, out)
 }
 
@@ -259,6 +261,7 @@ fn kind_tag(kind: Kind) -> u8
         Kind::Bytes => 0x13,
         Kind::Truth => 0x14,
         Kind::Tuple => 0x15,
+        Kind::Wide => 0x16,
     }
 }
 
@@ -274,7 +277,15 @@ fn put_atom<A: Allocator, B: Allocator>(
         Atom::Text(text) => put_string(2, text.as_bytes(), out),
         Atom::Bytes(bytes) => put_string(3, bytes.as_slice(), out),
         Atom::Truth(truth) => put_behind(4, &[*truth as u8], out),
+        Atom::Wide(number) => put_behind(6, &wide_bytes(*number), out),
     }
+}
+
+#[tactic(auto, unfolding(crate::specs::Spelling::wide_bytes))]
+fn wide_bytes(number: i128) -> [u8; 16]
+    ensures { result ≡ Spelling.wide_bytes number }
+{
+    number.to_be_bytes()
 }
 
 fn put_string<B: Allocator>(tag: u8, string: &[u8], out: &mut Vec<u8, B>) -> Result<(), NoMemory>

@@ -5,10 +5,10 @@
 //! `encode_*` append the one spelling, or leave the bytes as they were. `decode_*` give a value only where the bytes
 //! in front spell it, refuse only where no front does, want of memory aside, and want memory only where some front
 //! does: the bytes are judged before memory is taken. `is_op` and `is_result` hold exactly of a whole spelling and take
-//! no memory. Operations and answers are equal where `same` says so, `copy_in` gives equal ones, and `encoded_len` is the
-//! length of the spelling; `is_read` tells which operations leave each space as it is. `one_spelling` is the law that no
-//! spelling begins another and each stands for one value; by `note_valid` each operation and answer that the program
-//! holds is within the limits.
+//! no memory. Operations and answers are equal where `same` says so, `copy_in` gives equal ones, and `encoded_len` is
+//! the length of the spelling. `is_read` tells which operations leave each space as it is, and `is_version_2` which ones
+//! a space of version 1 refuses. `one_spelling` is the law that no spelling begins another and each stands for one
+//! value; by `note_valid` each operation and answer that the program holds is within the limits.
 #![tactic(auto)]
 
 mod bad;

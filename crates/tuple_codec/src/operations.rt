@@ -149,11 +149,13 @@ pub enum Op<A: Allocator> {
     Cas(Template<A>, Tuple<A>),
     /// Reads the oldest matches, so many at the most.
     RdAll(Max, Template<A>),
+    /// Takes the oldest matches, so many at the most.
+    InAll(Max, Template<A>),
 }
 
 impl<A: Allocator> Op<A> {
     ghost use Rattle.std.specs.Prelude.{◌≡◌, ◌≤◌, ◌↔◌, IfOk, IsTrue, length};
-    ghost use Rattle.tuple_codec.specs.Operations.{IsOperation, is_read_only};
+    ghost use Rattle.tuple_codec.specs.Operations.{IsOperation, is_read_only, is_version_2};
     ghost use Rattle.tuple_codec.specs.OperationView.{operation_of};
     ghost use Rattle.tuple_codec.specs.Spelling.{operation_spelling};
 
@@ -170,6 +172,7 @@ impl<A: Allocator> Op<A> {
                 Ok(Op::Cas(template, tuple.copy_in(alloc)?))
             }
             Op::RdAll(max, template) => Ok(Op::RdAll(*max, template.copy_in(alloc)?)),
+            Op::InAll(max, template) => Ok(Op::InAll(*max, template.copy_in(alloc)?)),
         }
     }
 
@@ -183,6 +186,7 @@ impl<A: Allocator> Op<A> {
             (Op::Inp(a), Op::Inp(b)) => a.same(b),
             (Op::Cas(a, x), Op::Cas(b, y)) => a.same(b) && x.same(y),
             (Op::RdAll(max, a), Op::RdAll(most, b)) => max.count == most.count && a.same(b),
+            (Op::InAll(max, a), Op::InAll(most, b)) => max.count == most.count && a.same(b),
             _ => false,
         }
     }
@@ -196,7 +200,7 @@ impl<A: Allocator> Op<A> {
             Op::Out(tuple) => 1 + tuple_len(tuple),
             Op::Rdp(template) | Op::Inp(template) => 1 + template_len(template),
             Op::Cas(template, tuple) => 1 + template_len(template) + tuple_len(tuple),
-            Op::RdAll(_, template) => 2 + template_len(template),
+            Op::RdAll(_, template) | Op::InAll(_, template) => 2 + template_len(template),
         }
     }
 
@@ -206,7 +210,21 @@ impl<A: Allocator> Op<A> {
     {
         match self {
             Op::Rdp(_) | Op::RdAll(_, _) => true,
-            Op::Out(_) | Op::Inp(_) | Op::Cas(_, _) => false,
+            Op::Out(_) | Op::Inp(_) | Op::Cas(_, _) | Op::InAll(_, _) => false,
+        }
+    }
+
+    /// Whether the operation is one of version 2 of the space: an `inAll`, or one that has a wide number or asks for
+    /// one. Constant time.
+    pub fn is_version_2(&self) -> bool
+        ensures { result ≡ is_version_2 (operation_of self.now) }
+    {
+        match self {
+            Op::Out(tuple) => tuple.has_wide(),
+            Op::Rdp(template) | Op::Inp(template) => template.has_wide(),
+            Op::Cas(template, tuple) => template.has_wide() || tuple.has_wide(),
+            Op::RdAll(_, template) => template.has_wide(),
+            Op::InAll(_, _) => true,
         }
     }
 
@@ -223,7 +241,7 @@ impl<A: Allocator> Op<A> {
                 note_template(template);
                 note_tuple(tuple);
             }
-            Op::RdAll(max, template) => {
+            Op::RdAll(max, template) | Op::InAll(max, template) => {
                 let _max = *max;
                 note_template(template);
             }

@@ -1,9 +1,9 @@
 //! Bytes, numbers, strings and flags at the front of bytes. Nothing here takes memory.
 
-ghost use Rattle.std.specs.Prelude.{◌≡◌, ◌+◌, ◌≤◌, length, take};
-ghost use Rattle.tuple_tree.specs.Values.{number};
+ghost use Rattle.std.specs.Prelude.{◌≡◌, ◌+◌, ◌≤◌, length, take, drop, Some};
+ghost use Rattle.tuple_tree.specs.Values.{number, wide};
 ghost use Rattle.tuple_codec.specs.Gives.{Yields};
-ghost use Rattle.tuple_codec.specs.Reading.{byte_at, bytes_at, number_of, signed_at, string_at, text_at, flag_at};
+ghost use Rattle.tuple_codec.specs.Reading.{byte_at, bytes_at, number_of, signed_at, wide_at, string_at, text_at, flag_at};
 
 use byteorder::{BigEndian, ByteOrder};
 use std::str;
@@ -59,6 +59,24 @@ pub fn read_number(bytes: &[u8]) -> Option<(i64, &[u8])>
         return None;
     }
     Some((BigEndian::read_i64(bytes), &bytes[8..]))
+}
+
+/// A signed number of 128 bits.
+pub fn read_wide(bytes: &[u8]) -> Option<(i128, &[u8])>
+    ensures { Yields (λ x. (wide x.0, x.1.now)) result (wide_at bytes.now) }
+{
+    if bytes.len() < 16 {
+        return None;
+    }
+    Some((wide_of(bytes), &bytes[16..]))
+}
+
+// The number that the first 16 bytes spell.
+fn wide_of(bytes: &[u8]) -> i128
+    requires { 16 ≤ length bytes.now }
+    ensures { wide_at bytes.now ≡ Some (wide result, drop 16 bytes.now) }
+{
+    BigEndian::read_i128(bytes)
 }
 
 /// Bytes behind their length.

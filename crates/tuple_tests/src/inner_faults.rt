@@ -17,7 +17,7 @@ enum Sort {
 type Row<'a> = (Sort, &'a [u8]);
 
 // As many bytes as the counts in them ask for, and one of them wrong.
-static FAULTS: [Row<'static>; 20] = [
+static FAULTS: [Row<'static>; 25] = [
     // a ninth level
     (
         Sort::Tuple,
@@ -42,6 +42,10 @@ static FAULTS: [Row<'static>; 20] = [
     // an rdAll of 65 tuples, and of none
     (Sort::Op, b"\x25\x41\x01\x10"),
     (Sort::Op, b"\x25\x00\x01\x10"),
+    // an inAll of 65 tuples, of none, and one whose count is left out
+    (Sort::Op, b"\x26\x41\x01\x10"),
+    (Sort::Op, b"\x26\x00\x01\x10"),
+    (Sort::Op, b"\x26\x01\x10"),
     // an answer of 65 tuples
     (Sort::Answer, TUPLES_65),
     // a truth value of 02, behind a text and a number
@@ -59,10 +63,19 @@ static FAULTS: [Row<'static>; 20] = [
         Sort::Answer,
         b"\x35\x02\x01\x02\x00\x01k\x01\x02\x00\x01\xff",
     ),
+    // a wide number of 15 bytes, behind a text
+    (
+        Sort::Tuple,
+        b"\x02\x02\x00\x01k\x06\x00\x00\x00\x00\x00\x00\x00\x00\x00\x00\x00\x00\x00\x00\x01",
+    ),
+    (
+        Sort::Template,
+        b"\x02\x02\x00\x01k\x06\x00\x00\x00\x00\x00\x00\x00\x00\x00\x00\x00\x00\x00\x00\x01",
+    ),
     // an unknown tag
-    (Sort::Tuple, b"\x02\x02\x00\x01k\x06"),
-    (Sort::Template, b"\x02\x02\x00\x01k\x16"),
-    (Sort::Op, b"\x26\x01\x02\x00\x01k"),
+    (Sort::Tuple, b"\x02\x02\x00\x01k\x07"),
+    (Sort::Template, b"\x02\x02\x00\x01k\x17"),
+    (Sort::Op, b"\x28\x01\x02\x00\x01k"),
     (Sort::Answer, b"\x38"),
 ];
 
@@ -88,13 +101,19 @@ const TUPLES_65: &[u8] = &[
 ];
 
 // The same values without a fault.
-static WHOLE: [Row<'static>; 4] = [
+static WHOLE: [Row<'static>; 7] = [
     (
         Sort::Tuple,
         b"\x01\x05\x01\x05\x01\x05\x01\x05\x01\x05\x01\x05\x01\x05\x00",
     ),
     (Sort::Template, b"\x02\x02\x00\x01k\x15"),
+    (Sort::Template, b"\x02\x02\x00\x01k\x16"),
+    (
+        Sort::Tuple,
+        b"\x02\x02\x00\x01k\x06\x00\x00\x00\x00\x00\x00\x00\x00\x00\x00\x00\x00\x00\x00\x00\x01",
+    ),
     (Sort::Op, b"\x24\x01\x12\x02\x02\x00\x01k\x04\x01"),
+    (Sort::Op, b"\x26\x40\x01\x10"),
     (Sort::Answer, b"\x35\x02\x01\x02\x00\x01k\x01\x02\x00\x01l"),
 ];
 

@@ -4,7 +4,7 @@ use std::alloc::Global;
 use std::test::Fail;
 use tuple_codec::{Bad, decode_op, decode_result, encode_op, encode_result, is_op, is_result};
 
-static ROWS: [&[u8]; 4] = [
+static ROWS: [&[u8]; 9] = [
     // out (1 "a")
     b"\x21\x02\x01\x00\x00\x00\x00\x00\x00\x00\x01\x02\x00\x01a",
     // out (("x") true)
@@ -13,6 +13,14 @@ static ROWS: [&[u8]; 4] = [
     b"\x24\x02\x02\x00\x01k\x10\x02\x02\x00\x01k\x01\x00\x00\x00\x00\x00\x00\x00\x01",
     // rdAll 64 (*)
     b"\x25\x40\x01\x10",
+    // out (w1), out (w-1)
+    b"\x21\x01\x06\0\0\0\0\0\0\0\0\0\0\0\0\0\0\0\x01",
+    b"\x21\x01\x06\xff\xff\xff\xff\xff\xff\xff\xff\xff\xff\xff\xff\xff\xff\xff\xff",
+    // rdp (?wide)
+    b"\x22\x01\x16",
+    // inAll 2 (?wide), inAll 64 (*)
+    b"\x26\x02\x01\x16",
+    b"\x26\x40\x01\x10",
 ];
 
 // All of () and (true)

@@ -22,7 +22,9 @@ const NESTED_ONE: &[u8] = b"\x01\x05\x01\x01\x00\x00\x00\x00\x00\x00\x00\x01";
 
 const ONE: &[u8] = b"\x01\x01\x00\x00\x00\x00\x00\x00\x00\x01";
 
-static ROWS: [Row<'static>; 14] = [
+const WIDE: &[u8] = b"\x01\x06\0\0\0\0\0\0\0\0\0\0\0\0\0\0\0\x01";
+
+static ROWS: [Row<'static>; 21] = [
     // ((*)), (?tuple), ((* *)), ((2)) and (*) against ((1))
     (b"\x01\x05\x01\x10", NESTED_ONE, true),
     (b"\x01\x15", NESTED_ONE, true),
@@ -43,6 +45,18 @@ static ROWS: [Row<'static>; 14] = [
     (b"\x01\x12", b"\x01\x02\x00\x011", true),
     (b"\x01\x13", b"\x01\x03\x00\x011", true),
     (b"\x01\x14", b"\x01\x04\x00", true),
+    // (?wide), (w1), (1), (w-1) and (?int) against (w1), and (w1) and (?wide) against (1)
+    (b"\x01\x16", WIDE, true),
+    (WIDE, WIDE, true),
+    (ONE, WIDE, false),
+    (
+        b"\x01\x06\xff\xff\xff\xff\xff\xff\xff\xff\xff\xff\xff\xff\xff\xff\xff\xff",
+        WIDE,
+        false,
+    ),
+    (b"\x01\x11", WIDE, false),
+    (WIDE, ONE, false),
+    (b"\x01\x16", ONE, false),
     // lists of different length
     (b"\x00", b"\x00", true),
     (b"\x01\x10", b"\x00", false),
@@ -65,12 +79,13 @@ fn bytes_behind_a_tuple_are_left(rt: HostRuntime) -> Result<(), Fail> {
     Ok(())
 }
 
-static MALFORMED: [&[u8]; 5] = [
-    // a truth value of 02, a text that isn't UTF-8, an unknown tag, a template's field, 33 values
+static MALFORMED: [&[u8]; 6] = [
+    // a truth value of 02, a text that isn't UTF-8, an unknown tag, a template's fields, 33 values
     b"\x02\x05\x01\x02\x00\x01x\x04\x02",
     b"\x01\x02\x00\x01\xff",
-    b"\x01\x06",
+    b"\x01\x07",
     b"\x01\x10",
+    b"\x01\x16",
     b"\x21",
 ];
 

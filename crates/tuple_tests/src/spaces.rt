@@ -3,7 +3,7 @@
 //! In a plain run nothing is refused here. `tools/growths` refuses the growth of number N: each test
 //! passes at each N.
 
-use space::Space;
+use space::{PeekFault, Space};
 use std::alloc::Global;
 use test_bytes::read_op;
 use tuple_codec::{Answer, Op, encode_result};
@@ -74,6 +74,48 @@ static OPERATIONS: [Step<'static>; 7] = [
     // rdp (?text): absent
     (b"\x22\x01\x12", b"\x33"),
 ];
+
+// A space of version 1 refuses what has a wide number or asks for one, and stays as it was.
+static REFUSED: [Step<'static>; 9] = [
+    // out (w1): refused
+    (b"\x21\x01\x06\0\0\0\0\0\0\0\0\0\0\0\0\0\0\0\x01", b"\x37"),
+    // out ("k"): done
+    (b"\x21\x01\x02\x00\x01k", b"\x31"),
+    // inp ((?wide) *), rdp (?wide), inp (?wide): refused
+    (b"\x23\x02\x05\x01\x16\x10", b"\x37"),
+    (b"\x22\x01\x16", b"\x37"),
+    (b"\x23\x01\x16", b"\x37"),
+    // cas (?bool) ((w1)): refused
+    (
+        b"\x24\x01\x14\x01\x05\x01\x06\0\0\0\0\0\0\0\0\0\0\0\0\0\0\0\x01",
+        b"\x37",
+    ),
+    // cas (?wide) (true): refused
+    (b"\x24\x01\x16\x01\x04\x01", b"\x37"),
+    // rdAll 64 (?wide): refused
+    (b"\x25\x40\x01\x16", b"\x37"),
+    // rdAll 64 (*): all 1 ("k")
+    (b"\x25\x40\x01\x10", b"\x35\x01\x01\x02\x00\x01k"),
+];
+
+#[test]
+fn version_1_refuses_wide_numbers(rt: HostRuntime) {
+    let mut space = Space::new(rt.alloc());
+    let wrong = first_wrong(&mut space, rt.alloc(), REFUSED.as_slice());
+    assert_eq!(rt; wrong, None);
+    // rdp (?wide)
+    assert!(rt; peeks(&space, rt.alloc(), b"\x22\x01\x16", b"\x37"));
+    // inp (?wide) is no read.
+    assert!(rt; looks_only(&space, rt.alloc(), b"\x23\x01\x16"));
+}
+
+// Whether a look at the space refuses the operation, since it is no read.
+fn looks_only(space: &Space, alloc: Global, op: &[u8]) -> bool {
+    match read_op(alloc, op) {
+        Some(op) => matches!(space.peek(&op), Err(PeekFault::NotReadOnly)),
+        None => false,
+    }
+}
 
 #[test]
 fn operations_in_ordinary_memory(rt: HostRuntime) {

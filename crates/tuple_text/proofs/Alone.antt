@@ -4,7 +4,7 @@ use Rattle.tuple_tree.specs.Values.{TemplateTree}
 use Rattle.tuple_codec.specs.Operations.{rdp}
 use Rattle.tuple_text.specs.Lines.{IsLine}
 use Rattle.tuple_text.specs.Faults.{Faults, IsBadAt, behind}
-use Rattle.tuple_text.specs.Reading.{Read, got, stop, ◌>>=◌, blanks, template, argument, ending, ended, rdp_line, rd_line, operation, line, lone_template, fault_at, Stops}
+use Rattle.tuple_text.specs.Reading.{Read, got, stop, ◌>>=◌, blanks, template, argument, ending, ended, one_line, verb_line, operation, line, lone_template, fault_at, Stops}
 use Rattle.tuple_text.specs.declared.reader.Stop.{Stop}
 use Rattle.tuple_text.specs.declared.reader.Stop.TheVariants.{BadByte, TooDeep, TooManyFields, TooLong, NoMemory}
 use Rattle.tuple_text.specs.declared.faults.LineFault.TheVariants as faults
@@ -38,7 +38,7 @@ unfolding argument
 gap_seen bs rest e = ap (λ y. (y >>= λ free rest. cond free (got true rest) (stop BadByte rest)) >>= λ _ rest. template rest) e
 
 front_seen : (bs : List ℕ) → line (as_line bs) ≡ (argument template (32 ∷ bs) >>= λ p rest. ended (rdp p) rest)
-unfolding line operation rd_line rdp_line
+unfolding line operation verb_line one_line
 front_seen bs = refl
 
 pub line_seen : (bs : List ℕ) → line (as_line bs) ≡ (lone_template bs >>= λ p rest. got (rdp p) rest)

@@ -5,12 +5,14 @@ use Rattle.std.proofs.lemmas.Bool.{cases_lt}
 use Rattle.tuple_tree.specs.Items.{Items, levels_of}
 use Rattle.tuple_tree.specs.Limits.{IsWithin}
 use Rattle.tuple_tree.specs.Values.{IsDatum, IsSlot, datum_length, slot_length, TupleTree, TemplateTree}
-use Rattle.tuple_codec.specs.Operations.{Operation, out, rdp, inp, cas, rd_all, IsOperation}
+use Rattle.tuple_codec.specs.Operations.{Operation, out, rdp, inp, cas, rd_all, in_all, IsOperation}
+use Rattle.tuple_text.specs.declared.reader.Verb.{Verb}
+use Rattle.tuple_text.specs.declared.reader.Verb.TheVariants.{Rd, In}
 use Rattle.tuple_text.specs.Texts.{AreBlanks}
 use Rattle.tuple_text.specs.Lines.{LineText, IsLine, IsSkipped, IsComment, name}
 use Rattle.tuple_text.specs.Faults.{AnyOperation, KeepsCount, KeepsBoth, EndsTooLong, Passes, StopsAt, IsBadAt, Faults}
 use Rattle.tuple_text.specs.Faults.{Begins as BeginsLine}
-use Rattle.tuple_text.specs.Reading.{Read, got, stop, Reading, ◌>>=◌, nothing, look, blanks, word, finish, ending, ended, positive, argument, tuple, template, out_line, inp_line, cas_line, rdp_line, all_line, rd_line, operation, line, fault_at, Stops}
+use Rattle.tuple_text.specs.Reading.{Read, got, stop, Reading, ◌>>=◌, nothing, look, blanks, word, finish, ending, ended, positive, argument, tuple, template, out_line, cas_line, letters, one_of, all_of, one_line, all_line, verb_line, operation, line, fault_at, Stops}
 use Rattle.tuple_text.specs.declared.reader.Stop.{Stop}
 use Rattle.tuple_text.specs.declared.reader.Stop.TheVariants.{BadByte, TooDeep, TooManyFields, TooLong, NoMemory}
 use Rattle.tuple_text.specs.declared.faults.LineFault.TheVariants as faults
@@ -212,39 +214,38 @@ out_end : (bs : List ℕ) → AtEnd (out_line bs)
 unfolding out_line
 out_end bs = then_end (word (codes "out") bs) (λ _ behind. argument tuple behind >>= λ t rest. ended (out t) rest) (λ _ behind. tuple_end out behind)
 
-inp_end : (bs : List ℕ) → AtEnd (inp_line bs)
-unfolding inp_line
-inp_end bs = then_end (word (codes "inp") bs) (λ _ behind. argument template behind >>= λ p rest. ended (inp p) rest) (λ _ behind. template_end inp behind)
-
-rdp_end : (bs : List ℕ) → AtEnd (rdp_line bs)
-unfolding rdp_line
-rdp_end bs = then_end (word (codes "p") bs) (λ _ behind. argument template behind >>= λ p rest. ended (rdp p) rest) (λ _ behind. template_end rdp behind)
-
 cas_end : (bs : List ℕ) → AtEnd (cas_line bs)
 unfolding cas_line
 cas_end bs =
     then_end (word (codes "cas") bs) (λ _ behind. argument template behind >>= λ p middle. argument tuple middle >>= λ t rest. ended (cas p t) rest)
     (λ _ behind. then_end (argument template behind) (λ p middle. argument tuple middle >>= λ t rest. ended (cas p t) rest) (λ p middle. tuple_end (cas p) middle))
 
-all_end : (bs : List ℕ) → AtEnd (all_line bs)
+one_end : (verb : Verb) (bs : List ℕ) → AtEnd (one_line verb bs)
+unfolding one_line
+one_end verb bs = then_end (word (codes "p") bs) (λ _ behind. argument template behind >>= λ p rest. ended (one_of verb p) rest) (λ _ behind. template_end (one_of verb) behind)
+
+all_end : (verb : Verb) (bs : List ℕ) → AtEnd (all_line verb bs)
 unfolding all_line
-all_end bs =
-    then_end (word (codes "All") bs) (λ _ behind. argument (positive 64) behind >>= λ n middle. argument template middle >>= λ p rest. ended (rd_all n p) rest)
-    (λ _ behind. then_end (argument (positive 64) behind) (λ n middle. argument template middle >>= λ p rest. ended (rd_all n p) rest) (λ n middle. template_end (rd_all n) middle))
+all_end verb bs =
+    then_end (word (codes "All") bs) (λ _ behind. argument (positive 64) behind >>= λ n middle. argument template middle >>= λ p rest. ended (all_of verb n p) rest)
+    (λ _ behind. then_end (argument (positive 64) behind) (λ n middle. argument template middle >>= λ p rest. ended (all_of verb n p) rest) (λ n middle. template_end (all_of verb n) middle))
 
 look_end : {V : Type 0} → (c : ℕ) (f g : Reading V) → ((bs : List ℕ) → AtEnd (f bs)) → ((bs : List ℕ) → AtEnd (g bs)) → (bs : List ℕ) → AtEnd (look c f g bs)
 look_end c f g h k [] = tt
 look_end c f g h k (b ∷ bs) = if_end (b == c) (f (b ∷ bs)) (g (b ∷ bs)) (h (b ∷ bs)) (k (b ∷ bs))
 
-rd_end : (bs : List ℕ) → AtEnd (rd_line bs)
-unfolding rd_line
-rd_end bs = then_end (word (codes "rd") bs) (λ _ rest. look 112 rdp_line all_line rest) (λ _ rest. look_end 112 rdp_line all_line rdp_end all_end rest)
+verb_end : (verb : Verb) (bs : List ℕ) → AtEnd (verb_line verb bs)
+unfolding verb_line
+verb_end verb bs =
+    then_end (word (letters verb) bs) (λ _ rest. look 112 (one_line verb) (all_line verb) rest)
+    (λ _ rest. look_end 112 (one_line verb) (all_line verb) (one_end verb) (all_end verb) rest)
 
 operation_end : (bs : List ℕ) → AtEnd (operation bs)
 unfolding operation
 operation_end bs =
-    look_end 111 out_line (look 114 rd_line (look 105 inp_line (look 99 cas_line nothing))) out_end
-    (look_end 114 rd_line (look 105 inp_line (look 99 cas_line nothing)) rd_end (look_end 105 inp_line (look 99 cas_line nothing) inp_end (look_end 99 cas_line nothing cas_end (λ bs. tt)))) bs
+    look_end 111 out_line (look 114 (verb_line Rd) (look 105 (verb_line In) (look 99 cas_line nothing))) out_end
+    (look_end 114 (verb_line Rd) (look 105 (verb_line In) (look 99 cas_line nothing)) (verb_end Rd)
+    (look_end 105 (verb_line In) (look 99 cas_line nothing) (verb_end In) (look_end 99 cas_line nothing cas_end (λ bs. tt)))) bs
 
 line_end : (bs : List ℕ) → AtEnd (line bs)
 unfolding line
@@ -271,6 +272,7 @@ keeps_both (rdp p) w = keeps_tree IsSlot slot_length p w
 keeps_both (inp p) w = keeps_tree IsSlot slot_length p w
 keeps_both (cas p t) w = let k = keeps_tree IsSlot slot_length p w.0 in let l = keeps_tree IsDatum datum_length t w.1 in ((k.0, l.0), (k.1, l.1))
 keeps_both (rd_all n p) w = keeps_tree IsSlot slot_length p w.2
+keeps_both (in_all n p) w = keeps_tree IsSlot slot_length p w.2
 
 -- A longer line is bad at its byte 65,536 at the latest.
 pub too_big : (bs : List ℕ) (o : Operation) (rest : List ℕ) → 65536 < length bs → line (front bs) ≡ got o rest → IsBadAt bs 65536
@@ -306,6 +308,7 @@ name_head (rdp p) = (114, codes "dp", refl, omega arith)
 name_head (inp p) = (105, codes "np", refl, omega arith)
 name_head (cas p t) = (99, codes "as", refl, omega arith)
 name_head (rd_all n p) = (114, codes "dAll", refl, omega arith)
+name_head (in_all n p) = (105, codes "nAll", refl, omega arith)
 
 no_blanks : (lead : List ℕ) (b : ℕ) (t : List ℕ) → 97 ≤ b → AreBlanks (lead ++ b ∷ t) → ⊥
 no_blanks [] b t h k = omega (arith, k.0)

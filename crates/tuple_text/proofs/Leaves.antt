@@ -1,10 +1,11 @@
 -- Reading the values and fields that are no lists.
-use Rattle.std.proofs.Common.{◌≡◌, ℕ, ◌+◌, ◌-◌, ◌<◌, ◌≤◌, ◌==◌, Bool, true, false, cond, ◌||◌, List, [], ◌∷◌, ◌++◌, codes, pos, negsuc, refl, ap, sym, subst, ◌∙◌, append_assoc, arith, ◌⊎◌, inl, inr, FitsSigned, w64}
+use Rattle.std.proofs.Common.{◌≡◌, ℕ, ℤ, ◌+◌, ◌-◌, ◌<◌, ◌≤◌, ◌==◌, Bool, true, false, cond, ◌||◌, List, [], ◌∷◌, ◌++◌, codes, pos, negsuc, refl, ap, sym, subst, ◌∙◌, append_assoc, arith, ◌⊎◌, inl, inr, FitsSigned, w64}
+use Rattle.std.specs.Int.{w128}
 use Rattle.std.proofs.lemmas.Bool.{eqb-true, ne_eqb, eq-eqb, or_cases, or_left, or_right}
 use Rattle.std.proofs.lemmas.Int.{ints}
 use Rattle.std.proofs.lemmas.Fmt.{decimal_digit}
-use Rattle.std.specs.Fmt.{decimal}
-use Rattle.tuple_tree.specs.Values.{Datum, number, text, bytes, truth, Slot, actual, any, formal, IsDatum, IsSlot, AreBytes}
+use Rattle.std.specs.Fmt.{decimal, signed_decimal}
+use Rattle.tuple_tree.specs.Values.{Datum, number, text, bytes, truth, wide, Slot, actual, any, formal, IsDatum, IsSlot, AreBytes}
 use Rattle.tuple_tree.specs.declared.atoms.Kind.{Kind}
 use Rattle.tuple_tree.specs.declared.atoms.Kind.TheVariants as kinds
 use Rattle.std.proofs.lemmas.Str.{IsUtf8-nil}
@@ -14,9 +15,9 @@ use Rattle.tuple_text.specs.Texts.{datum_text, slot_text, formal_text, escaped, 
 use Rattle.tuple_text.specs.Literals.{text_literal, bytes_literal, is_hex}
 use Rattle.tuple_text.proofs.LiteralTexts.{IsTextLiteral, BeginsTextLiteral, text_right, text_again}
 use Rattle.tuple_text.proofs.LiteralBytes.{IsByteString, BeginsByteString, bytes_right, bytes_again, NoHex}
-use Rattle.tuple_text.specs.Reading.{Read, got, Reading, ◌>>=◌, look, nothing, named, word, signed, numeral, quoted, byte_string, truth_or_number, datum, kind_b, kind_t, kind, formal_slot, actual_slot, slot, begins_datum, begins_slot}
+use Rattle.tuple_text.specs.Reading.{Read, got, Reading, ◌>>=◌, look, nothing, named, word, MOST, MOST_WIDE, signed, numeral, wide_numeral, quoted, byte_string, truth_or_number, datum, kind_b, kind_t, kind, formal_slot, actual_slot, slot, begins_datum, begins_slot}
 use Rattle.tuple_text.proofs.Right.{Limits, both, RightAs, Never, Found, then_right, look_right, nothing_right}
-use Rattle.tuple_text.proofs.Numbers.{IsSigned, BeginsSigned, signed_right, signed_again, signed_head, NoDigit, is_digit, digit_range, digit_is, ends_there}
+use Rattle.tuple_text.proofs.Numbers.{IsSigned, BeginsSigned, most_64, most_128, signed_right, signed_again, signed_head, NoDigit, is_digit, digit_range, digit_is, ends_there}
 use Rattle.tuple_text.proofs.Blanks.{IsWord, BeginsWord, word_right}
 
 -- what stands behind an item of a list
@@ -65,7 +66,18 @@ BeginsDatum = BeginsText datum_text IsDatum
 
 numeral_right : (bs : List ℕ) → RightAs IsDatumText BeginsDatum bs (numeral bs)
 unfolding numeral
-numeral_right bs = mapped_right IsSigned BeginsSigned IsDatumText BeginsDatum number bs (signed bs) (λ c w h. (number h.0, h.1, (h.2.0, h.2.1))) (λ n w h. h) (signed_right bs)
+numeral_right bs =
+    mapped_right (IsSigned w64) (BeginsSigned w64) IsDatumText BeginsDatum number bs (signed MOST bs) (λ c w h. (number h.0, h.1, (h.2.0, h.2.1))) (λ n w h. h) (signed_right w64 MOST most_64 bs)
+
+wide_right : (bs : List ℕ) → RightAs IsDatumText BeginsDatum bs (wide_numeral bs)
+unfolding wide_numeral
+wide_right bs =
+    then_right (IsWord (codes "w")) (BeginsWord (codes "w")) (λ _ x w. IsDatumText x (119 ∷ w)) (λ _ c w. BeginsDatum c (119 ∷ w)) IsDatumText BeginsDatum bs (word (codes "w") bs) (λ _ rest. signed MOST_WIDE rest >>= λ n after. got (wide n) after)
+    (λ c w h. (wide (pos 0), h.0 ++ decimal 0, (sym (append_assoc w h.0 (decimal 0)) ∙ ap (λ t. t ++ decimal 0) h.1, most_128.positive_fits 0 (omega arith))))
+    (λ _ front e x w h. subst (λ t. IsDatumText x (t ++ w)) (sym e) h)
+    (λ _ front e c w h. subst (λ t. BeginsDatum c (t ++ w)) (sym e) h)
+    (word_right (codes "w") bs)
+    (λ _ rest. mapped_right (IsSigned w128) (BeginsSigned w128) (λ x w. IsDatumText x (119 ∷ w)) (λ c w. BeginsDatum c (119 ∷ w)) wide rest (signed MOST_WIDE rest) (λ c w h. (wide h.0, h.1, (ap (λ t. 119 ∷ t) h.2.0, h.2.1))) (λ n w h. (ap (λ t. 119 ∷ t) h.0, h.1)) (signed_right w128 MOST_WIDE most_128 rest))
 
 truth_right : (b : Bool) (bs : List ℕ) → RightAs IsDatumText BeginsDatum bs (named (datum_text (truth b)) (truth b) bs)
 truth_right b bs = named_right IsDatumText BeginsDatum (datum_text (truth b)) (truth b) (refl, tt) (λ c w u e. (truth b, u, (e, tt))) bs
@@ -84,37 +96,35 @@ byte_string_right bs = mapped_right IsByteString BeginsByteString IsDatumText Be
 pub datum_right : (bs : List ℕ) → RightAs (IsText datum_text IsDatum) (BeginsText datum_text IsDatum) bs (datum bs)
 unfolding datum
 datum_right bs =
-    look_right IsDatumText BeginsDatum Never 34 quoted (look 120 byte_string truth_or_number) some_datum quoted_right
-    (look_right IsDatumText BeginsDatum Never 120 byte_string truth_or_number some_datum byte_string_right
+    look_right IsDatumText BeginsDatum Never 34 quoted (look 120 byte_string (look 119 wide_numeral truth_or_number)) some_datum quoted_right
+    (look_right IsDatumText BeginsDatum Never 120 byte_string (look 119 wide_numeral truth_or_number) some_datum byte_string_right
+    (look_right IsDatumText BeginsDatum Never 119 wide_numeral truth_or_number some_datum wide_right
     (look_right IsDatumText BeginsDatum Never 116 (named (codes "true") (truth true)) (look 102 (named (codes "false") (truth false)) numeral) some_datum (truth_right true)
-    (look_right IsDatumText BeginsDatum Never 102 (named (codes "false") (truth false)) numeral some_datum (truth_right false) numeral_right))) bs
+    (look_right IsDatumText BeginsDatum Never 102 (named (codes "false") (truth false)) numeral some_datum (truth_right false) numeral_right)))) bs
 
-minus : FitsSigned w64 (negsuc 0)
-minus = omega (arith, ints)
-
-small : (n : ℕ) → n < 10 → FitsSigned w64 (pos n)
-small n h = omega (arith, ints)
-
-signed_starts : (c : Limits) (b : ℕ) → (b == 45 || is_digit b) ≡ true → BeginsSigned c (b ∷ [])
+signed_starts : (c : Limits) (b : ℕ) → (b == 45 || is_digit b) ≡ true → BeginsSigned w64 c (b ∷ [])
 signed_starts c b e = elim (or_cases (b == 45) (is_digit b) e) [
-  | inl p ↦ (negsuc 0, decimal 1, (ap (λ d. d ∷ decimal 1) (eqb-true b 45 p), minus))
+  | inl p ↦ (negsuc 0, decimal 1, (ap (λ d. d ∷ decimal 1) (eqb-true b 45 p), most_64.negative_fits 0 (omega arith)))
   | inr p ↦ let r = digit_range b p in
-      (pos (b - 48), [], (sym (decimal_digit (b - 48) (omega (arith, r.0, r.1)) ∙ ap (λ d. d ∷ []) (let g : 48 + (b - 48) ≡ b = omega (arith, r.0) in g)), small (b - 48) (omega (arith, r.0, r.1))))
+      (pos (b - 48), [], (sym (decimal_digit (b - 48) (omega (arith, r.0, r.1)) ∙ ap (λ d. d ∷ []) (let g : 48 + (b - 48) ≡ b = omega (arith, r.0) in g)), most_64.positive_fits (b - 48) (omega (arith, r.0, r.1))))
 ]
 
 abbrev plain_begins : ℕ → Bool
 plain_begins b = b == 116 || (b == 102 || (b == 45 || is_digit b))
 
 pub datum_starts : (c : Limits) (b : ℕ) → begins_datum b ≡ true → BeginsText datum_text IsDatum c (b ∷ [])
-datum_starts c b e = elim (or_cases (b == 34) (b == 120 || plain_begins b) e) [
+datum_starts c b e = elim (or_cases (b == 34) (b == 120 || (b == 119 || plain_begins b)) e) [
   | inl p ↦ (text [], 34 ∷ [], (ap (λ d. d ∷ 34 ∷ []) (eqb-true b 34 p), IsUtf8-nil))
-  | inr q ↦ elim (or_cases (b == 120) (plain_begins b) q) [
+  | inr q ↦ elim (or_cases (b == 120) (b == 119 || plain_begins b) q) [
     | inl p ↦ (bytes [], [], (ap (λ d. d ∷ []) (eqb-true b 120 p), (λ i. omega arith)))
-    | inr r ↦ elim (or_cases (b == 116) (b == 102 || (b == 45 || is_digit b)) r) [
-      | inl p ↦ (truth true, codes "rue", (ap (λ d. d ∷ codes "rue") (eqb-true b 116 p), tt))
-      | inr q ↦ elim (or_cases (b == 102) (b == 45 || is_digit b) q) [
-        | inl p ↦ (truth false, codes "alse", (ap (λ d. d ∷ codes "alse") (eqb-true b 102 p), tt))
-        | inr p ↦ let h = signed_starts c b p in (number h.0, h.1, (h.2.0, h.2.1))
+    | inr s ↦ elim (or_cases (b == 119) (plain_begins b) s) [
+      | inl p ↦ (wide (pos 0), decimal 0, (ap (λ d. d ∷ decimal 0) (eqb-true b 119 p), most_128.positive_fits 0 (omega arith)))
+      | inr r ↦ elim (or_cases (b == 116) (b == 102 || (b == 45 || is_digit b)) r) [
+        | inl p ↦ (truth true, codes "rue", (ap (λ d. d ∷ codes "rue") (eqb-true b 116 p), tt))
+        | inr q ↦ elim (or_cases (b == 102) (b == 45 || is_digit b) q) [
+          | inl p ↦ (truth false, codes "alse", (ap (λ d. d ∷ codes "alse") (eqb-true b 102 p), tt))
+          | inr p ↦ let h = signed_starts c b p in (number h.0, h.1, (h.2.0, h.2.1))
+        ]
       ]
     ]
   ]
@@ -126,15 +136,16 @@ number_begins b (inr r) = or_right (b == 45) (is_digit b) (digit_is b r.0 r.1)
 
 datum_begins : (b : ℕ) → (b == 45 || is_digit b) ≡ true → begins_datum b ≡ true
 datum_begins b e =
-    or_right (b == 34) (b == 120 || plain_begins b) (or_right (b == 120) (plain_begins b) (or_right (b == 116) (b == 102 || (b == 45 || is_digit b)) (or_right (b == 102) (b == 45 || is_digit b) e)))
+    or_right (b == 34) (b == 120 || (b == 119 || plain_begins b)) (or_right (b == 120) (b == 119 || plain_begins b) (or_right (b == 119) (plain_begins b) (or_right (b == 116) (b == 102 || (b == 45 || is_digit b)) (or_right (b == 102) (b == 45 || is_digit b) e))))
 
 -- the first byte of a text
 pub datum_head : (x : Datum) → IsDatum x → (b : ℕ) × (t : List ℕ) × (datum_text x ≡ b ∷ t) × (begins_datum b ≡ true)
-datum_head (number n) h = let k = signed_head n h in (k.0, k.1, k.2, datum_begins k.0 (number_begins k.0 k.3))
+datum_head (number n) h = let k = signed_head w64 MOST most_64 n h in (k.0, k.1, k.2, datum_begins k.0 (number_begins k.0 k.3))
 datum_head (text s) h = (34, flat_map escaped s ++ 34 ∷ [], refl, refl)
 datum_head (bytes s) h = (120, flat_map hex_pair s, refl, refl)
 datum_head (truth true) h = (116, codes "rue", refl, refl)
 datum_head (truth false) h = (102, codes "alse", refl, refl)
+datum_head (wide n) h = (119, signed_decimal n, refl, refl)
 
 ends_no_digit : (u : List ℕ) → EndsItem u → NoDigit u
 ends_no_digit [] h = tt
@@ -149,8 +160,9 @@ ends_no_hex (b ∷ u) (inr e) = ap is_hex e
 at_number : (b : ℕ) (u : List ℕ) → (b == 45 || is_digit b) ≡ true → datum (b ∷ u) ≡ numeral (b ∷ u)
 unfolding datum
 at_number b u e =
-    look_other 34 b u quoted (look 120 byte_string truth_or_number) (apart (λ b. b == 45 || is_digit b) 34 b e refl)
-    ∙ look_other 120 b u byte_string truth_or_number (apart (λ b. b == 45 || is_digit b) 120 b e refl)
+    look_other 34 b u quoted (look 120 byte_string (look 119 wide_numeral truth_or_number)) (apart (λ b. b == 45 || is_digit b) 34 b e refl)
+    ∙ look_other 120 b u byte_string (look 119 wide_numeral truth_or_number) (apart (λ b. b == 45 || is_digit b) 120 b e refl)
+    ∙ look_other 119 b u wide_numeral truth_or_number (apart (λ b. b == 45 || is_digit b) 119 b e refl)
     ∙ look_other 116 b u (named (codes "true") (truth true)) (look 102 (named (codes "false") (truth false)) numeral) (apart (λ b. b == 45 || is_digit b) 116 b e refl)
     ∙ look_other 102 b u (named (codes "false") (truth false)) numeral (apart (λ b. b == 45 || is_digit b) 102 b e refl)
 
@@ -170,20 +182,25 @@ false_again : (u : List ℕ) → datum (codes "false" ++ u) ≡ got (truth false
 unfolding datum
 false_again u = refl
 
-numeral_reads : (t u : List ℕ) → numeral (t ++ u) ≡ (signed (t ++ u) >>= λ n rest. got (number n) rest)
+wide_again : (n : ℤ) (u : List ℕ) → FitsSigned w128 n → NoDigit u → datum (datum_text (wide n) ++ u) ≡ got (wide n) u
+unfolding datum wide_numeral
+wide_again n u h k = ap (λ y. y >>= λ n rest. got (wide n) rest) (signed_again w128 MOST_WIDE most_128 n u h k)
+
+numeral_reads : (t u : List ℕ) → numeral (t ++ u) ≡ (signed MOST (t ++ u) >>= λ n rest. got (number n) rest)
 unfolding numeral
 numeral_reads t u = refl
 
 pub datum_again : (x : Datum) (u : List ℕ) → IsDatum x → EndsItem u → datum (datum_text x ++ u) ≡ got x u
 datum_again (number n) u h k =
-    let d = signed_head n h in
+    let d = signed_head w64 MOST most_64 n h in
     let e = ap (λ s. s ++ u) d.2 in
     ap datum e ∙ at_number d.0 (d.1 ++ u) (number_begins d.0 d.3) ∙ ap numeral (sym e) ∙ numeral_reads (datum_text (number n)) u
-    ∙ ap (λ y. y >>= λ n rest. got (number n) rest) (signed_again n u h (ends_no_digit u k))
+    ∙ ap (λ y. y >>= λ n rest. got (number n) rest) (signed_again w64 MOST most_64 n u h (ends_no_digit u k))
 datum_again (text s) u h k = quoted_again s u h
 datum_again (bytes s) u h k = byte_string_again s u h (ends_no_hex u k)
 datum_again (truth true) u h k = true_again u
 datum_again (truth false) u h k = false_again u
+datum_again (wide n) u h k = wide_again n u h (ends_no_digit u k)
 
 -- The names of the kinds, behind what is passed of them already.
 abbrev KindIs : List ℕ → Kind → List ℕ → Type 0
@@ -221,12 +238,17 @@ kind_t_right bs =
 some_kind : BeginsKind (codes "?") both []
 some_kind = (kinds.Number, codes "int", refl)
 
+abbrev kind_w : Reading Kind
+kind_w = look 119 (named (codes "wide") kinds.Wide) nothing
+
 kind_right : (bs : List ℕ) → RightAs (KindIs (codes "?")) (BeginsKind (codes "?")) bs (kind bs)
 unfolding kind
 kind_right bs =
-    look_right (KindIs (codes "?")) (BeginsKind (codes "?")) Never 105 (named (codes "int") kinds.Number) (look 98 kind_b (look 116 kind_t nothing)) some_kind (kind_named (codes "?") (codes "int") kinds.Number refl)
-    (look_right (KindIs (codes "?")) (BeginsKind (codes "?")) Never 98 kind_b (look 116 kind_t nothing) some_kind kind_b_right
-    (look_right (KindIs (codes "?")) (BeginsKind (codes "?")) Never 116 kind_t nothing some_kind kind_t_right (nothing_right (KindIs (codes "?")) (BeginsKind (codes "?")) Never some_kind))) bs
+    look_right (KindIs (codes "?")) (BeginsKind (codes "?")) Never 105 (named (codes "int") kinds.Number) (look 98 kind_b (look 116 kind_t kind_w)) some_kind (kind_named (codes "?") (codes "int") kinds.Number refl)
+    (look_right (KindIs (codes "?")) (BeginsKind (codes "?")) Never 98 kind_b (look 116 kind_t kind_w) some_kind kind_b_right
+    (look_right (KindIs (codes "?")) (BeginsKind (codes "?")) Never 116 kind_t kind_w some_kind kind_t_right
+    (look_right (KindIs (codes "?")) (BeginsKind (codes "?")) Never 119 (named (codes "wide") kinds.Wide) nothing some_kind (kind_named (codes "?") (codes "wide") kinds.Wide refl)
+    (nothing_right (KindIs (codes "?")) (BeginsKind (codes "?")) Never some_kind)))) bs
 
 abbrev IsSlotText : Slot → List ℕ → Type 0
 IsSlotText = IsText slot_text IsSlot
@@ -278,6 +300,7 @@ slot_head (formal kinds.Text) h = (63, codes "text", refl, refl)
 slot_head (formal kinds.Bytes) h = (63, codes "bytes", refl, refl)
 slot_head (formal kinds.Truth) h = (63, codes "bool", refl, refl)
 slot_head (formal kinds.Tuple) h = (63, codes "tuple", refl, refl)
+slot_head (formal kinds.Wide) h = (63, codes "wide", refl, refl)
 
 any_again : (u : List ℕ) → slot (codes "*" ++ u) ≡ got any u
 unfolding slot
@@ -290,6 +313,7 @@ formal_again kinds.Text u = refl
 formal_again kinds.Bytes u = refl
 formal_again kinds.Truth u = refl
 formal_again kinds.Tuple u = refl
+formal_again kinds.Wide u = refl
 
 at_datum : (b : ℕ) (u : List ℕ) → begins_datum b ≡ true → slot (b ∷ u) ≡ (datum (b ∷ u) >>= λ x rest. got (actual x) rest)
 unfolding slot actual_slot

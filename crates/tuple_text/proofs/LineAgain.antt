@@ -5,11 +5,11 @@ use Rattle.std.proofs.lemmas.Bool.{leb-true, leb-false, ne_eqb}
 use Rattle.tuple_tree.specs.Items.{Items, levels_of, whole_length}
 use Rattle.tuple_tree.specs.Limits.{IsWithin}
 use Rattle.tuple_tree.specs.Values.{datum_length, slot_length, IsDatum, IsSlot, TupleTree, TemplateTree}
-use Rattle.tuple_codec.specs.Operations.{Operation, out, rdp, inp, cas, rd_all, IsOperation}
+use Rattle.tuple_codec.specs.Operations.{Operation, out, rdp, inp, cas, rd_all, in_all, IsOperation}
 use Rattle.tuple_text.specs.Texts.{AreBlanks, IsGap, WholeText, datum_text, slot_text}
 use Rattle.tuple_text.specs.Lines.{EachLeaf, LineText, TupleArgument, TemplateArgument, CountArgument, ArgumentsText, arguments, name}
 use Rattle.tuple_text.specs.Faults.{KeepsCount, KeepsLevels, KeepsCounts, EndsTooLong, ArgumentsClosed, argument_lengths}
-use Rattle.tuple_text.specs.Reading.{Read, got, stop, Reading, ◌>>=◌, positive, kept, no_room, datum, slot, begins_datum, begins_slot, close, tuple, template, argument, ended, out_line, inp_line, cas_line, rdp_line, all_line, rd_line, operation, line}
+use Rattle.tuple_text.specs.Reading.{Read, got, stop, Reading, ◌>>=◌, positive, kept, no_room, datum, slot, begins_datum, begins_slot, close, tuple, template, argument, ended, out_line, cas_line, one_line, all_line, verb_line, operation, line}
 use Rattle.tuple_text.specs.declared.reader.Stop.{Stop}
 use Rattle.tuple_text.specs.declared.reader.Stop.TheVariants.{BadByte, TooDeep, TooManyFields, TooLong, NoMemory}
 use Rattle.tuple_text.proofs.Blanks.{NoBlank, blanks_again, gap_again, ending_again}
@@ -120,6 +120,7 @@ Exceeds (rdp p) s = TreeExceeds slot_length p s
 Exceeds (inp p) s = TreeExceeds slot_length p s
 Exceeds (cas p t) s = TreeExceeds slot_length p s ⊎ TreeExceeds datum_length t s
 Exceeds (rd_all n p) s = TreeExceeds slot_length p s
+Exceeds (in_all n p) s = TreeExceeds slot_length p s
 
 either : {A B : Type 0} → (A → ⊥) → (B → ⊥) → A ⊎ B → ⊥
 either f g (inl a) = f a
@@ -131,6 +132,7 @@ never_bad (rdp p) h = h
 never_bad (inp p) h = h
 never_bad (cas p t) h = either (λ e. e) (λ e. e) h
 never_bad (rd_all n p) h = h
+never_bad (in_all n p) h = h
 
 pub keeps_counts : (o : Operation) → KeepsCounts o → Exceeds o TooManyFields → ⊥
 keeps_counts (out t) k h = h k
@@ -138,6 +140,7 @@ keeps_counts (rdp p) k h = h k
 keeps_counts (inp p) k h = h k
 keeps_counts (cas p t) k h = either (λ e. e k.0) (λ e. e k.1) h
 keeps_counts (rd_all n p) k h = h k
+keeps_counts (in_all n p) k h = h k
 
 deep_no : {L : Type 0} → (t : Items L) → levels_of t ≤ 8 → 8 < levels_of t → ⊥
 deep_no t k h = omega (arith, k, h)
@@ -148,6 +151,7 @@ keeps_levels (rdp p) k h = deep_no p k h
 keeps_levels (inp p) k h = deep_no p k h
 keeps_levels (cas p t) k h = either (deep_no p k.0) (deep_no t k.1) h
 keeps_levels (rd_all n p) k h = deep_no p k h
+keeps_levels (in_all n p) k h = deep_no p k h
 
 within_tree : {L : Type 0} → (IsLeaf : L → Type 0) (length_of : L → ℕ) (t : Items L) (s : Stop) → IsWithin IsLeaf length_of t → TreeExceeds length_of t s → ⊥
 within_tree IsLeaf length_of t BadByte w h = h
@@ -162,6 +166,7 @@ within_exceeds (rdp p) s w h = within_tree IsSlot slot_length p s w h
 within_exceeds (inp p) s w h = within_tree IsSlot slot_length p s w h
 within_exceeds (cas p t) s w h = either (within_tree IsSlot slot_length p s w.0) (within_tree IsDatum datum_length t s w.1) h
 within_exceeds (rd_all n p) s w h = within_tree IsSlot slot_length p s w.2 h
+within_exceeds (in_all n p) s w h = within_tree IsSlot slot_length p s w.2 h
 
 -- what is read behind a name
 abbrev out_rest : Reading Operation
@@ -173,23 +178,25 @@ takes_rest k bs = argument template bs >>= λ p rest. ended (k p) rest
 abbrev cas_rest : Reading Operation
 cas_rest bs = argument template bs >>= λ p middle. argument tuple middle >>= λ t rest. ended (cas p t) rest
 
-abbrev all_rest : Reading Operation
-all_rest bs = argument (positive 64) bs >>= λ n middle. argument template middle >>= λ p rest. ended (rd_all n p) rest
+abbrev all_rest : (ℕ → TemplateTree → Operation) → Reading Operation
+all_rest k bs = argument (positive 64) bs >>= λ n middle. argument template middle >>= λ p rest. ended (k n p) rest
 
 abbrev rest_of : Operation → Reading Operation
 rest_of (out t) = out_rest
 rest_of (rdp p) = takes_rest rdp
 rest_of (inp p) = takes_rest inp
 rest_of (cas p t) = cas_rest
-rest_of (rd_all n p) = all_rest
+rest_of (rd_all n p) = all_rest rd_all
+rest_of (in_all n p) = all_rest in_all
 
 named_front : (o : Operation) (behind : List ℕ) → operation (name o ++ behind) ≡ rest_of o behind
-unfolding operation out_line rd_line rdp_line all_line inp_line cas_line
+unfolding operation out_line verb_line one_line all_line cas_line
 named_front (out t) behind = refl
 named_front (rdp p) behind = refl
 named_front (inp p) behind = refl
 named_front (cas p t) behind = refl
 named_front (rd_all n p) behind = refl
+named_front (in_all n p) behind = refl
 
 no_blank_name : (o : Operation) (behind : List ℕ) → NoBlank (name o ++ behind)
 no_blank_name (out t) behind = refl
@@ -197,6 +204,7 @@ no_blank_name (rdp p) behind = refl
 no_blank_name (inp p) behind = refl
 no_blank_name (cas p t) behind = refl
 no_blank_name (rd_all n p) behind = refl
+no_blank_name (in_all n p) behind = refl
 
 line_front : (o : Operation) (lead behind : List ℕ) → AreBlanks lead → line (lead ++ (name o ++ behind)) ≡ rest_of o behind
 unfolding line
@@ -224,20 +232,21 @@ cas_again p t w a =
     (then_again (TreeExceeds slot_length p) (Exceeds (cas p t)) p a.2 (cas p t) [] (argument template (a.0 ++ (a.1 ++ a.2))) (λ p middle. argument tuple middle >>= λ t rest. ended (cas p t) rest) (λ s e. inl e) (omega arith)
     (template_again p a.0 a.1 a.2 a.4 a.5) (out_again t (Exceeds (cas p t)) (cas p) a.2 (λ s e. inr e) a.6))
 
-all_again : (n : ℕ) (p : TemplateTree) (w : List ℕ) → ArgumentsText (CountArgument n ∷ TemplateArgument p ∷ []) w → AgainAs (TreeExceeds slot_length p) (rd_all n p) [] (all_rest w)
-all_again n p w a =
+all_again : (n : ℕ) (p : TemplateTree) (k : ℕ → TemplateTree → Operation) (w : List ℕ) → ArgumentsText (CountArgument n ∷ TemplateArgument p ∷ []) w → AgainAs (TreeExceeds slot_length p) (k n p) [] (all_rest k w)
+all_again n p k w a =
     let b = a.6 in
     let d : NoDigit a.2 = subst NoDigit (sym b.3) (gap_no_digit b.0 (b.1 ++ b.2) b.4) in
-    subst (λ s. AgainAs (TreeExceeds slot_length p) (rd_all n p) [] (all_rest s)) (sym a.3)
-    (step_again (TreeExceeds slot_length p) n a.2 (rd_all n p) [] (argument (positive 64) (a.0 ++ (a.1 ++ a.2))) (λ n middle. argument template middle >>= λ p rest. ended (rd_all n p) rest)
-    (count_again n a.0 a.1 a.2 a.4 a.5 d) (takes_again p (rd_all n) a.2 b))
+    subst (λ s. AgainAs (TreeExceeds slot_length p) (k n p) [] (all_rest k s)) (sym a.3)
+    (step_again (TreeExceeds slot_length p) n a.2 (k n p) [] (argument (positive 64) (a.0 ++ (a.1 ++ a.2))) (λ n middle. argument template middle >>= λ p rest. ended (k n p) rest)
+    (count_again n a.0 a.1 a.2 a.4 a.5 d) (takes_again p (k n) a.2 b))
 
 rest_again : (o : Operation) (w : List ℕ) → ArgumentsText (arguments o) w → AgainAs (Exceeds o) o [] (rest_of o w)
 rest_again (out t) w a = out_again t (TreeExceeds datum_length t) out w (λ s e. e) a
 rest_again (rdp p) w a = takes_again p rdp w a
 rest_again (inp p) w a = takes_again p inp w a
 rest_again (cas p t) w a = cas_again p t w a
-rest_again (rd_all n p) w a = all_again n p w a
+rest_again (rd_all n p) w a = all_again n p rd_all w a
+rest_again (in_all n p) w a = all_again n p in_all w a
 
 pub line_again : (o : Operation) (bs : List ℕ) → LineText o bs → AgainAs (Exceeds o) o [] (line bs)
 line_again o bs h = subst (AgainAs (Exceeds o) o []) (sym (ap line h.2 ∙ line_front o h.0 h.1 h.3)) (rest_again o h.1 h.4)
@@ -269,11 +278,11 @@ cas_closes p t w u a l =
 closed_no_digit : (p : TemplateTree) (w u : List ℕ) → ArgumentsClosed (TemplateArgument p ∷ []) w → NoDigit (w ++ u)
 closed_no_digit p w u a = subst NoDigit (sym (closed_one a.0 a.1 a.2 w u a.3 a.6)) (gap_no_digit a.0 (a.1 ++ u) a.4)
 
-all_closes : (n : ℕ) (p : TemplateTree) (w u : List ℕ) → ArgumentsClosed (CountArgument n ∷ TemplateArgument p ∷ []) w → 1024 < whole_length slot_length p → StopsBefore u (all_rest (w ++ u))
-all_closes n p w u a l =
-    subst (λ s. StopsBefore u (all_rest s)) (sym (closed_first a.0 a.1 a.2 w u a.3))
-    (subst (λ y. StopsBefore u (y >>= λ n middle. argument template middle >>= λ p rest. ended (rd_all n p) rest)) (sym (count_again n a.0 a.1 (a.2 ++ u) a.4 a.5 (closed_no_digit p a.2 u a.6)))
-    (template_closes p (λ p rest. ended (rd_all n p) rest) a.2 u a.6 l))
+all_closes : (n : ℕ) (p : TemplateTree) (k : ℕ → TemplateTree → Operation) (w u : List ℕ) → ArgumentsClosed (CountArgument n ∷ TemplateArgument p ∷ []) w → 1024 < whole_length slot_length p → StopsBefore u (all_rest k (w ++ u))
+all_closes n p k w u a l =
+    subst (λ s. StopsBefore u (all_rest k s)) (sym (closed_first a.0 a.1 a.2 w u a.3))
+    (subst (λ y. StopsBefore u (y >>= λ n middle. argument template middle >>= λ p rest. ended (k n p) rest)) (sym (count_again n a.0 a.1 (a.2 ++ u) a.4 a.5 (closed_no_digit p a.2 u a.6)))
+    (template_closes p (λ p rest. ended (k n p) rest) a.2 u a.6 l))
 
 rest_stops : (o : Operation) (k : ℕ) (w u : List ℕ) → k < length (arguments o) → ArgumentsClosed (take (k + 1) (arguments o)) w → 1024 < slice_index (argument_lengths o) k → StopsBefore u (rest_of o (w ++ u))
 rest_stops (out t) zero w u n h l = tuple_closes t out w u h l
@@ -286,8 +295,11 @@ rest_stops (cas p t) zero w u n h l = template_closes p (λ p middle. argument t
 rest_stops (cas p t) (suc zero) w u n h l = cas_closes p t w u h l
 rest_stops (cas p t) (suc (suc k)) w u n h l = absurd (omega (arith, n))
 rest_stops (rd_all m p) zero w u n h l = absurd (omega (arith, l))
-rest_stops (rd_all m p) (suc zero) w u n h l = all_closes m p w u h l
+rest_stops (rd_all m p) (suc zero) w u n h l = all_closes m p rd_all w u h l
 rest_stops (rd_all m p) (suc (suc k)) w u n h l = absurd (omega (arith, n))
+rest_stops (in_all m p) zero w u n h l = absurd (omega (arith, l))
+rest_stops (in_all m p) (suc zero) w u n h l = all_closes m p in_all w u h l
+rest_stops (in_all m p) (suc (suc k)) w u n h l = absurd (omega (arith, n))
 
 pub too_long_stops : (bs u : List ℕ) → EndsTooLong bs → StopsBefore u (line (bs ++ u))
 too_long_stops bs u h =

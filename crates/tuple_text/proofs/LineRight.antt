@@ -2,14 +2,16 @@
 use Rattle.std.proofs.Common.{◌≡◌, ℕ, true, ◌+◌, ◌<◌, ◌≤◌, List, [], ◌∷◌, ◌++◌, length, take, codes, refl, ap, sym, subst, ◌∙◌, append_assoc, append-nil, arith, inl, inr}
 use Rattle.std.specs.Prelude.{slice_index}
 use Rattle.std.specs.Fmt.{decimal}
-use Rattle.tuple_tree.specs.Items.{Items, none, levels_of}
+use Rattle.tuple_tree.specs.Items.{Items, none, levels_of, whole_length}
 use Rattle.tuple_tree.specs.Limits.{IsWithin}
 use Rattle.tuple_tree.specs.Values.{datum_length, slot_length, IsDatum, IsSlot, TupleTree, TemplateTree}
-use Rattle.tuple_codec.specs.Operations.{Operation, out, rdp, inp, cas, rd_all, IsOperation}
+use Rattle.tuple_codec.specs.Operations.{Operation, out, rdp, inp, cas, rd_all, in_all, IsOperation}
 use Rattle.tuple_text.specs.Texts.{AreBlanks, WholeText, datum_text, slot_text}
 use Rattle.tuple_text.specs.Lines.{EachLeaf, LineText, name, arguments, ArgumentsText}
 use Rattle.tuple_text.specs.Faults.{KeepsCount, KeepsLevels, KeepsBoth, EndsTooLong, ArgumentsClosed, argument_lengths}
-use Rattle.tuple_text.specs.Reading.{◌>>=◌, nothing, look, blanks, positive, datum, slot, begins_datum, begins_slot, tuple, template, argument, ended, out_line, inp_line, cas_line, rdp_line, all_line, rd_line, operation, line}
+use Rattle.tuple_text.specs.Reading.{◌>>=◌, nothing, look, blanks, positive, datum, slot, begins_datum, begins_slot, tuple, template, argument, ended, out_line, cas_line, letters, one_of, all_of, one_line, all_line, verb_line, operation, line}
+use Rattle.tuple_text.specs.declared.reader.Verb.{Verb}
+use Rattle.tuple_text.specs.declared.reader.Verb.TheVariants.{Rd, In}
 use Rattle.tuple_text.proofs.Right.{Limits, both, levels, no_limits, RightTo, Never, then_to, look_right, nothing_right}
 use Rattle.tuple_text.proofs.Blanks.{ArePassed, BeginsBlanks, blanks_right}
 use Rattle.tuple_text.proofs.Numbers.{IsPositive, positive_right}
@@ -180,7 +182,7 @@ out_right bs =
     named_to Good Limited TooLongBehind [] (codes "out") (OutIs KeptTuple) (λ c. OutIs (TupleIs c)) (LongThen KeptTuple LongTuple (λ t. Never)) out_good out_limited out_long some_out
     (λ behind. argument tuple behind >>= λ t rest. ended (out t) rest) (tuple_last out) bs
 
--- inp, and rdp behind its first letters
+-- behind the letters of a verb: a template
 abbrev TakesIs : (TemplateTree → Operation) → (TemplateTree → List ℕ → Type 0) → Operation → List ℕ → Type 0
 TakesIs k P = Then P (λ p. IsDone (k p))
 
@@ -194,63 +196,50 @@ takes_text c k o w h = one_text (TemplateIs c) (Argument slot_text IsSlot slot_l
 kept_text : (k : TemplateTree → Operation) (o : Operation) (w : List ℕ) → (h : TakesIs k KeptTemplate o w) → ArgumentsText (Argument slot_text IsSlot slot_length h.0 ∷ []) w
 kept_text k o w h = one_text KeptTemplate (Argument slot_text IsSlot slot_length) k (λ p w k. template_text both p w k.0) o w h
 
-keeps_inp : (c : Limits) (p : TemplateTree) → KeepsTree c p → Keeps c (inp p)
-keeps_inp both p h = h
-keeps_inp levels p h = h
-keeps_inp no_limits p h = tt
+one_named : (verb : Verb) (p : TemplateTree) (w : List ℕ) → ArgumentsText (Argument slot_text IsSlot slot_length p ∷ []) w → Named (one_of verb p) (letters verb ++ (codes "p" ++ w))
+one_named Rd p w a = (w, refl, a)
+one_named In p w a = (w, refl, a)
 
-inp_limited : (c : Limits) (o : Operation) (w : List ℕ) → TakesIs inp (TemplateIs c) o w → Limited c o (codes "inp" ++ w)
-inp_limited c o w h =
-    let l : Limited c (inp h.0) (codes "inp" ++ w) = ((w, refl, takes_text c inp o w h), keeps_inp c h.0 (template_keeps c h.0 h.4.1 h.4.4)) in
-    subst (λ x. Limited c x (codes "inp" ++ w)) (sym h.5.0) l
+keeps_one : (c : Limits) (verb : Verb) (p : TemplateTree) → KeepsTree c p → Keeps c (one_of verb p)
+keeps_one both Rd p h = h
+keeps_one both In p h = h
+keeps_one levels Rd p h = h
+keeps_one levels In p h = h
+keeps_one no_limits verb p h = tt
 
-inp_good : (o : Operation) (w : List ℕ) → TakesIs inp KeptTemplate o w → Good o (codes "inp" ++ w)
-inp_good o w h =
-    let l : Good (inp h.0) (codes "inp" ++ w) = ((w, refl, kept_text inp o w h), tree_within slot_text IsSlot slot_length h.0 h.4.1 h.4.4) in
-    subst (λ x. Good x (codes "inp" ++ w)) (sym h.5.0) l
+one_within : (verb : Verb) (p : TemplateTree) → IsWithin IsSlot slot_length p → IsOperation (one_of verb p)
+one_within Rd p h = h
+one_within In p h = h
 
-inp_long : (w : List ℕ) → LongThen KeptTemplate LongTemplate (λ p. Never) w → TooLongBehind (codes "inp" ++ w)
-inp_long w (inl h) =
+one_closed : (verb : Verb) (p : TemplateTree) (w : List ℕ) → ArgumentsClosed (Argument slot_text IsSlot slot_length p ∷ []) w → 1024 < whole_length slot_length p → TooLongBehind (letters verb ++ (codes "p" ++ w))
+one_closed Rd p w a l = (rdp p, 0, w, refl, a, omega arith, l)
+one_closed In p w a l = (inp p, 0, w, refl, a, omega arith, l)
+
+one_limited : (verb : Verb) (c : Limits) (o : Operation) (w : List ℕ) → TakesIs (one_of verb) (TemplateIs c) o w → Limited c o (letters verb ++ (codes "p" ++ w))
+one_limited verb c o w h =
+    let l : Limited c (one_of verb h.0) (letters verb ++ (codes "p" ++ w)) = (one_named verb h.0 w (takes_text c (one_of verb) o w h), keeps_one c verb h.0 (template_keeps c h.0 h.4.1 h.4.4)) in
+    subst (λ x. Limited c x (letters verb ++ (codes "p" ++ w))) (sym h.5.0) l
+
+one_good : (verb : Verb) (o : Operation) (w : List ℕ) → TakesIs (one_of verb) KeptTemplate o w → Good o (letters verb ++ (codes "p" ++ w))
+one_good verb o w h =
+    let l : Good (one_of verb h.0) (letters verb ++ (codes "p" ++ w)) = (one_named verb h.0 w (kept_text (one_of verb) o w h), one_within verb h.0 (tree_within slot_text IsSlot slot_length h.0 h.4.1 h.4.4)) in
+    subst (λ x. Good x (letters verb ++ (codes "p" ++ w))) (sym h.5.0) l
+
+one_long : (verb : Verb) (w : List ℕ) → LongThen KeptTemplate LongTemplate (λ p. Never) w → TooLongBehind (letters verb ++ (codes "p" ++ w))
+one_long verb w (inl h) =
     let l = h.4 in
-    (inp l.0, 0, w, refl, (h.0, h.1, [], last_argued h.0 h.1 w h.2, h.3, template_text both l.0 h.1 l.1, refl), omega arith, l.2)
-inp_long w (inr h) = absurd h.5
+    one_closed verb l.0 w (h.0, h.1, [], last_argued h.0 h.1 w h.2, h.3, template_text both l.0 h.1 l.1, refl) l.2
+one_long verb w (inr h) = absurd h.5
 
-inp_right : (bs : List ℕ) → RightTo Good (Begins Limited) TooLongBehind bs (inp_line bs)
-unfolding inp_line
-inp_right bs =
-    named_to Good Limited TooLongBehind [] (codes "inp") (TakesIs inp KeptTemplate) (λ c. TakesIs inp (TemplateIs c)) (LongThen KeptTemplate LongTemplate (λ p. Never)) inp_good inp_limited inp_long (some_takes inp)
-    (λ behind. argument template behind >>= λ p rest. ended (inp p) rest) (template_last inp) bs
+one_right : (verb : Verb) (bs : List ℕ) → RightTo (λ o w. Good o (letters verb ++ w)) (λ c w. Begins Limited c (letters verb ++ w)) (λ w. TooLongBehind (letters verb ++ w)) bs (one_line verb bs)
+unfolding one_line
+one_right verb bs =
+    named_to Good Limited TooLongBehind (letters verb) (codes "p") (TakesIs (one_of verb) KeptTemplate) (λ c. TakesIs (one_of verb) (TemplateIs c)) (LongThen KeptTemplate LongTemplate (λ p. Never)) (one_good verb) (one_limited verb) (one_long verb) (some_takes (one_of verb))
+    (λ behind. argument template behind >>= λ p rest. ended (one_of verb p) rest) (template_last (one_of verb)) bs
 
-keeps_rdp : (c : Limits) (p : TemplateTree) → KeepsTree c p → Keeps c (rdp p)
-keeps_rdp both p h = h
-keeps_rdp levels p h = h
-keeps_rdp no_limits p h = tt
-
-rdp_limited : (c : Limits) (o : Operation) (w : List ℕ) → TakesIs rdp (TemplateIs c) o w → Limited c o (codes "rd" ++ (codes "p" ++ w))
-rdp_limited c o w h =
-    let l : Limited c (rdp h.0) (codes "rd" ++ (codes "p" ++ w)) = ((w, refl, takes_text c rdp o w h), keeps_rdp c h.0 (template_keeps c h.0 h.4.1 h.4.4)) in
-    subst (λ x. Limited c x (codes "rd" ++ (codes "p" ++ w))) (sym h.5.0) l
-
-rdp_good : (o : Operation) (w : List ℕ) → TakesIs rdp KeptTemplate o w → Good o (codes "rd" ++ (codes "p" ++ w))
-rdp_good o w h =
-    let l : Good (rdp h.0) (codes "rd" ++ (codes "p" ++ w)) = ((w, refl, kept_text rdp o w h), tree_within slot_text IsSlot slot_length h.0 h.4.1 h.4.4) in
-    subst (λ x. Good x (codes "rd" ++ (codes "p" ++ w))) (sym h.5.0) l
-
-rdp_long : (w : List ℕ) → LongThen KeptTemplate LongTemplate (λ p. Never) w → TooLongBehind (codes "rd" ++ (codes "p" ++ w))
-rdp_long w (inl h) =
-    let l = h.4 in
-    (rdp l.0, 0, w, refl, (h.0, h.1, [], last_argued h.0 h.1 w h.2, h.3, template_text both l.0 h.1 l.1, refl), omega arith, l.2)
-rdp_long w (inr h) = absurd h.5
-
-rdp_right : (bs : List ℕ) → RightTo (λ o w. Good o (codes "rd" ++ w)) (λ c w. Begins Limited c (codes "rd" ++ w)) (λ w. TooLongBehind (codes "rd" ++ w)) bs (rdp_line bs)
-unfolding rdp_line
-rdp_right bs =
-    named_to Good Limited TooLongBehind (codes "rd") (codes "p") (TakesIs rdp KeptTemplate) (λ c. TakesIs rdp (TemplateIs c)) (LongThen KeptTemplate LongTemplate (λ p. Never)) rdp_good rdp_limited rdp_long (some_takes rdp)
-    (λ behind. argument template behind >>= λ p rest. ended (rdp p) rest) (template_last rdp) bs
-
--- rdAll behind its first letters: a count and a template
-abbrev AllIs : (TemplateTree → List ℕ → Type 0) → Operation → List ℕ → Type 0
-AllIs P = Then (IsPositive 64) (λ n. Then P (λ p. IsDone (rd_all n p)))
+-- behind the letters of a verb: a count and a template
+abbrev AllIs : Verb → (TemplateTree → List ℕ → Type 0) → Operation → List ℕ → Type 0
+AllIs verb P = Then (IsPositive 64) (λ n. Then P (λ p. IsDone (all_of verb n p)))
 
 abbrev LongAll : List ℕ → Type 0
 LongAll = LongThen (IsPositive 64) Never (λ n. LongThen KeptTemplate LongTemplate (λ p. Never))
@@ -258,57 +247,66 @@ LongAll = LongThen (IsPositive 64) Never (λ n. LongThen KeptTemplate LongTempla
 some_count : (c : Limits) → (n : ℕ) × (w : List ℕ) × IsPositive 64 n w
 some_count c = (1, decimal 1, (refl, omega arith, omega arith))
 
-some_all : (c : Limits) → (o : Operation) × (w : List ℕ) × AllIs (TemplateIs c) o w
-some_all c =
-    some_then (IsPositive 64) (λ c. IsPositive 64) Never some_count (λ c n w h. h) (λ n. Then KeptTemplate (λ p. IsDone (rd_all n p))) (λ n c. Then (TemplateIs c) (λ p. IsDone (rd_all n p))) (λ n. LongThen KeptTemplate LongTemplate (λ p. Never)) c
-    (λ n. some_takes (rd_all n) c)
+some_all : (verb : Verb) (c : Limits) → (o : Operation) × (w : List ℕ) × AllIs verb (TemplateIs c) o w
+some_all verb c =
+    some_then (IsPositive 64) (λ c. IsPositive 64) Never some_count (λ c n w h. h) (λ n. Then KeptTemplate (λ p. IsDone (all_of verb n p))) (λ n c. Then (TemplateIs c) (λ p. IsDone (all_of verb n p))) (λ n. LongThen KeptTemplate LongTemplate (λ p. Never)) c
+    (λ n. some_takes (all_of verb n) c)
 
-keeps_all : (c : Limits) (n : ℕ) (p : TemplateTree) → KeepsTree c p → Keeps c (rd_all n p)
-keeps_all both n p h = h
-keeps_all levels n p h = h
-keeps_all no_limits n p h = tt
+all_named : (verb : Verb) (n : ℕ) (p : TemplateTree) (w : List ℕ) → ArgumentsText (IsPositive 64 n ∷ Argument slot_text IsSlot slot_length p ∷ []) w → Named (all_of verb n p) (letters verb ++ (codes "All" ++ w))
+all_named Rd n p w a = (w, refl, a)
+all_named In n p w a = (w, refl, a)
 
-all_limited : (c : Limits) (o : Operation) (w : List ℕ) → AllIs (TemplateIs c) o w → Limited c o (codes "rd" ++ (codes "All" ++ w))
-all_limited c o w h =
+keeps_all : (c : Limits) (verb : Verb) (n : ℕ) (p : TemplateTree) → KeepsTree c p → Keeps c (all_of verb n p)
+keeps_all both Rd n p h = h
+keeps_all both In n p h = h
+keeps_all levels Rd n p h = h
+keeps_all levels In n p h = h
+keeps_all no_limits verb n p h = tt
+
+all_within : (verb : Verb) (n : ℕ) (p : TemplateTree) → 1 ≤ n → n ≤ 64 → IsWithin IsSlot slot_length p → IsOperation (all_of verb n p)
+all_within Rd n p low high h = (low, high, h)
+all_within In n p low high h = (low, high, h)
+
+all_closed : (verb : Verb) (n : ℕ) (p : TemplateTree) (w : List ℕ) → ArgumentsClosed (IsPositive 64 n ∷ Argument slot_text IsSlot slot_length p ∷ []) w → 1024 < whole_length slot_length p → TooLongBehind (letters verb ++ (codes "All" ++ w))
+all_closed Rd n p w a l = (rd_all n p, 1, w, refl, a, omega arith, l)
+all_closed In n p w a l = (in_all n p, 1, w, refl, a, omega arith, l)
+
+all_limited : (verb : Verb) (c : Limits) (o : Operation) (w : List ℕ) → AllIs verb (TemplateIs c) o w → Limited c o (letters verb ++ (codes "All" ++ w))
+all_limited verb c o w h =
     let m = h.5 in
-    let l : Limited c (rd_all h.0 m.0) (codes "rd" ++ (codes "All" ++ w)) =
-    ((w, refl, two_text (IsPositive 64) (IsPositive 64) (TemplateIs c) (Argument slot_text IsSlot slot_length) rd_all (λ n w k. k) (template_text c) o w h), keeps_all c h.0 m.0 (template_keeps c m.0 m.4.1 m.4.4)) in
-    subst (λ x. Limited c x (codes "rd" ++ (codes "All" ++ w))) (sym m.5.0) l
+    let l : Limited c (all_of verb h.0 m.0) (letters verb ++ (codes "All" ++ w)) = (
+      all_named verb h.0 m.0 w (two_text (IsPositive 64) (IsPositive 64) (TemplateIs c) (Argument slot_text IsSlot slot_length) (all_of verb) (λ n w k. k) (template_text c) o w h),
+      keeps_all c verb h.0 m.0 (template_keeps c m.0 m.4.1 m.4.4),
+    ) in
+    subst (λ x. Limited c x (letters verb ++ (codes "All" ++ w))) (sym m.5.0) l
 
-all_good : (o : Operation) (w : List ℕ) → AllIs KeptTemplate o w → Good o (codes "rd" ++ (codes "All" ++ w))
-all_good o w h =
+all_good : (verb : Verb) (o : Operation) (w : List ℕ) → AllIs verb KeptTemplate o w → Good o (letters verb ++ (codes "All" ++ w))
+all_good verb o w h =
     let m = h.5 in
     let n = h.4.4 in
-    let l : Good (rd_all h.0 m.0) (codes "rd" ++ (codes "All" ++ w)) = (
-      (w, refl, two_text (IsPositive 64) (IsPositive 64) KeptTemplate (Argument slot_text IsSlot slot_length) rd_all (λ n w k. k) (λ p w k. template_text both p w k.0) o w h),
-      (n.1, n.2, tree_within slot_text IsSlot slot_length m.0 m.4.1 m.4.4),
+    let l : Good (all_of verb h.0 m.0) (letters verb ++ (codes "All" ++ w)) = (
+      all_named verb h.0 m.0 w (two_text (IsPositive 64) (IsPositive 64) KeptTemplate (Argument slot_text IsSlot slot_length) (all_of verb) (λ n w k. k) (λ p w k. template_text both p w k.0) o w h),
+      all_within verb h.0 m.0 n.1 n.2 (tree_within slot_text IsSlot slot_length m.0 m.4.1 m.4.4),
     ) in
-    subst (λ x. Good x (codes "rd" ++ (codes "All" ++ w))) (sym m.5.0) l
+    subst (λ x. Good x (letters verb ++ (codes "All" ++ w))) (sym m.5.0) l
 
-all_long : (w : List ℕ) → LongAll w → TooLongBehind (codes "rd" ++ (codes "All" ++ w))
-all_long w (inl h) = absurd h.4
-all_long w (inr h) = elim h.5 [
+all_long : (verb : Verb) (w : List ℕ) → LongAll w → TooLongBehind (letters verb ++ (codes "All" ++ w))
+all_long verb w (inl h) = absurd h.4
+all_long verb w (inr h) = elim h.5 [
   | inl m ↦
       let a = h.4 in
-      let l = m.4 in (
-        rd_all h.0 l.0,
-        1,
-        w,
-        refl,
-        (a.0, a.1, h.2, argued a.0 a.1 h.1 h.2 w h.3 a.2, a.3, a.4, (m.0, m.1, [], last_argued m.0 m.1 h.2 m.2, m.3, template_text both l.0 m.1 l.1, refl)),
-        omega arith,
-        l.2,
-      )
+      let l = m.4 in
+      all_closed verb h.0 l.0 w (a.0, a.1, h.2, argued a.0 a.1 h.1 h.2 w h.3 a.2, a.3, a.4, (m.0, m.1, [], last_argued m.0 m.1 h.2 m.2, m.3, template_text both l.0 m.1 l.1, refl)) l.2
   | inr m ↦ absurd m.5
 ]
 
-all_right : (bs : List ℕ) → RightTo (λ o w. Good o (codes "rd" ++ w)) (λ c w. Begins Limited c (codes "rd" ++ w)) (λ w. TooLongBehind (codes "rd" ++ w)) bs (all_line bs)
+all_right : (verb : Verb) (bs : List ℕ) → RightTo (λ o w. Good o (letters verb ++ w)) (λ c w. Begins Limited c (letters verb ++ w)) (λ w. TooLongBehind (letters verb ++ w)) bs (all_line verb bs)
 unfolding all_line
-all_right bs =
-    named_to Good Limited TooLongBehind (codes "rd") (codes "All") (AllIs KeptTemplate) (λ c. AllIs (TemplateIs c)) LongAll all_good all_limited all_long some_all
-    (λ behind. argument (positive 64) behind >>= λ n middle. argument template middle >>= λ p rest. ended (rd_all n p) rest)
-    (λ behind. argument_then (IsPositive 64) (λ c. IsPositive 64) Never some_count (λ c n w h. h) (λ n. Then KeptTemplate (λ p. IsDone (rd_all n p))) (λ n c. Then (TemplateIs c) (λ p. IsDone (rd_all n p))) (λ n. LongThen KeptTemplate LongTemplate (λ p. Never))
-    (positive 64) (λ n middle. argument template middle >>= λ p rest. ended (rd_all n p) rest) behind (λ n c. some_takes (rd_all n) c) (λ rest. positive_right 64 rest (omega arith) (omega arith)) (λ n rest. template_last (rd_all n) rest)) bs
+all_right verb bs =
+    named_to Good Limited TooLongBehind (letters verb) (codes "All") (AllIs verb KeptTemplate) (λ c. AllIs verb (TemplateIs c)) LongAll (all_good verb) (all_limited verb) (all_long verb) (some_all verb)
+    (λ behind. argument (positive 64) behind >>= λ n middle. argument template middle >>= λ p rest. ended (all_of verb n p) rest)
+    (λ behind. argument_then (IsPositive 64) (λ c. IsPositive 64) Never some_count (λ c n w h. h) (λ n. Then KeptTemplate (λ p. IsDone (all_of verb n p))) (λ n c. Then (TemplateIs c) (λ p. IsDone (all_of verb n p))) (λ n. LongThen KeptTemplate LongTemplate (λ p. Never))
+    (positive 64) (λ n middle. argument template middle >>= λ p rest. ended (all_of verb n p) rest) behind (λ n c. some_takes (all_of verb n) c) (λ rest. positive_right 64 rest (omega arith) (omega arith)) (λ n rest. template_last (all_of verb n) rest)) bs
 
 -- cas: a template and a tuple
 abbrev CasIs : (TemplateTree → List ℕ → Type 0) → (TupleTree → List ℕ → Type 0) → Operation → List ℕ → Type 0
@@ -377,15 +375,19 @@ cas_right bs =
     (λ p. LongThen KeptTuple LongTuple (λ t. Never)) template (λ p middle. argument tuple middle >>= λ t rest. ended (cas p t) rest) behind (λ p c. some_last (cas p) c) template_right (λ p rest. tuple_last (cas p) rest)) bs
 
 -- the operations
-some_rd : (c : Limits) → (o : Operation) × (w : List ℕ) × Limited c o (codes "rd" ++ w)
-some_rd c = let s = some_takes rdp c in (s.0, codes "p" ++ s.1, rdp_limited c s.0 s.1 s.2)
+some_verb : (verb : Verb) (c : Limits) → (o : Operation) × (w : List ℕ) × Limited c o (letters verb ++ w)
+some_verb verb c = let s = some_takes (one_of verb) c in (s.0, codes "p" ++ s.1, one_limited verb c s.0 s.1 s.2)
 
-rd_right : (bs : List ℕ) → RightTo Good (Begins Limited) TooLongBehind bs (rd_line bs)
-unfolding rd_line
-rd_right bs =
-    named_to Good Limited TooLongBehind [] (codes "rd") (λ o w. Good o (codes "rd" ++ w)) (λ c o w. Limited c o (codes "rd" ++ w)) (λ w. TooLongBehind (codes "rd" ++ w)) (λ o w h. h) (λ c o w h. h) (λ w d. d) some_rd
-    (λ rest. look 112 rdp_line all_line rest)
-    (look_right (λ o w. Good o (codes "rd" ++ w)) (λ c w. Begins Limited c (codes "rd" ++ w)) (λ w. TooLongBehind (codes "rd" ++ w)) 112 rdp_line all_line (some_rd both) rdp_right all_right) bs
+-- By cases: only with the letters of one verb do both forms of Begins compute to the same.
+behind_verb : (verb : Verb) (rest : List ℕ) → RightTo (λ o w. Good o (letters verb ++ w)) (Begins (λ c o w. Limited c o (letters verb ++ w))) (λ w. TooLongBehind (letters verb ++ w)) rest (look 112 (one_line verb) (all_line verb) rest)
+behind_verb Rd = look_right (λ o w. Good o (codes "rd" ++ w)) (λ c w. Begins Limited c (codes "rd" ++ w)) (λ w. TooLongBehind (codes "rd" ++ w)) 112 (one_line Rd) (all_line Rd) (some_verb Rd both) (one_right Rd) (all_right Rd)
+behind_verb In = look_right (λ o w. Good o (codes "in" ++ w)) (λ c w. Begins Limited c (codes "in" ++ w)) (λ w. TooLongBehind (codes "in" ++ w)) 112 (one_line In) (all_line In) (some_verb In both) (one_right In) (all_right In)
+
+verb_right : (verb : Verb) (bs : List ℕ) → RightTo Good (Begins Limited) TooLongBehind bs (verb_line verb bs)
+unfolding verb_line
+verb_right verb bs =
+    named_to Good Limited TooLongBehind [] (letters verb) (λ o w. Good o (letters verb ++ w)) (λ c o w. Limited c o (letters verb ++ w)) (λ w. TooLongBehind (letters verb ++ w)) (λ o w h. h) (λ c o w h. h) (λ w d. d) (some_verb verb)
+    (λ rest. look 112 (one_line verb) (all_line verb) rest) (behind_verb verb) bs
 
 some_line : (c : Limits) → (o : Operation) × (w : List ℕ) × Limited c o w
 some_line c = let s = some_out c in (s.0, codes "out" ++ s.1, out_limited c s.0 s.1 s.2)
@@ -393,9 +395,9 @@ some_line c = let s = some_out c in (s.0, codes "out" ++ s.1, out_limited c s.0 
 operation_right : (bs : List ℕ) → RightTo Good (Begins Limited) TooLongBehind bs (operation bs)
 unfolding operation
 operation_right bs =
-    look_right Good (Begins Limited) TooLongBehind 111 out_line (look 114 rd_line (look 105 inp_line (look 99 cas_line nothing))) (some_line both) out_right
-    (look_right Good (Begins Limited) TooLongBehind 114 rd_line (look 105 inp_line (look 99 cas_line nothing)) (some_line both) rd_right
-    (look_right Good (Begins Limited) TooLongBehind 105 inp_line (look 99 cas_line nothing) (some_line both) inp_right
+    look_right Good (Begins Limited) TooLongBehind 111 out_line (look 114 (verb_line Rd) (look 105 (verb_line In) (look 99 cas_line nothing))) (some_line both) out_right
+    (look_right Good (Begins Limited) TooLongBehind 114 (verb_line Rd) (look 105 (verb_line In) (look 99 cas_line nothing)) (some_line both) (verb_right Rd)
+    (look_right Good (Begins Limited) TooLongBehind 105 (verb_line In) (look 99 cas_line nothing) (some_line both) (verb_right In)
     (look_right Good (Begins Limited) TooLongBehind 99 cas_line nothing (some_line both) cas_right (nothing_right Good (Begins Limited) TooLongBehind (some_line both))))) bs
 
 -- the line of an operation, and one that keeps the limits c

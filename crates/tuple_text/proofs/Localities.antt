@@ -2,10 +2,13 @@
 use Rattle.std.proofs.Common.{◌≡◌, ℕ, zero, suc, ◌-◌, ◌+◌, ◌*◌, ◌/◌, Bool, true, false, cond, ◌&&◌, List, [], ◌∷◌, codes, pos, negsuc, Option, None, Some, option_map, refl, if◌then◌else◌}
 use Rattle.std.specs.Prelude.{◌==◌, nat_le}
 use Rattle.tuple_tree.specs.Items.{Item, leaf, inner, Items, none}
-use Rattle.tuple_tree.specs.Values.{number, text, bytes, truth, actual, any, formal, datum_length, slot_length}
+use Rattle.tuple_tree.specs.Values.{number, text, bytes, truth, wide, actual, any, formal, datum_length, slot_length}
+use Rattle.tuple_tree.specs.declared.atoms.Kind.{Kind}
 use Rattle.tuple_tree.specs.declared.atoms.Kind.TheVariants as kinds
-use Rattle.tuple_codec.specs.Operations.{Operation, out, rdp, inp, cas, rd_all}
-use Rattle.tuple_text.specs.Reading.{got, stop, Reading, ◌>>=◌, nothing, look, blanks, word, named, gap, finish, digits, positive, MOST, signed, numeral, quoted, byte_string, truth_or_number, datum, kind_b, kind_t, kind, formal_slot, actual_slot, slot, begins_datum, begins_slot, full, follows, turn, items, no_room, kept_with, leaf_item, list, item_at, items_at, close, whole, tuple, template, argument, ending, ended, out_line, inp_line, cas_line, rdp_line, all_line, rd_line, operation, line}
+use Rattle.tuple_codec.specs.Operations.{Operation, out, cas}
+use Rattle.tuple_text.specs.declared.reader.Verb.{Verb}
+use Rattle.tuple_text.specs.declared.reader.Verb.TheVariants.{Rd, In}
+use Rattle.tuple_text.specs.Reading.{got, stop, Reading, ◌>>=◌, nothing, look, blanks, word, named, gap, finish, digits, positive, MOST, MOST_WIDE, signed, numeral, wide_numeral, quoted, byte_string, truth_or_number, datum, kind_b, kind_t, kind, formal_slot, actual_slot, slot, begins_datum, begins_slot, full, follows, turn, items, no_room, kept_with, leaf_item, list, item_at, items_at, close, whole, tuple, template, argument, ending, ended, out_line, cas_line, letters, one_of, all_of, one_line, all_line, verb_line, operation, line}
 use Rattle.tuple_text.specs.declared.reader.Stop.{Stop}
 use Rattle.tuple_text.specs.Literals.{text_literal, bytes_literal}
 use Rattle.tuple_text.proofs.LiteralTexts.{text_local}
@@ -50,18 +53,24 @@ positive_local limit [] = local_empty (positive limit) refl
 positive_local limit (b ∷ bs) =
     local_test (nat_le 49 b && nat_le b 57) (positive limit) (digits limit (b - 48)) (λ u. stop BadByte u) b (λ u. refl) bs (digits_local limit (b - 48) bs) (local_stop BadByte)
 
-pub signed_local : IsLocal signed
+pub signed_local : (most : ℕ) → IsLocal (signed most)
 unfolding signed
-signed_local [] = local_empty signed refl
-signed_local (b ∷ bs) =
-    local_test (b == 45) signed (λ u. positive (MOST + 1) u >>= λ n rest. got (negsuc (n - 1)) rest) (λ u. cond (b == 48) (passing (λ t. got (pos 0) t) u) (positive MOST u >>= λ n rest. got (pos n) rest)) b (λ u. refl) bs
-    (local_then (positive (MOST + 1)) (λ n rest. got (negsuc (n - 1)) rest) (positive_local (MOST + 1)) (λ n. local_got (negsuc (n - 1))) bs)
-    (local_if (b == 48) (passing (λ t. got (pos 0) t)) (λ u. positive MOST u >>= λ n rest. got (pos n) rest) (local_passing (λ t. got (pos 0) t) (local_got (pos 0)))
-    (local_then (positive MOST) (λ n rest. got (pos n) rest) (positive_local MOST) (λ n. local_got (pos n))))
+signed_local most [] = local_empty (signed most) refl
+signed_local most (b ∷ bs) =
+    local_test (b == 45) (signed most) (λ u. positive (most + 1) u >>= λ n rest. got (negsuc (n - 1)) rest) (λ u. cond (b == 48) (passing (λ t. got (pos 0) t) u) (positive most u >>= λ n rest. got (pos n) rest)) b (λ u. refl) bs
+    (local_then (positive (most + 1)) (λ n rest. got (negsuc (n - 1)) rest) (positive_local (most + 1)) (λ n. local_got (negsuc (n - 1))) bs)
+    (local_if (b == 48) (passing (λ t. got (pos 0) t)) (λ u. positive most u >>= λ n rest. got (pos n) rest) (local_passing (λ t. got (pos 0) t) (local_got (pos 0)))
+    (local_then (positive most) (λ n rest. got (pos n) rest) (positive_local most) (λ n. local_got (pos n))))
 
 numeral_local : IsLocal numeral
 unfolding numeral
-numeral_local = local_then signed (λ n rest. got (number n) rest) signed_local (λ n. local_got (number n))
+numeral_local = local_then (signed MOST) (λ n rest. got (number n) rest) (signed_local MOST) (λ n. local_got (number n))
+
+wide_local : IsLocal wide_numeral
+unfolding wide_numeral
+wide_local =
+    local_then (word (codes "w")) (λ _ rest. signed MOST_WIDE rest >>= λ n after. got (wide n) after) (word_local (codes "w"))
+    (λ _. local_then (signed MOST_WIDE) (λ n after. got (wide n) after) (signed_local MOST_WIDE) (λ n. local_got (wide n)))
 
 quoted_local : IsLocal quoted
 unfolding quoted
@@ -74,10 +83,11 @@ byte_string_local = local_then bytes_literal (λ s rest. got (bytes s) rest) byt
 pub datum_local : IsLocal datum
 unfolding datum
 datum_local =
-    local_choice 34 quoted (look 120 byte_string truth_or_number) quoted_local
-    (local_choice 120 byte_string truth_or_number byte_string_local
+    local_choice 34 quoted (look 120 byte_string (look 119 wide_numeral truth_or_number)) quoted_local
+    (local_choice 120 byte_string (look 119 wide_numeral truth_or_number) byte_string_local
+    (local_choice 119 wide_numeral truth_or_number wide_local
     (local_choice 116 (named (codes "true") (truth true)) (look 102 (named (codes "false") (truth false)) numeral) (named_local (codes "true") (truth true))
-    (local_choice 102 (named (codes "false") (truth false)) numeral (named_local (codes "false") (truth false)) numeral_local)))
+    (local_choice 102 (named (codes "false") (truth false)) numeral (named_local (codes "false") (truth false)) numeral_local))))
 
 kind_b_local : IsLocal kind_b
 unfolding kind_b
@@ -91,11 +101,15 @@ kind_t_local =
     local_then (word (codes "t")) (λ _ rest. look 101 (named (codes "ext") kinds.Text) (named (codes "uple") kinds.Tuple) rest) (word_local (codes "t"))
     (λ _. local_choice 101 (named (codes "ext") kinds.Text) (named (codes "uple") kinds.Tuple) (named_local (codes "ext") kinds.Text) (named_local (codes "uple") kinds.Tuple))
 
+abbrev kind_w : Reading Kind
+kind_w = look 119 (named (codes "wide") kinds.Wide) nothing
+
 kind_local : IsLocal kind
 unfolding kind
 kind_local =
-    local_choice 105 (named (codes "int") kinds.Number) (look 98 kind_b (look 116 kind_t nothing)) (named_local (codes "int") kinds.Number)
-    (local_choice 98 kind_b (look 116 kind_t nothing) kind_b_local (local_choice 116 kind_t nothing kind_t_local nothing_local))
+    local_choice 105 (named (codes "int") kinds.Number) (look 98 kind_b (look 116 kind_t kind_w)) (named_local (codes "int") kinds.Number)
+    (local_choice 98 kind_b (look 116 kind_t kind_w) kind_b_local
+    (local_choice 116 kind_t kind_w kind_t_local (local_choice 119 (named (codes "wide") kinds.Wide) nothing (named_local (codes "wide") kinds.Wide) nothing_local)))
 
 formal_local : IsLocal formal_slot
 unfolding formal_slot
@@ -196,12 +210,6 @@ out_local =
     local_then (word (codes "out")) (λ _ behind. argument tuple behind >>= λ t rest. ended (out t) rest) (word_local (codes "out"))
     (λ _. local_then (argument tuple) (λ t rest. ended (out t) rest) tuple_argument_local (λ t. ended_local (out t)))
 
-inp_local : IsLocal inp_line
-unfolding inp_line
-inp_local =
-    local_then (word (codes "inp")) (λ _ behind. argument template behind >>= λ p rest. ended (inp p) rest) (word_local (codes "inp"))
-    (λ _. local_then (argument template) (λ p rest. ended (inp p) rest) template_argument_local (λ p. ended_local (inp p)))
-
 cas_local : IsLocal cas_line
 unfolding cas_line
 cas_local =
@@ -209,29 +217,31 @@ cas_local =
     (λ _. local_then (argument template) (λ p middle. argument tuple middle >>= λ t rest. ended (cas p t) rest) template_argument_local
     (λ p. local_then (argument tuple) (λ t rest. ended (cas p t) rest) tuple_argument_local (λ t. ended_local (cas p t))))
 
-rdp_local : IsLocal rdp_line
-unfolding rdp_line
-rdp_local =
-    local_then (word (codes "p")) (λ _ behind. argument template behind >>= λ p rest. ended (rdp p) rest) (word_local (codes "p"))
-    (λ _. local_then (argument template) (λ p rest. ended (rdp p) rest) template_argument_local (λ p. ended_local (rdp p)))
+one_local : (verb : Verb) → IsLocal (one_line verb)
+unfolding one_line
+one_local verb =
+    local_then (word (codes "p")) (λ _ behind. argument template behind >>= λ p rest. ended (one_of verb p) rest) (word_local (codes "p"))
+    (λ _. local_then (argument template) (λ p rest. ended (one_of verb p) rest) template_argument_local (λ p. ended_local (one_of verb p)))
 
-all_local : IsLocal all_line
+all_local : (verb : Verb) → IsLocal (all_line verb)
 unfolding all_line
-all_local =
-    local_then (word (codes "All")) (λ _ behind. argument (positive 64) behind >>= λ n middle. argument template middle >>= λ p rest. ended (rd_all n p) rest) (word_local (codes "All"))
-    (λ _. local_then (argument (positive 64)) (λ n middle. argument template middle >>= λ p rest. ended (rd_all n p) rest) (argument_local (positive 64) (positive_local 64))
-    (λ n. local_then (argument template) (λ p rest. ended (rd_all n p) rest) template_argument_local (λ p. ended_local (rd_all n p))))
+all_local verb =
+    local_then (word (codes "All")) (λ _ behind. argument (positive 64) behind >>= λ n middle. argument template middle >>= λ p rest. ended (all_of verb n p) rest) (word_local (codes "All"))
+    (λ _. local_then (argument (positive 64)) (λ n middle. argument template middle >>= λ p rest. ended (all_of verb n p) rest) (argument_local (positive 64) (positive_local 64))
+    (λ n. local_then (argument template) (λ p rest. ended (all_of verb n p) rest) template_argument_local (λ p. ended_local (all_of verb n p))))
 
-rd_local : IsLocal rd_line
-unfolding rd_line
-rd_local = local_then (word (codes "rd")) (λ _ rest. look 112 rdp_line all_line rest) (word_local (codes "rd")) (λ _. local_choice 112 rdp_line all_line rdp_local all_local)
+verb_local : (verb : Verb) → IsLocal (verb_line verb)
+unfolding verb_line
+verb_local verb =
+    local_then (word (letters verb)) (λ _ rest. look 112 (one_line verb) (all_line verb) rest) (word_local (letters verb))
+    (λ _. local_choice 112 (one_line verb) (all_line verb) (one_local verb) (all_local verb))
 
 operation_local : IsLocal operation
 unfolding operation
 operation_local =
-    local_choice 111 out_line (look 114 rd_line (look 105 inp_line (look 99 cas_line nothing))) out_local
-    (local_choice 114 rd_line (look 105 inp_line (look 99 cas_line nothing)) rd_local
-    (local_choice 105 inp_line (look 99 cas_line nothing) inp_local (local_choice 99 cas_line nothing cas_local nothing_local)))
+    local_choice 111 out_line (look 114 (verb_line Rd) (look 105 (verb_line In) (look 99 cas_line nothing))) out_local
+    (local_choice 114 (verb_line Rd) (look 105 (verb_line In) (look 99 cas_line nothing)) (verb_local Rd)
+    (local_choice 105 (verb_line In) (look 99 cas_line nothing) (verb_local In) (local_choice 99 cas_line nothing cas_local nothing_local)))
 
 pub line_local : IsLocal line
 unfolding line

@@ -1,12 +1,13 @@
 -- What is written fits into a line, and is the argument of one.
 use Rattle.std.proofs.Common.{◌≡◌, ℕ, suc, ◌+◌, ◌*◌, ◌^◌, ◌<◌, ◌≤◌, ◌==◌, nat_lt, Bool, true, false, cond, List, [], ◌∷◌, ◌++◌, length, codes, pos, negsuc, FitsSigned, w64, refl, ap, sym, append-nil, arith, length-append}
+use Rattle.std.specs.Int.{w128}
 use Rattle.std.proofs.lemmas.Int.{ints}
-use Rattle.std.proofs.lemmas.Fmt.{length-decimal-le}
+use Rattle.std.proofs.lemmas.Fmt.{length-decimal-le, length-decimal-le_wide}
 use Rattle.std.specs.Fmt.{decimal}
 use Rattle.std.specs.List.{flat_map}
 use Rattle.tuple_tree.specs.Items.{Item, leaf, inner, Items, none, item, item_length, length_in}
 use Rattle.tuple_tree.specs.Limits.{IsItem, AreItems, IsWithin}
-use Rattle.tuple_tree.specs.Values.{Datum, number, text, bytes, truth, Slot, actual, any, formal, datum_length, slot_length, IsDatum, IsSlot, IsTuple, IsTemplate, TupleTree, TemplateTree}
+use Rattle.tuple_tree.specs.Values.{Datum, number, text, bytes, truth, wide, Slot, actual, any, formal, datum_length, slot_length, IsDatum, IsSlot, IsTuple, IsTemplate, TupleTree, TemplateTree}
 use Rattle.tuple_tree.specs.declared.atoms.Kind.TheVariants as kinds
 use Rattle.tuple_codec.specs.Operations.{Operation, out, rdp}
 use Rattle.tuple_text.specs.Texts.{datum_text, slot_text, escaped, hex_pair}
@@ -78,6 +79,15 @@ fits_below n h = omega (arith, ints)
 negative_below : (n : ℕ) → FitsSigned w64 (negsuc n) → suc n < 2 ^ 64
 negative_below n h = omega (arith, ints)
 
+wide_short : (n : ℕ) → n < 10 ^ 39 → length (decimal n) ≤ 39
+wide_short n h = length-decimal-le_wide 39 n (omega arith) h (omega arith)
+
+wide_below : (n : ℕ) → FitsSigned w128 (pos n) → n < 10 ^ 39
+wide_below n h = omega (arith, ints)
+
+wide_negative_below : (n : ℕ) → FitsSigned w128 (negsuc n) → suc n < 10 ^ 39
+wide_negative_below n h = omega (arith, ints)
+
 datum_short : (x : Datum) → IsDatum x → length (datum_text x) + 1 ≤ 8 * datum_length x
 datum_short (number (pos n)) h = let k = decimal_short n (fits_below n h) in omega (arith, k)
 datum_short (number (negsuc n)) h = let k = decimal_short (suc n) (negative_below n h) in omega (arith, k)
@@ -85,6 +95,8 @@ datum_short (text s) h = let k = flat_short escaped escaped_short s in omega (ar
 datum_short (bytes s) h = let k = flat_short hex_pair (λ b. omega arith) s in omega (arith, k)
 datum_short (truth true) h = omega arith
 datum_short (truth false) h = omega arith
+datum_short (wide (pos n)) h = let k = wide_short n (wide_below n h) in omega (arith, k)
+datum_short (wide (negsuc n)) h = let k = wide_short (suc n) (wide_negative_below n h) in omega (arith, k)
 
 slot_short : (x : Slot) → IsSlot x → length (slot_text x) + 1 ≤ 8 * slot_length x
 slot_short (actual x) h = datum_short x h
@@ -94,6 +106,7 @@ slot_short (formal kinds.Text) h = omega arith
 slot_short (formal kinds.Bytes) h = omega arith
 slot_short (formal kinds.Truth) h = omega arith
 slot_short (formal kinds.Tuple) h = omega arith
+slot_short (formal kinds.Wide) h = omega arith
 
 -- What is written of a tuple is the argument of an out, of a template that of an rdp.
 pub tuple_line : (t : TupleTree) → IsTuple t → IsLine (out t) (codes "out " ++ tuple_written t)

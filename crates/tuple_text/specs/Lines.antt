@@ -1,10 +1,10 @@
 -- A script line and its operation: the operation's name, one or more blanks before each argument, and blanks at both
--- ends. Of the limits only the ranges of numbers and of the count of an rdAll belong to the grammar.
+-- ends. Of the limits only the ranges of numbers and of the count of an rdAll or inAll belong to the grammar.
 use Rattle.std.specs.Prelude.{◌≡◌, ◌⊎◌, ℕ, ◌≤◌, List, [], ◌∷◌, ◌++◌, length, codes}
 use Rattle.std.specs.Fmt.{decimal}
 use Rattle.tuple_tree.specs.Items.{Item, leaf, inner, Items, none, item}
 use Rattle.tuple_tree.specs.Values.{IsDatum, IsSlot, TupleTree, TemplateTree}
-use Rattle.tuple_codec.specs.Operations.{Operation, out, rdp, inp, cas, rd_all, IsOperation}
+use Rattle.tuple_codec.specs.Operations.{Operation, out, rdp, inp, cas, rd_all, in_all, IsOperation}
 use Rattle.tuple_text.specs.Texts.{AreBlanks, IsGap, TupleText, TemplateText}
 
 -- each leaf is a right one
@@ -33,6 +33,7 @@ name (rdp p) = codes "rdp"
 name (inp p) = codes "inp"
 name (cas p t) = codes "cas"
 name (rd_all n p) = codes "rdAll"
+name (in_all n p) = codes "inAll"
 
 -- what the texts of the arguments have to be, in order
 abbrev pub arguments : Operation → List (List ℕ → Type 0)
@@ -41,6 +42,7 @@ arguments (rdp p) = TemplateArgument p ∷ []
 arguments (inp p) = TemplateArgument p ∷ []
 arguments (cas p t) = TemplateArgument p ∷ TupleArgument t ∷ []
 arguments (rd_all n p) = CountArgument n ∷ TemplateArgument p ∷ []
+arguments (in_all n p) = CountArgument n ∷ TemplateArgument p ∷ []
 
 -- each argument behind a gap
 abbrev pub ArgumentsText : List (List ℕ → Type 0) → List ℕ → Type 0

@@ -2,10 +2,12 @@
 -- that it stops at.
 use Rattle.std.specs.Prelude.{◌≡◌, ℕ, zero, suc, ◌+◌, ◌-◌, ◌*◌, ◌/◌, ◌==◌, nat_le, ℤ, pos, negsuc, Bool, true, false, ◌&&◌, ◌||◌, if◌then◌else◌, List, [], ◌∷◌, codes, Result, Ok, Err, Option, None, Some, option_map}
 use Rattle.tuple_tree.specs.Items.{Item, leaf, inner, Items, none, with_last, whole_length}
-use Rattle.tuple_tree.specs.Values.{Datum, number, text, bytes, truth, Slot, actual, any, formal, TupleTree, TemplateTree, datum_length, slot_length}
+use Rattle.tuple_tree.specs.Values.{Datum, number, text, bytes, truth, wide, Slot, actual, any, formal, TupleTree, TemplateTree, datum_length, slot_length}
 use Rattle.tuple_tree.specs.declared.atoms.Kind.{Kind}
 use Rattle.tuple_tree.specs.declared.atoms.Kind.TheVariants as kinds
-use Rattle.tuple_codec.specs.Operations.{Operation, out, rdp, inp, cas, rd_all}
+use Rattle.tuple_codec.specs.Operations.{Operation, out, rdp, inp, cas, rd_all, in_all}
+use Rattle.tuple_text.specs.declared.reader.Verb.{Verb}
+use Rattle.tuple_text.specs.declared.reader.Verb.TheVariants.{Rd, In}
 use Rattle.tuple_text.specs.declared.reader.Stop.{Stop}
 use Rattle.tuple_text.specs.declared.reader.Stop.TheVariants.{BadByte, TooDeep, TooManyFields, TooLong, NoMemory}
 use Rattle.tuple_text.specs.declared.faults.LineFault.{LineFault}
@@ -62,17 +64,25 @@ unfoldable pub positive : ℕ → Reading ℕ
 positive limit [] = stop BadByte []
 positive limit (b ∷ bs) = if nat_le 49 b && nat_le b 57 then digits limit (b - 48) bs else stop BadByte (b ∷ bs)
 
+-- the greatest number, and the greatest wide one
 abbrev pub MOST : ℕ
 MOST = 9223372036854775807
 
-unfoldable pub signed : Reading ℤ
-signed [] = stop BadByte []
-signed (b ∷ bs) =
-    if b == 45 then (positive (MOST + 1) bs >>= λ n rest. got (negsuc (n - 1)) rest)
-    else (if b == 48 then got (pos 0) bs else (positive MOST (b ∷ bs) >>= λ n rest. got (pos n) rest))
+abbrev pub MOST_WIDE : ℕ
+MOST_WIDE = 170141183460469231731687303715884105727
+
+-- a number up to the greatest, and down to one more below 0
+unfoldable pub signed : ℕ → Reading ℤ
+signed most [] = stop BadByte []
+signed most (b ∷ bs) =
+    if b == 45 then (positive (most + 1) bs >>= λ n rest. got (negsuc (n - 1)) rest)
+    else (if b == 48 then got (pos 0) bs else (positive most (b ∷ bs) >>= λ n rest. got (pos n) rest))
 
 unfoldable pub numeral : Reading Datum
-numeral bs = signed bs >>= λ n rest. got (number n) rest
+numeral bs = signed MOST bs >>= λ n rest. got (number n) rest
+
+unfoldable pub wide_numeral : Reading Datum
+wide_numeral bs = word (codes "w") bs >>= λ _ rest. signed MOST_WIDE rest >>= λ n after. got (wide n) after
 
 unfoldable pub quoted : Reading Datum
 quoted bs = text_literal bs >>= λ s rest. got (text s) rest
@@ -85,7 +95,7 @@ truth_or_number = look 116 (named (codes "true") (truth true)) (look 102 (named 
 
 -- a value that is no tuple
 unfoldable pub datum : Reading Datum
-datum bs = look 34 quoted (look 120 byte_string truth_or_number) bs
+datum bs = look 34 quoted (look 120 byte_string (look 119 wide_numeral truth_or_number)) bs
 
 -- the rest of a kind that begins with b, and of one that begins with t
 abbrev pub behind_b : Reading Kind
@@ -102,7 +112,9 @@ unfoldable pub kind_t : Reading Kind
 kind_t bs = word (codes "t") bs >>= λ _ rest. behind_t rest
 
 unfoldable pub kind : Reading Kind
-kind bs = look 105 (named (codes "int") kinds.Number) (look 98 kind_b (look 116 kind_t nothing)) bs
+kind bs =
+    look 105 (named (codes "int") kinds.Number)
+    (look 98 kind_b (look 116 kind_t (look 119 (named (codes "wide") kinds.Wide) nothing))) bs
 
 unfoldable pub formal_slot : Reading Slot
 formal_slot bs = word (codes "?") bs >>= λ _ rest. kind rest >>= λ k after. got (formal k) after
@@ -119,7 +131,8 @@ slot_item bs = slot bs >>= λ x rest. got (leaf x) rest
 
 -- whether some value that is no tuple begins so
 abbrev pub begins_datum : ℕ → Bool
-begins_datum b = b == 34 || (b == 120 || (b == 116 || (b == 102 || (b == 45 || (nat_le 48 b && nat_le b 57)))))
+begins_datum b =
+    b == 34 || (b == 120 || (b == 119 || (b == 116 || (b == 102 || (b == 45 || (nat_le 48 b && nat_le b 57))))))
 
 abbrev pub begins_slot : ℕ → Bool
 begins_slot b = b == 42 || (b == 63 || begins_datum b)
@@ -229,28 +242,40 @@ ended o bs = ending bs >>= λ _ rest. got o rest
 unfoldable pub out_line : Reading Operation
 out_line bs = word (codes "out") bs >>= λ _ behind. argument tuple behind >>= λ t rest. ended (out t) rest
 
-unfoldable pub inp_line : Reading Operation
-inp_line bs = word (codes "inp") bs >>= λ _ behind. argument template behind >>= λ p rest. ended (inp p) rest
-
 unfoldable pub cas_line : Reading Operation
 cas_line bs =
     word (codes "cas") bs >>= λ _ behind. argument template behind
     >>= λ p middle. argument tuple middle >>= λ t rest. ended (cas p t) rest
 
--- behind "rd"
-unfoldable pub rdp_line : Reading Operation
-rdp_line bs = word (codes "p") bs >>= λ _ behind. argument template behind >>= λ p rest. ended (rdp p) rest
+-- the letters of a verb, with which the names of its operations begin
+abbrev pub letters : Verb → List ℕ
+letters Rd = codes "rd"
+letters In = codes "in"
 
-unfoldable pub all_line : Reading Operation
-all_line bs =
+-- the operation of the verb on the oldest match, and that on the oldest n
+abbrev pub one_of : Verb → TemplateTree → Operation
+one_of Rd p = rdp p
+one_of In p = inp p
+
+abbrev pub all_of : Verb → ℕ → TemplateTree → Operation
+all_of Rd n p = rd_all n p
+all_of In n p = in_all n p
+
+-- behind the letters of the verb
+unfoldable pub one_line : Verb → Reading Operation
+one_line verb bs =
+    word (codes "p") bs >>= λ _ behind. argument template behind >>= λ p rest. ended (one_of verb p) rest
+
+unfoldable pub all_line : Verb → Reading Operation
+all_line verb bs =
     word (codes "All") bs >>= λ _ behind. argument (positive 64) behind
-    >>= λ n middle. argument template middle >>= λ p rest. ended (rd_all n p) rest
+    >>= λ n middle. argument template middle >>= λ p rest. ended (all_of verb n p) rest
 
-unfoldable pub rd_line : Reading Operation
-rd_line bs = word (codes "rd") bs >>= λ _ rest. look 112 rdp_line all_line rest
+unfoldable pub verb_line : Verb → Reading Operation
+verb_line verb bs = word (letters verb) bs >>= λ _ rest. look 112 (one_line verb) (all_line verb) rest
 
 unfoldable pub operation : Reading Operation
-operation bs = look 111 out_line (look 114 rd_line (look 105 inp_line (look 99 cas_line nothing))) bs
+operation bs = look 111 out_line (look 114 (verb_line Rd) (look 105 (verb_line In) (look 99 cas_line nothing))) bs
 
 unfoldable pub line : Reading Operation
 line bs = blanks true bs >>= λ _ rest. operation rest

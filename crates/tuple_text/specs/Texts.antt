@@ -3,7 +3,7 @@ use Rattle.std.specs.Prelude.{◌≡◌, ℕ, ◌+◌, ◌/◌, ◌%◌, ◌<◌
 use Rattle.std.specs.List.{flat_map}
 use Rattle.std.specs.Fmt.{signed_decimal}
 use Rattle.tuple_tree.specs.Items.{Item, leaf, inner, Items, none, item}
-use Rattle.tuple_tree.specs.Values.{Datum, number, text, bytes, truth, Slot, actual, any, formal, TupleTree, TemplateTree}
+use Rattle.tuple_tree.specs.Values.{Datum, number, text, bytes, truth, wide, Slot, actual, any, formal, TupleTree, TemplateTree}
 use Rattle.tuple_tree.specs.declared.atoms.Kind.{Kind}
 use Rattle.tuple_tree.specs.declared.atoms.Kind.TheVariants as kinds
 
@@ -44,6 +44,7 @@ datum_text (number n) = signed_decimal n
 datum_text (text s) = quoted_text s
 datum_text (bytes s) = 120 ∷ flat_map hex_pair s
 datum_text (truth b) = truth_text b
+datum_text (wide n) = 119 ∷ signed_decimal n
 
 abbrev pub formal_text : Kind → List ℕ
 formal_text kinds.Number = codes "?int"
@@ -51,6 +52,7 @@ formal_text kinds.Text = codes "?text"
 formal_text kinds.Bytes = codes "?bytes"
 formal_text kinds.Truth = codes "?bool"
 formal_text kinds.Tuple = codes "?tuple"
+formal_text kinds.Wide = codes "?wide"
 
 abbrev pub slot_text : Slot → List ℕ
 slot_text (actual x) = datum_text x

@@ -1,6 +1,6 @@
 //! From operations to their lines.
 
-ghost use Rattle.std.specs.Prelude.{◌≡◌, ◌++◌, OnOk, OnErr, decimal};
+ghost use Rattle.std.specs.Prelude.{◌≡◌, ◌∷◌, ◌++◌, OnOk, OnErr, decimal};
 ghost use Rattle.tuple_tree.specs.TemplateView.{field_of, template_of};
 ghost use Rattle.tuple_codec.specs.OperationView.{operation_of};
 ghost use Rattle.tuple_text.specs.Texts.{formal_text};
@@ -56,11 +56,26 @@ fn put_op<A: Allocator, B: Allocator>(op: &Op<A>, out: &mut Vec<u8, B>) -> Resul
         }
         Op::RdAll(max, template) => {
             append(b"rdAll ", out)?;
-            put_count(*max, out)?;
-            append(b" ", out)?;
-            put_template(template, out)
+            put_counted(*max, template, out)
+        }
+        Op::InAll(max, template) => {
+            append(b"inAll ", out)?;
+            put_counted(*max, template, out)
         }
     }
+}
+
+// How many tuples, and the template behind a blank.
+fn put_counted<A: Allocator, B: Allocator>(
+    max: Max,
+    template: &Template<A>,
+    out: &mut Vec<u8, B>,
+) -> Result<(), NoMemory>
+    ensures { Appends result out.old.items (decimal max.count ++ 32 ∷ template_written template.now) out.new.items }
+{
+    put_count(max, out)?;
+    append(b" ", out)?;
+    put_template(template, out)
 }
 
 fn put_count<B: Allocator>(max: Max, out: &mut Vec<u8, B>) -> Result<(), NoMemory>
@@ -122,5 +137,6 @@ fn formal(kind: Kind) -> &'static [u8]
         Kind::Bytes => b"?bytes",
         Kind::Truth => b"?bool",
         Kind::Tuple => b"?tuple",
+        Kind::Wide => b"?wide",
     }
 }

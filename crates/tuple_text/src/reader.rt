@@ -1,13 +1,13 @@
 //! The reader of lines, a method for each part of the grammar.
 
-ghost use Rattle.std.specs.Prelude.{◌≡◌, ◌+◌, ◌-◌, ◌≤◌, ◌<◌, ◌^◌, codes, true, length, pos, IfOk, IfErr, OnOk, IsTrue, ◌↔◌, Option, option_map};
+ghost use Rattle.std.specs.Prelude.{◌≡◌, ◌+◌, ◌-◌, ◌≤◌, ◌<◌, ◌^◌, codes, true, length, pos, negsuc, ◌≤ℤ◌, IfOk, IfErr, OnOk, IsTrue, ◌↔◌, Option, option_map};
 ghost use Rattle.tuple_tree.specs.Values.{truth as truth_datum};
 ghost use Rattle.tuple_tree.specs.AtomView.{datum_of};
 ghost use Rattle.tuple_tree.specs.TupleView.{value_of};
 ghost use Rattle.tuple_tree.specs.TemplateView.{field_of};
 ghost use Rattle.tuple_codec.specs.OperationView.{operation_of};
 ghost use Rattle.tuple_text.specs.Texts.{AreBlanks};
-ghost use Rattle.tuple_text.specs.Reading.{fault_at, blanks, word, gap, finish, digits, positive, signed, numeral, datum, kind, named, behind_b, behind_t, slot_item, turn, follows, got, opens, tuple, template, argument, ending, last, operation, line, out_line, inp_line, cas_line, rdp_line, all_line, rd_line, lone_template};
+ghost use Rattle.tuple_text.specs.Reading.{fault_at, blanks, word, gap, finish, digits, positive, signed, numeral, wide_numeral, datum, kind, named, behind_b, behind_t, slot_item, turn, follows, got, opens, tuple, template, argument, ending, last, letters, one_of, all_of, operation, line, out_line, cas_line, one_line, all_line, verb_line, lone_template};
 ghost use Rattle.tuple_text.specs.Parts.{HasNoValueRoom, HasNoFieldRoom, plain_value, plain_slot, closed, value_at, field_at, value_follows, field_follows, values_at, fields_at, close_tuple, close_template, tuple_with, template_with, Reads};
 
 use crate::faults::LineFault;
@@ -15,8 +15,10 @@ use std::alloc::Global;
 use tuple_codec::{Max, Op};
 use tuple_tree::{Atom, Field, Kind, MAX_FIELDS, Refusal, Template, Tuple, Value};
 
-// The greatest number.
-const MOST: u64 = 9223372036854775807;
+// The greatest number, and the greatest wide one.
+const MOST: u128 = 9223372036854775807;
+
+const MOST_WIDE: u128 = 170141183460469231731687303715884105727;
 
 // How many levels may lie below the outermost list.
 const BELOW: usize = 7;
@@ -43,6 +45,45 @@ impl Stop {
             Stop::TooManyFields => LineFault::TooManyFields,
             Stop::TooLong => LineFault::TooLong,
             Stop::NoMemory => LineFault::NoMemory,
+        }
+    }
+}
+
+/// What an operation does with the tuples that it finds: `rd` reads them, `in` takes them.
+#[derive(Clone, Copy)]
+pub(crate) enum Verb {
+    Rd,
+    In,
+}
+
+impl Verb {
+    // The letters that begin the names of its operations.
+    fn letters(self) -> &'static [u8]
+        ensures { result.now ≡ letters self }
+    {
+        match self {
+            Verb::Rd => b"rd",
+            Verb::In => b"in",
+        }
+    }
+
+    // Its operation on the oldest match.
+    fn one_of(self, template: Template<Global>) -> Op<Global>
+        ensures { operation_of result ≡ one_of self template }
+    {
+        match self {
+            Verb::Rd => Op::Rdp(template),
+            Verb::In => Op::Inp(template),
+        }
+    }
+
+    // Its operation on the oldest `max` matches.
+    fn all_of(self, max: Max, template: Template<Global>) -> Op<Global>
+        ensures { operation_of result ≡ all_of self max.count template }
+    {
+        match self {
+            Verb::Rd => Op::RdAll(max, template),
+            Verb::In => Op::InAll(max, template),
         }
     }
 }
@@ -124,9 +165,9 @@ impl<'a> Reader<'a> {
     }
 
     // The digits behind those of `first`.
-    fn digits(&mut self, limit: u64, first: u64) -> Result<u64, Stop>
+    fn digits(&mut self, limit: u128, first: u128) -> Result<u128, Stop>
         requires low { 9 ≤ limit }
-        requires high { limit ≤ MOST + 1 }
+        requires high { limit ≤ MOST_WIDE + 1 }
         requires first { first ≤ limit }
         requires positive { 1 ≤ first }
         ensures gives { Reads (λ n. n) result (digits limit first) self.old self.new }
@@ -135,7 +176,7 @@ impl<'a> Reader<'a> {
     {
         let mut number = first;
         while let [byte @ b'0'..=b'9', rest @ ..] = self.rest {
-            let digit = u64::from(*byte - b'0');
+            let digit = u128::from(*byte - b'0');
             if number > (limit - digit) / 10 {
                 return Err(Stop::BadByte);
             }
@@ -146,9 +187,9 @@ impl<'a> Reader<'a> {
     }
 
     #[tactic(auto, unfolding(crate::specs::Reading::positive))]
-    fn positive(&mut self, limit: u64) -> Result<u64, Stop>
+    fn positive(&mut self, limit: u128) -> Result<u128, Stop>
         requires low { 9 ≤ limit }
-        requires high { limit ≤ MOST + 1 }
+        requires high { limit ≤ MOST_WIDE + 1 }
         ensures gives { Reads (λ n. n) result (positive limit) self.old self.new }
         ensures low { IfOk result (λ n. 1 ≤ n) }
         ensures high { IfOk result (λ n. n ≤ limit) }
@@ -156,30 +197,34 @@ impl<'a> Reader<'a> {
         match self.rest {
             [byte @ b'1'..=b'9', rest @ ..] => {
                 self.rest = rest;
-                self.digits(limit, u64::from(*byte - b'0'))
+                self.digits(limit, u128::from(*byte - b'0'))
             }
             _ => Err(Stop::BadByte),
         }
     }
 
     #[tactic(auto, unfolding(crate::specs::Reading::signed))]
-    fn signed(&mut self) -> Result<i64, Stop>
-        ensures { Reads (λ n. n) result signed self.old self.new }
+    fn signed(&mut self, most: u128) -> Result<i128, Stop>
+        requires low { 9 ≤ most }
+        requires high { most ≤ MOST_WIDE }
+        ensures gives { Reads (λ n. n) result (signed most) self.old self.new }
+        ensures low { IfOk result (λ n. negsuc most ≤ℤ n) }
+        ensures high { IfOk result (λ n. n ≤ℤ pos most) }
     {
         match self.rest {
             [] => Err(Stop::BadByte),
             [b'-', rest @ ..] => {
                 self.rest = rest;
-                let number = self.positive(MOST + 1)?;
-                Ok(-1 - (number - 1) as i64)
+                let number = self.positive(most + 1)?;
+                Ok(-1 - (number - 1) as i128)
             }
             [b'0', rest @ ..] => {
                 self.rest = rest;
                 Ok(0)
             }
             [_, ..] => {
-                let number = self.positive(MOST)?;
-                Ok(number as i64)
+                let number = self.positive(most)?;
+                Ok(number as i128)
             }
         }
     }
@@ -188,8 +233,18 @@ impl<'a> Reader<'a> {
     fn numeral(&mut self) -> Result<Atom<Global>, Stop>
         ensures { Reads datum_of result numeral self.old self.new }
     {
-        let number = self.signed()?;
-        Ok(Atom::Number(number))
+        let number = self.signed(MOST)?;
+        Ok(Atom::Number(number as i64))
+    }
+
+    // A wide number, behind its `w`.
+    #[tactic(auto, unfolding(crate::specs::Reading::wide_numeral))]
+    fn wide_numeral(&mut self) -> Result<Atom<Global>, Stop>
+        ensures { Reads datum_of result wide_numeral self.old self.new }
+    {
+        self.word(b"w")?;
+        let number = self.signed(MOST_WIDE)?;
+        Ok(Atom::Wide(number))
     }
 
     // A word that stands for a truth value.
@@ -215,6 +270,7 @@ impl<'a> Reader<'a> {
                 let bytes = self.bytes_literal(alloc)?;
                 Ok(Atom::Bytes(bytes))
             }
+            [b'w', ..] => self.wide_numeral(),
             [b't', ..] => self.truth(b"true", true),
             [b'f', ..] => self.truth(b"false", false),
             [_, ..] => self.numeral(),
@@ -267,6 +323,7 @@ impl<'a> Reader<'a> {
                 self.rest = rest;
                 self.kind_t()
             }
+            [b'w', ..] => self.named(b"wide", Kind::Wide),
             [_, ..] => Err(Stop::BadByte),
         }
     }
@@ -322,7 +379,10 @@ impl<'a> Reader<'a> {
     {
         match self.rest {
             [b'(', ..] if levels == 0 => Stop::TooDeep,
-            [b'(' | b'"' | b'x' | b't' | b'f' | b'-' | b'0'..=b'9', ..] => Stop::TooManyFields,
+            [
+                b'(' | b'"' | b'x' | b'w' | b't' | b'f' | b'-' | b'0'..=b'9',
+                ..
+            ] => Stop::TooManyFields,
             _ => Stop::BadByte,
         }
     }
@@ -334,7 +394,7 @@ impl<'a> Reader<'a> {
         match self.rest {
             [b'(', ..] if levels == 0 => Stop::TooDeep,
             [
-                b'(' | b'*' | b'?' | b'"' | b'x' | b't' | b'f' | b'-' | b'0'..=b'9',
+                b'(' | b'*' | b'?' | b'"' | b'x' | b'w' | b't' | b'f' | b'-' | b'0'..=b'9',
                 ..
             ] => Stop::TooManyFields,
             _ => Stop::BadByte,
@@ -573,7 +633,7 @@ impl<'a> Reader<'a> {
         self.closing_template(alloc)
     }
 
-    // How many tuples an `rdAll` asks for.
+    // How many tuples an `rdAll` or `inAll` asks for.
     #[tactic(auto, unfolding(crate::specs::Reading::argument))]
     fn count_argument(&mut self) -> Result<Max, Stop>
         ensures { Reads (λ max. max.count) result (argument (positive 64)) self.old self.new }
@@ -603,15 +663,6 @@ impl<'a> Reader<'a> {
         Ok(Op::Out(tuple))
     }
 
-    #[tactic(auto, unfolding(crate::specs::Reading::inp_line, crate::specs::Reading::ended))]
-    fn inp_line(&mut self, alloc: Global) -> Result<Op<Global>, Stop>
-        ensures { Reads operation_of result inp_line self.old self.new }
-    {
-        self.word(b"inp")?;
-        let template = self.last_template(alloc)?;
-        Ok(Op::Inp(template))
-    }
-
     #[tactic(auto, unfolding(crate::specs::Reading::cas_line, crate::specs::Reading::ended))]
     fn cas_line(&mut self, alloc: Global) -> Result<Op<Global>, Stop>
         ensures { Reads operation_of result cas_line self.old self.new }
@@ -622,36 +673,36 @@ impl<'a> Reader<'a> {
         Ok(Op::Cas(template, tuple))
     }
 
-    // The line of an `rdp` behind its first two letters.
-    #[tactic(auto, unfolding(crate::specs::Reading::rdp_line, crate::specs::Reading::ended))]
-    fn rdp_line(&mut self, alloc: Global) -> Result<Op<Global>, Stop>
-        ensures { Reads operation_of result rdp_line self.old self.new }
+    // The line of an `rdp` or `inp` behind its first two letters.
+    #[tactic(auto, unfolding(crate::specs::Reading::one_line, crate::specs::Reading::ended))]
+    fn one_line(&mut self, alloc: Global, verb: Verb) -> Result<Op<Global>, Stop>
+        ensures { Reads operation_of result (one_line verb) self.old self.new }
     {
         self.word(b"p")?;
         let template = self.last_template(alloc)?;
-        Ok(Op::Rdp(template))
+        Ok(verb.one_of(template))
     }
 
-    // The line of an `rdAll` behind its first two letters.
+    // The line of an `rdAll` or `inAll` behind its first two letters.
     #[tactic(auto, unfolding(crate::specs::Reading::all_line, crate::specs::Reading::ended))]
-    fn all_line(&mut self, alloc: Global) -> Result<Op<Global>, Stop>
-        ensures { Reads operation_of result all_line self.old self.new }
+    fn all_line(&mut self, alloc: Global, verb: Verb) -> Result<Op<Global>, Stop>
+        ensures { Reads operation_of result (all_line verb) self.old self.new }
     {
         self.word(b"All")?;
         let max = self.count_argument()?;
         let template = self.last_template(alloc)?;
-        Ok(Op::RdAll(max, template))
+        Ok(verb.all_of(max, template))
     }
 
-    #[tactic(auto, unfolding(crate::specs::Reading::rd_line))]
-    fn rd_line(&mut self, alloc: Global) -> Result<Op<Global>, Stop>
-        ensures { Reads operation_of result rd_line self.old self.new }
+    #[tactic(auto, unfolding(crate::specs::Reading::verb_line))]
+    fn verb_line(&mut self, alloc: Global, verb: Verb) -> Result<Op<Global>, Stop>
+        ensures { Reads operation_of result (verb_line verb) self.old self.new }
     {
-        self.word(b"rd")?;
+        self.word(verb.letters())?;
         match self.rest {
             [] => Err(Stop::BadByte),
-            [b'p', ..] => self.rdp_line(alloc),
-            [_, ..] => self.all_line(alloc),
+            [b'p', ..] => self.one_line(alloc, verb),
+            [_, ..] => self.all_line(alloc, verb),
         }
     }
 
@@ -661,8 +712,8 @@ impl<'a> Reader<'a> {
     {
         match self.rest {
             [b'o', ..] => self.out_line(alloc),
-            [b'r', ..] => self.rd_line(alloc),
-            [b'i', ..] => self.inp_line(alloc),
+            [b'r', ..] => self.verb_line(alloc, Verb::Rd),
+            [b'i', ..] => self.verb_line(alloc, Verb::In),
             [b'c', ..] => self.cas_line(alloc),
             _ => Err(Stop::BadByte),
         }

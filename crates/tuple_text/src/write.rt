@@ -171,6 +171,7 @@ pub(crate) fn put_atom<A: Allocator, B: Allocator>(
         Atom::Text(text) => put_text(text.as_bytes(), out),
         Atom::Bytes(bytes) => put_bytes(bytes.as_slice(), out),
         Atom::Truth(truth) => put_truth(*truth, out),
+        Atom::Wide(number) => put_wide(*number, out),
     }
 }
 
@@ -178,6 +179,15 @@ fn put_number<B: Allocator>(number: i64, out: &mut Vec<u8, B>) -> Result<(), NoM
     ensures { Appends result out.old.items (signed_decimal number) out.new.items }
 {
     let mut buffer = Buffer::new();
+    append(buffer.format(number).as_bytes(), out)
+}
+
+// A wide number: a `w` and its digits.
+fn put_wide<B: Allocator>(number: i128, out: &mut Vec<u8, B>) -> Result<(), NoMemory>
+    ensures { Appends result out.old.items (119 ∷ signed_decimal number) out.new.items }
+{
+    let mut buffer = Buffer::new();
+    append(b"w", out)?;
     append(buffer.format(number).as_bytes(), out)
 }
 

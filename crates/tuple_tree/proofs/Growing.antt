@@ -1,6 +1,6 @@
 -- Items with one more at their end, and how they keep the limits.
-use Rattle.std.proofs.Common.{◌≡◌, ℕ, ◌+◌, ◌≤◌, ◌<◌, max, arith}
-use Rattle.tuple_tree.specs.Items.{Item, Items, none, item, how_many, with_last, item_levels, levels_in, levels_of, item_length, length_in, whole_length}
+use Rattle.std.proofs.Common.{◌≡◌, ℕ, ◌+◌, ◌≤◌, ◌<◌, max, Bool, true, false, ◌||◌, refl, ap, ◌∙◌, arith}
+use Rattle.tuple_tree.specs.Items.{Item, Items, none, item, how_many, with_last, item_levels, levels_in, levels_of, item_length, length_in, whole_length, item_has, has_leaf}
 use Rattle.tuple_tree.specs.Limits.{IsItem, AreItems, IsWithin, Refuses, RefusesSize}
 use Rattle.tuple_tree.specs.declared.limits.Refusal.{Refusal}
 use Rattle.tuple_tree.specs.declared.limits.Refusal.TheVariants.{TooManyFields, TooDeep, TooLong, NoMemory}
@@ -18,6 +18,19 @@ module _ {L : Type 0} (length_of : L → ℕ) where
   pub length_in-with_last : (t : Items L) (x : Item L) → length_in length_of (with_last t x) ≡ length_in length_of t + item_length length_of x
   length_in-with_last none x = omega arith
   length_in-with_last (item y t) x = omega (arith, length_in-with_last t x)
+
+or_one : (b : Bool) → (b || false) ≡ (false || b)
+or_one true = refl
+or_one false = refl
+
+or_more : (a b c : Bool) → (a || (b || c)) ≡ ((a || b) || c)
+or_more true b c = refl
+or_more false b c = refl
+
+module _ {L : Type 0} (test : L → Bool) where
+  pub has_leaf-with_last : (t : Items L) (x : Item L) → has_leaf test (with_last t x) ≡ (has_leaf test t || item_has test x)
+  has_leaf-with_last none x = or_one (item_has test x)
+  has_leaf-with_last (item y t) x = ap (λ b. item_has test y || b) (has_leaf-with_last t x) ∙ or_more (item_has test y) (has_leaf test t) (item_has test x)
 
 module _ {L : Type 0} (IsLeaf : L → Type 0) where
   pub AreItems-with_last : (t : Items L) (x : Item L) → AreItems IsLeaf t → IsItem IsLeaf x → AreItems IsLeaf (with_last t x)

@@ -1,8 +1,8 @@
 -- Laws of the items that a list of values stands for.
-use Rattle.std.proofs.Common.{◌≡◌, ◌↔◌, ℕ, zero, suc, ◌+◌, ◌≤◌, ◌<◌, List, [], ◌∷◌, ◌++◌, length, take, drop, get_or, Option, Some, None, option_map, slice_get, Bor, ap, subst, sym, refl, arith, ◌∙◌, IsTrue, true, false}
+use Rattle.std.proofs.Common.{◌≡◌, ◌↔◌, ℕ, zero, suc, ◌+◌, ◌≤◌, ◌<◌, List, [], ◌∷◌, ◌++◌, length, take, drop, get_or, Option, Some, None, option_map, slice_get, Bor, Bool, ap, subst, sym, refl, arith, ◌∙◌, IsTrue, true, false}
 use Rattle.std.proofs.lemmas.List.{at_drop_more, at_drop_all, take_more}
 use Rattle.std.specs.Slice.{IsItemAt}
-use Rattle.tuple_tree.specs.Items.{Item, Items, item, how_many, with_last, as_list, item_levels, levels_in, levels_of, whole_length, items_of}
+use Rattle.tuple_tree.specs.Items.{Item, Items, item, how_many, with_last, as_list, item_levels, levels_in, levels_of, whole_length, has_leaf, items_of}
 use Rattle.tuple_tree.specs.Limits.{IsWithin}
 use Rattle.tuple_tree.proofs.Growing.{Holds}
 
@@ -36,9 +36,9 @@ module _ {X L : Type 0} (view : X → Item L) where
   pub items_at : (xs : List X) (i : ℕ) (x : X) → i < length xs → x ≡ get_or xs i x → items_of view (drop i xs) ≡ item (view x) (items_of view (drop (i + 1) xs))
   items_at xs i x p e = at_drop_more (items_of view) xs i x p ∙ ap (λ y. item (view y) (items_of view (drop (i + 1) xs))) (sym e)
 
-  pub holds : (IsLeaf : L → Type 0) (length_of : L → ℕ) (xs : List X) (d e : ℕ) (t : Items L) → items_of view xs ≡ t
-      → IsWithin IsLeaf length_of (items_of view xs) × (d ≡ levels_of (items_of view xs)) × (e ≡ whole_length length_of (items_of view xs)) → Holds IsLeaf length_of t (length xs) d e
-  holds IsLeaf length_of xs d e t p h =
+  pub holds : (IsLeaf : L → Type 0) (length_of : L → ℕ) (is_wide : L → Bool) (xs : List X) (d e : ℕ) (w : Bool) (t : Items L) → items_of view xs ≡ t
+      → IsWithin IsLeaf length_of (items_of view xs) × (d ≡ levels_of (items_of view xs)) × (e ≡ whole_length length_of (items_of view xs)) × (w ≡ has_leaf is_wide (items_of view xs)) → Holds IsLeaf length_of t (length xs) d e
+  holds IsLeaf length_of is_wide xs d e w t p h =
       subst (λ u. Holds IsLeaf length_of u (length xs) d e) p (record { within = h.0; items = sym (how_many-items_of xs); levels = h.1; bytes = h.2 })
 
   -- an item has fewer levels than the list that holds it

@@ -1,21 +1,22 @@
 -- What the private fields and functions that keep levels and bytes beside items speak of.
-use Rattle.std.specs.Prelude.{◌≡◌, ◌≢◌, ℕ, ◌+◌, ◌<◌, ◌≤◌, max, Result, MatchResult}
-use Rattle.tuple_tree.specs.Items.{Items, levels_of, whole_length}
+use Rattle.std.specs.Prelude.{◌≡◌, ◌≢◌, ℕ, ◌+◌, ◌<◌, ◌≤◌, max, Bool, ◌||◌, Result, MatchResult}
+use Rattle.tuple_tree.specs.Items.{Items, levels_of, whole_length, has_leaf}
 use Rattle.tuple_tree.specs.Limits.{IsWithin, RefusesSize}
 use Rattle.tuple_tree.specs.declared.limits.Extent.{Extent}
 use Rattle.tuple_tree.specs.declared.limits.Refusal.{Refusal}
 use Rattle.tuple_tree.specs.declared.limits.Refusal.TheVariants.{NoMemory}
 
 -- The items are within the limits, and this is their extent.
-abbrev pub IsMeasured : {L : Type 0} → (L → Type 0) → (L → ℕ) → Items L → Extent → Type 0
-IsMeasured IsLeaf length_of t extent =
+abbrev pub IsMeasured : {L : Type 0} → (L → Type 0) → (L → ℕ) → (L → Bool) → Items L → Extent → Type 0
+IsMeasured IsLeaf length_of is_wide t extent =
     IsWithin IsLeaf length_of t × (extent.depth ≡ levels_of t) × (extent.encoded_len ≡ whole_length length_of t)
+    × (extent.has_wide ≡ has_leaf is_wide t)
 
 -- a list of so many items has room for one more, by which it gets this extent
-abbrev pub IsLonger : Extent → ℕ → ℕ → ℕ → Extent → Type 0
-IsLonger old len item_depth item_len new =
+abbrev pub IsLonger : Extent → ℕ → ℕ → ℕ → Bool → Extent → Type 0
+IsLonger old len item_depth item_len item_wide new =
     (len < 32) × (new.depth ≤ 8) × (new.encoded_len ≤ 1024) × (new.depth ≡ max old.depth (1 + item_depth))
-    × (new.encoded_len ≡ old.encoded_len + item_len)
+    × (new.encoded_len ≡ old.encoded_len + item_len) × (new.has_wide ≡ (old.has_wide || item_wide))
 
 -- an item of so many levels and bytes is refused behind them
 abbrev pub RefusesItem : Extent → ℕ → ℕ → ℕ → Refusal → Type 0
@@ -24,6 +25,6 @@ RefusesItem old len item_depth item_len refusal =
     × RefusesSize refusal (len + 1) (max old.depth (1 + item_depth)) (old.encoded_len + item_len)
 
 -- The extent of a list with one more item, or the first limit that it passes.
-abbrev pub Extends : Extent → ℕ → ℕ → ℕ → Result Extent Refusal → Type 0
-Extends old len item_depth item_len result =
-    MatchResult result (IsLonger old len item_depth item_len) (RefusesItem old len item_depth item_len)
+abbrev pub Extends : Extent → ℕ → ℕ → ℕ → Bool → Result Extent Refusal → Type 0
+Extends old len item_depth item_len item_wide result =
+    MatchResult result (IsLonger old len item_depth item_len item_wide) (RefusesItem old len item_depth item_len)

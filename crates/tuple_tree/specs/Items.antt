@@ -1,6 +1,6 @@
 -- A finite list of items, each of them a leaf or such a list again. A tuple is one whose leaves are plain
 -- values, a template one whose leaves are the fields that are no template.
-use Rattle.std.specs.Prelude.{ℕ, ◌+◌, max, List, [], ◌∷◌}
+use Rattle.std.specs.Prelude.{ℕ, ◌+◌, max, Bool, false, ◌||◌, List, [], ◌∷◌}
 
 mutual
   pub data Item (L : Type 0) : Type 0 where
@@ -55,6 +55,17 @@ module _ {L : Type 0} (length_of : L → ℕ) where
   -- the length of a whole encoding, with its count
   abbrev pub whole_length : Items L → ℕ
   whole_length xs = 1 + length_in xs
+
+-- Whether some leaf passes the test, at any level.
+module _ {L : Type 0} (test : L → Bool) where
+  abbrev mutual
+    pub item_has : Item L → Bool
+    item_has (leaf x) = test x
+    item_has (inner xs) = has_leaf xs
+
+    pub has_leaf : Items L → Bool
+    has_leaf none = false
+    has_leaf (item x xs) = item_has x || has_leaf xs
 
 -- The items that a list of the program's values stands for, by what each of them stands for.
 module _ {X L : Type 0} (view : X → Item L) where

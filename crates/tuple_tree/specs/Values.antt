@@ -1,7 +1,7 @@
 -- Tuples and templates, apart from where they lie in memory (Gelernter, Generative communication in Linda, TOPLAS
--- 1985, section 2: tuples of values, templates of actuals and formals). The five kinds and nesting are our own.
-use Rattle.std.specs.Prelude.{ℕ, ◌+◌, ℤ, ◌<◌, Bool, List, length, slice_index}
-use Rattle.std.specs.Int.{w64}
+-- 1985, section 2: tuples of values, templates of actuals and formals). The six kinds and nesting are our own.
+use Rattle.std.specs.Prelude.{ℕ, ◌+◌, ℤ, ◌<◌, Bool, true, false, List, length, slice_index}
+use Rattle.std.specs.Int.{w64, w128}
 use Rattle.std.specs.Int.RustNames.{FitsSigned}
 use Rattle.std.specs.Str.{IsUtf8}
 use Rattle.tuple_tree.specs.Items.{Item, leaf, inner, Items}
@@ -15,6 +15,7 @@ pub data Datum : Type 0 where
   text : List ℕ → Datum
   bytes : List ℕ → Datum
   truth : Bool → Datum
+  wide : ℤ → Datum
 
 -- a field of a template that is no template: an actual value, any value, or any value of a kind
 pub data Slot : Type 0 where
@@ -35,6 +36,7 @@ datum_kind (number n) = kinds.Number
 datum_kind (text s) = kinds.Text
 datum_kind (bytes s) = kinds.Bytes
 datum_kind (truth b) = kinds.Truth
+datum_kind (wide n) = kinds.Wide
 
 -- the kind of a value
 abbrev pub kind_of : Item Datum → Kind
@@ -47,6 +49,7 @@ datum_length (number n) = 9
 datum_length (text s) = 3 + length s
 datum_length (bytes s) = 3 + length s
 datum_length (truth b) = 2
+datum_length (wide n) = 17
 
 abbrev pub slot_length : Slot → ℕ
 slot_length (actual x) = datum_length x
@@ -56,17 +59,28 @@ slot_length (formal k) = 1
 abbrev pub AreBytes : List ℕ → Type 0
 AreBytes s = (i : ℕ) → slice_index s i < 256
 
--- Numbers have 64 bits, texts are UTF-8, byte strings are bytes.
+-- Numbers have 64 bits, wide ones 128, texts are UTF-8, byte strings are bytes.
 abbrev pub IsDatum : Datum → Type 0
 IsDatum (number n) = FitsSigned w64 n
 IsDatum (text s) = IsUtf8 s
 IsDatum (bytes s) = AreBytes s
 IsDatum (truth b) = Unit {0}
+IsDatum (wide n) = FitsSigned w128 n
 
 abbrev pub IsSlot : Slot → Type 0
 IsSlot (actual x) = IsDatum x
 IsSlot any = Unit {0}
 IsSlot (formal k) = Unit {0}
+
+-- a wide number, and a field that asks for one or for each
+abbrev pub is_wide : Datum → Bool
+is_wide (wide n) = true
+is_wide _ = false
+
+abbrev pub is_wide_slot : Slot → Bool
+is_wide_slot (actual x) = is_wide x
+is_wide_slot (formal kinds.Wide) = true
+is_wide_slot _ = false
 
 -- what the space may hold
 abbrev pub IsTuple : TupleTree → Type 0

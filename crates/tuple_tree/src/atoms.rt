@@ -1,7 +1,7 @@
 //! Values that are no tuples.
 
 ghost use Rattle.std.specs.Prelude.{◌≡◌, ◌+◌, ◌≤◌, IfOk, IsTrue, ◌↔◌, length};
-ghost use Rattle.tuple_tree.specs.Values.{datum_kind, datum_length, IsDatum, AreBytes};
+ghost use Rattle.tuple_tree.specs.Values.{datum_kind, datum_length, is_wide, IsDatum, AreBytes};
 ghost use Rattle.tuple_tree.specs.AtomView.{datum_of};
 
 use std::alloc::Allocator;
@@ -16,6 +16,7 @@ pub enum Kind {
     Bytes,
     Truth,
     Tuple,
+    Wide,
 }
 
 /// A value that is no tuple.
@@ -29,6 +30,8 @@ pub enum Atom<A: Allocator> {
     Bytes(Vec<u8, A>),
     /// A truth value.
     Truth(bool),
+    /// A signed number of 128 bits, which no number of 64 bits equals.
+    Wide(i128),
 }
 
 // Each item of a slice of bytes is a byte.
@@ -54,6 +57,7 @@ impl<A: Allocator> Atom<A> {
             Atom::Text(_) => Kind::Text,
             Atom::Bytes(_) => Kind::Bytes,
             Atom::Truth(_) => Kind::Truth,
+            Atom::Wide(_) => Kind::Wide,
         }
     }
 
@@ -66,7 +70,15 @@ impl<A: Allocator> Atom<A> {
             Atom::Text(text) => 3 + text.len(),
             Atom::Bytes(bytes) => 3 + bytes.len(),
             Atom::Truth(_) => 2,
+            Atom::Wide(_) => 17,
         }
+    }
+
+    /// Whether the value is a wide number.
+    pub fn is_wide(&self) -> bool
+        ensures { result ≡ is_wide (datum_of self.now) }
+    {
+        matches!(self, Atom::Wide(_))
     }
 
     // Each value that the program holds is one of its kind.
@@ -82,6 +94,9 @@ impl<A: Allocator> Atom<A> {
             }
             Atom::Bytes(bytes) => note_bytes(bytes.as_slice()),
             Atom::Truth(_) => {}
+            Atom::Wide(number) => {
+                let _number = *number;
+            }
         }
     }
 
@@ -94,6 +109,7 @@ impl<A: Allocator> Atom<A> {
             (Atom::Text(a), Atom::Text(b)) => same_bytes(a.as_bytes(), b.as_bytes()),
             (Atom::Bytes(a), Atom::Bytes(b)) => same_bytes(a.as_slice(), b.as_slice()),
             (Atom::Truth(a), Atom::Truth(b)) => a == b,
+            (Atom::Wide(a), Atom::Wide(b)) => a == b,
             _ => false,
         }
     }
@@ -107,6 +123,7 @@ impl<A: Allocator> Atom<A> {
             Atom::Text(text) => Ok(Atom::Text(String::from_str(alloc, text.as_str())?)),
             Atom::Bytes(bytes) => Ok(Atom::Bytes(Vec::from_slice(alloc, bytes.as_slice())?)),
             Atom::Truth(truth) => Ok(Atom::Truth(*truth)),
+            Atom::Wide(number) => Ok(Atom::Wide(*number)),
         }
     }
 }

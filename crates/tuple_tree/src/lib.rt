@@ -1,16 +1,18 @@
 //! Tuples and templates as trees, under any allocator.
 //!
-//! A tuple is a list of values: numbers, texts, byte strings, truth values and nested tuples. A template is a list of
-//! fields: actual values, formals and nested templates (Gelernter, Generative communication in Linda, TOPLAS 1985;
-//! the kinds, the nesting and the limits are this project's own). Both keep their limits by their types: at most
-//! [`MAX_FIELDS`] items in each list, [`MAX_DEPTH`] levels and [`MAX_LEN`] bytes of encoding.
+//! A tuple is a list of values: numbers of 64 bits, wide numbers of 128 bits, texts, byte strings, truth values and
+//! nested tuples. A template is a list of fields: actual values, formals and nested templates (Gelernter, Generative
+//! communication in Linda, TOPLAS 1985; the kinds, the nesting and the limits are this project's own). Both keep their
+//! limits by their types: at most [`MAX_FIELDS`] items in each list, [`MAX_DEPTH`] levels and [`MAX_LEN`] bytes of
+//! encoding.
 //!
 //! # What is proved
 //!
 //! A `Tuple` is seen as the list of its values, a `Template` as that of its fields; both keep the limits (32 items, 8
 //! levels, 1,024 bytes) by their types. `push` adds last, or hands the value back with the first limit that would be
 //! passed and nothing changed; `copy_in` gives an equal tree under another allocator; `same` holds exactly of equal
-//! trees, under two allocators; `len`, `get`, `depth`, `encoded_len`, `values`, `into_value` are exact.
+//! trees, under two allocators; `len`, `get`, `depth`, `encoded_len`, `values`, `into_value` are exact. `has_wide` tells
+//! exactly whether a wide number, or in a template its formal, is at some level.
 #![tactic(auto)]
 
 mod atoms;

@@ -34,11 +34,13 @@ pub struct Refused<T> {
     pub value: T,
 }
 
-/// Levels and bytes of a tree, kept beside its items so that they are known in constant time.
+/// Levels and bytes of a tree, and whether it has a wide number, kept beside its items so that they are known in
+/// constant time.
 #[derive(Clone, Copy)]
 pub struct Extent {
     pub depth: u8,
     pub encoded_len: u16,
+    pub has_wide: bool,
 }
 
 impl Extent {
@@ -46,13 +48,20 @@ impl Extent {
     pub const EMPTY: Extent = Extent {
         depth: 1,
         encoded_len: 1,
+        has_wide: false,
     };
 
     /// The extent of a list of `len` items with one more behind them, or the first limit that it passes.
-    pub fn with_item(self, len: usize, item_depth: u8, item_len: usize) -> Result<Extent, Refusal>
+    pub fn with_item(
+        self,
+        len: usize,
+        item_depth: u8,
+        item_len: usize,
+        item_wide: bool,
+    ) -> Result<Extent, Refusal>
         requires depth { item_depth ≤ 8 }
         requires bytes { self.encoded_len ≤ 1024 }
-        ensures within { Extends self len item_depth item_len result }
+        ensures within { Extends self len item_depth item_len item_wide result }
     {
         if len >= MAX_FIELDS {
             return Err(Refusal::TooManyFields);
@@ -67,6 +76,7 @@ impl Extent {
         Ok(Extent {
             depth,
             encoded_len: self.encoded_len + item_len as u16,
+            has_wide: self.has_wide || item_wide,
         })
     }
 }

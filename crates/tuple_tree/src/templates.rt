@@ -1,10 +1,10 @@
 //! Templates: lists of fields.
 
 ghost use Rattle.std.specs.Prelude.{◌≡◌, ◌+◌, ◌≤◌, OnOk, OnErr, IfErr, IfOk, option_map, slice_get, IsTrue, ◌↔◌};
-ghost use Rattle.tuple_tree.specs.Items.{none, inner, how_many, with_last, as_list, item_levels, levels_of, item_length, whole_length};
+ghost use Rattle.tuple_tree.specs.Items.{none, inner, how_many, with_last, as_list, item_levels, levels_of, item_length, whole_length, item_has, has_leaf};
 ghost use Rattle.tuple_tree.specs.Limits.{IsItem};
 ghost use Rattle.tuple_tree.specs.Pushes.{JudgesTemplate};
-ghost use Rattle.tuple_tree.specs.Values.{slot_length, IsSlot, IsTemplate};
+ghost use Rattle.tuple_tree.specs.Values.{slot_length, is_wide_slot, IsSlot, IsTemplate};
 ghost use Rattle.tuple_tree.specs.TemplateView.{field_of, template_of};
 
 use crate::atoms::{Atom, Kind};
@@ -38,7 +38,7 @@ pub struct Template<A: Allocator> {
 impl<A: Allocator> Model for Template<A> {
     ghost use Rattle.tuple_tree.specs.Items.{levels_of};
     ghost use Rattle.tuple_tree.specs.Extents.{IsMeasured};
-    ghost use Rattle.tuple_tree.specs.Values.{TemplateTree, slot_length, IsSlot};
+    ghost use Rattle.tuple_tree.specs.Values.{TemplateTree, slot_length, is_wide_slot, IsSlot};
     ghost use Rattle.tuple_tree.specs.ValuesCode.{template_code};
 
     ghost Value = { TemplateTree };
@@ -49,7 +49,7 @@ impl<A: Allocator> Model for Template<A> {
 
     ghost view = { λ a. template_of a.fields.items };
 
-    ghost invariant = { λ a. IsMeasured IsSlot slot_length (template_of a.fields.items) a.extent };
+    ghost invariant = { λ a. IsMeasured IsSlot slot_length is_wide_slot (template_of a.fields.items) a.extent };
 
     ghost size = { λ p. levels_of p };
 
@@ -87,6 +87,18 @@ impl<A: Allocator> Field<A> {
             Field::Actual(atom) => atom.encoded_len(),
             Field::Any | Field::Formal(_) => 1,
             Field::Nested(template) => 1 + template.encoded_len(),
+        }
+    }
+
+    /// Whether this field has a wide number or asks for one. Constant time.
+    pub fn has_wide(&self) -> bool
+        ensures { result ≡ item_has is_wide_slot (field_of self.now) }
+    {
+        match self {
+            Field::Actual(atom) => atom.is_wide(),
+            Field::Any => false,
+            Field::Formal(kind) => matches!(*kind, Kind::Wide),
+            Field::Nested(template) => template.has_wide(),
         }
     }
 
@@ -191,6 +203,13 @@ impl<A: Allocator> Template<A> {
         self.extent.encoded_len as usize
     }
 
+    /// Whether some field has a wide number or asks for one, at any level. Constant time.
+    pub fn has_wide(&self) -> bool
+        ensures { result ≡ has_leaf is_wide_slot self.now }
+    {
+        self.extent.has_wide
+    }
+
     /// The fields in order.
     pub fn fields(&self) -> &[Field<A>]
         ensures value { template_of result.now ≡ self.now }
@@ -243,7 +262,11 @@ impl<A: Allocator> Template<A> {
     {
         let depth = field.depth();
         let len = self.fields.len();
-        let extent = match self.extent.with_item(len, depth, field.encoded_len()) {
+        let has_wide = field.has_wide();
+        let extent = match self
+            .extent
+            .with_item(len, depth, field.encoded_len(), has_wide)
+        {
             Ok(extent) => extent,
             Err(refusal) => return Err(Refused {
                 refusal,

@@ -1,10 +1,10 @@
 //! Tuples: lists of values.
 
 ghost use Rattle.std.specs.Prelude.{◌≡◌, ◌+◌, ◌≤◌, OnOk, OnErr, IfErr, IfOk, option_map, slice_get, IsTrue, ◌↔◌};
-ghost use Rattle.tuple_tree.specs.Items.{none, inner, how_many, with_last, as_list, item_levels, levels_of, item_length, whole_length};
+ghost use Rattle.tuple_tree.specs.Items.{none, inner, how_many, with_last, as_list, item_levels, levels_of, item_length, whole_length, item_has, has_leaf};
 ghost use Rattle.tuple_tree.specs.Limits.{IsItem};
 ghost use Rattle.tuple_tree.specs.Pushes.{JudgesTuple};
-ghost use Rattle.tuple_tree.specs.Values.{kind_of, datum_length, IsDatum, IsTuple};
+ghost use Rattle.tuple_tree.specs.Values.{kind_of, datum_length, is_wide, IsDatum, IsTuple};
 ghost use Rattle.tuple_tree.specs.TupleView.{value_of, tuple_of};
 
 use crate::atoms::{Atom, Kind};
@@ -34,7 +34,7 @@ pub struct Tuple<A: Allocator> {
 impl<A: Allocator> Model for Tuple<A> {
     ghost use Rattle.tuple_tree.specs.Items.{levels_of};
     ghost use Rattle.tuple_tree.specs.Extents.{IsMeasured};
-    ghost use Rattle.tuple_tree.specs.Values.{TupleTree, datum_length, IsDatum};
+    ghost use Rattle.tuple_tree.specs.Values.{TupleTree, datum_length, is_wide, IsDatum};
     ghost use Rattle.tuple_tree.specs.ValuesCode.{tuple_code};
 
     ghost Value = { TupleTree };
@@ -45,7 +45,7 @@ impl<A: Allocator> Model for Tuple<A> {
 
     ghost view = { λ a. tuple_of a.values.items };
 
-    ghost invariant = { λ a. IsMeasured IsDatum datum_length (tuple_of a.values.items) a.extent };
+    ghost invariant = { λ a. IsMeasured IsDatum datum_length is_wide (tuple_of a.values.items) a.extent };
 
     ghost size = { λ t. levels_of t };
 
@@ -91,6 +91,16 @@ impl<A: Allocator> Value<A> {
         match self {
             Value::Atom(atom) => atom.encoded_len(),
             Value::Nested(tuple) => 1 + tuple.encoded_len(),
+        }
+    }
+
+    /// Whether there is a wide number in this value. Constant time.
+    pub fn has_wide(&self) -> bool
+        ensures { result ≡ item_has is_wide (value_of self.now) }
+    {
+        match self {
+            Value::Atom(atom) => atom.is_wide(),
+            Value::Nested(tuple) => tuple.has_wide(),
         }
     }
 
@@ -191,6 +201,13 @@ impl<A: Allocator> Tuple<A> {
         self.extent.encoded_len as usize
     }
 
+    /// Whether there is a wide number in it, at any level. Constant time.
+    pub fn has_wide(&self) -> bool
+        ensures { result ≡ has_leaf is_wide self.now }
+    {
+        self.extent.has_wide
+    }
+
     /// The values in order.
     pub fn values(&self) -> &[Value<A>]
         ensures value { tuple_of result.now ≡ self.now }
@@ -243,7 +260,11 @@ impl<A: Allocator> Tuple<A> {
     {
         let depth = value.depth();
         let len = self.values.len();
-        let extent = match self.extent.with_item(len, depth, value.encoded_len()) {
+        let has_wide = value.has_wide();
+        let extent = match self
+            .extent
+            .with_item(len, depth, value.encoded_len(), has_wide)
+        {
             Ok(extent) => extent,
             Err(refusal) => return Err(Refused { refusal, value }),
         };

@@ -26,8 +26,8 @@ fn executes_at(report: &Report, (position, replica): (usize, u8)) -> bool {
     }
 }
 
-// A read has 15: the call, its request, which is got 4 times and each time answered at once, 4 replies that are got, and
-// the acceptance behind the third of them.
+// A read has 15: the call, its request, which is got 4 times and each time answered at once, 4 replies that are got,
+// and the acceptance behind the third of them.
 static ACCEPTED_AT: [usize; 2] = [49, 64];
 
 // A write acts where a third replica executes it, and a read of what is executed everywhere where it is called.
@@ -60,7 +60,7 @@ fn a_write_has_51_entries_and_a_read_15(rt: HostRuntime) {
 type Case<'a> = (&'a [&'a str], &'a [Row<'a>], &'a [PointRow<'a>]);
 
 // Those of two clients.
-static CASES: [Case<'static>; 4] = [
+static CASES: [Case<'static>; 5] = [
     (&[], &[], &[]),
     (&["invoke 0 out (1)", "tick c0", "tick r0"], &[], &[]),
     (
@@ -96,6 +96,23 @@ static CASES: [Case<'static>; 4] = [
             (38, 0, 1, "out (1)", "done"),
             (89, 0, 2, "inp (?int)", "found (1)"),
             (102, 1, 1, "rdp (*)", "absent"),
+        ],
+    ),
+    // The space is one of version 1.
+    (
+        &[
+            "invoke 0 out (w1)",
+            "flush",
+            "invoke 0 inAll 2 (*)",
+            "flush",
+            "invoke 1 rdp (?wide)",
+            "flush",
+        ],
+        &[(0, 1, "refused"), (0, 2, "refused"), (1, 1, "refused")],
+        &[
+            (38, 0, 1, "out (w1)", "refused"),
+            (89, 0, 2, "inAll 2 (*)", "refused"),
+            (102, 1, 1, "rdp (?wide)", "refused"),
         ],
     ),
 ];

@@ -1,6 +1,6 @@
 //! The words of the command line, and what is printed of them.
 
-use command_line::{NoRequest, Printed, Request, read_words};
+use command_line::{NoRequest, Printed, Request, SpaceVersion, read_words};
 use std::alloc::Global;
 use std::cell::RefCell;
 use std::fmt::Display;
@@ -80,7 +80,7 @@ struct Row {
     errors: &'static str,
 }
 
-static ROWS: [Row; 10] = [
+static ROWS: [Row; 15] = [
     Row {
         words: &["btspace", "--help"],
         why: NoRequest::Shown,
@@ -205,7 +205,66 @@ For more information, try '--help'.
         output: "",
         errors: "error: unexpected argument 'b' found
 
-Usage: btspace local <SCRIPT>
+Usage: btspace local [OPTIONS] <SCRIPT>
+
+For more information, try '--help'.
+",
+    },
+    Row {
+        words: &["btspace", "local", "-h"],
+        why: NoRequest::Shown,
+        output: "Runs a script on a space of its own and prints a result line for each operation
+
+Usage: btspace local [OPTIONS] <SCRIPT>
+
+Arguments:
+  <SCRIPT>  The file of the script, a line for each operation
+
+Options:
+      --space <VERSION>  The version of the space; one of version 2 also takes wide numbers and inAll [default: 1] [possible values: 1, 2]
+  -h, --help             Print help
+",
+        errors: "",
+    },
+    Row {
+        words: &["btspace", "local", "--space", "2"],
+        why: NoRequest::Wrong,
+        output: "",
+        errors: "error: the following required arguments were not provided:
+  <SCRIPT>
+
+Usage: btspace local --space <VERSION> <SCRIPT>
+
+For more information, try '--help'.
+",
+    },
+    Row {
+        words: &["btspace", "local", "--space", "3", "a"],
+        why: NoRequest::Wrong,
+        output: "",
+        errors: "error: invalid value '3' for '--space <VERSION>'
+  [possible values: 1, 2]
+
+For more information, try '--help'.
+",
+    },
+    Row {
+        words: &["btspace", "local", "a", "--space"],
+        why: NoRequest::Wrong,
+        output: "",
+        errors: "error: a value is required for '--space <VERSION>' but none was supplied
+  [possible values: 1, 2]
+
+For more information, try '--help'.
+",
+    },
+    Row {
+        words: &["btspace", "local", "--space=1", "a", "--space=2"],
+        why: NoRequest::Wrong,
+        output: "",
+        errors: "error: the argument '--space <VERSION>' cannot be used multiple times
+
+Usage: btspace local [OPTIONS] <SCRIPT>
 
 For more information, try '--help'.
 ",
@@ -237,8 +296,36 @@ fn asks_for(alloc: Global, words: &[&str], request: Request<'_>) -> bool {
 
 #[test]
 fn reads_words(rt: HostRuntime) {
-    let local = Request::Local { script: "a.bts" };
+    let local = Request::Local {
+        script: "a.bts",
+        space: SpaceVersion::One,
+    };
     assert!(rt; asks_for(rt.alloc(), &["btspace", "local", "a.bts"], local));
+    assert!(rt;
+        asks_for(
+            rt.alloc(),
+            &["btspace", "local", "--space", "1", "a.bts"],
+            local
+        )
+    );
+    let wide = Request::Local {
+        script: "a.bts",
+        space: SpaceVersion::Two,
+    };
+    assert!(rt;
+        asks_for(
+            rt.alloc(),
+            &["btspace", "local", "--space", "2", "a.bts"],
+            wide
+        )
+    );
+    assert!(rt;
+        asks_for(
+            rt.alloc(),
+            &["btspace", "local", "a.bts", "--space=2"],
+            wide
+        )
+    );
     let run = Request::Run {
         config: "a.toml",
         script: "a.bts",

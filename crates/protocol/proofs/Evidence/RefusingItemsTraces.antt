@@ -1,10 +1,13 @@
 -- Two traces of a write and a read that are not linearizable.
-use Rattle.std.proofs.Common.{◌≡◌, ◌≢◌, ℕ, ◌+◌, ◌≤◌, ◌⊎◌, inl, inr, Bool, true, false, List, [], ◌∷◌, refl, sym, ap, ◌∙◌, subst, arith, length}
-use Rattle.std.specs.Prelude.{if◌then◌else◌, Some, None}
+use Rattle.std.proofs.Common.{◌≡◌, ◌≢◌, ℕ, ◌+◌, ◌≤◌, ◌⊎◌, inl, inr, Bool, true, false, cond, List, [], ◌∷◌, refl, sym, ap, ◌∙◌, subst, arith, length}
+use Rattle.std.specs.Prelude.{if◌then◌else◌, Some, None, is_some}
 use Rattle.tuple_tree.specs.Values.{TupleTree, TemplateTree}
-use Rattle.tuple_codec.specs.Operations.{Operation, out, rdp, done, found, absent}
+use Rattle.tuple_codec.specs.Operations.{Operation, out, rdp, inp, cas, rd_all, in_all, Outcome, done, found, absent, refused, is_version_2}
 use Rattle.template_match.specs.Tests.{is_match}
-use Rattle.space.specs.Applying.{Contents, no_tuples, outcome, tuples_after, found_or_absent}
+use Rattle.space.specs.Applying.{Contents, no_tuples, with_newest, has_room, first_match, refuses, served_outcome, served_after, outcome, tuples_after, found_or_absent}
+use Rattle.space.specs.declared.version.Version.{Version}
+use Rattle.space.specs.declared.version.Version.TheVariants as versions
+use Rattle.space.proofs.Keeping.{read_same}
 use Rattle.protocol.specs.System.Configuration.{Configuration, is_correct_client}
 use Rattle.protocol.specs.System.Trace.{Entry, Once, Has}
 use Rattle.protocol.specs.System.Trace.Entry.{Invoke, Accepted}
@@ -12,6 +15,42 @@ use Rattle.protocol.specs.Space.Linear.{Item, LegalFrom, Invokes, Asks, NoneTwic
 use Rattle.protocol.specs.Evidence.RefusedItems.{WritesAreSeen, ReadsAreNotEarly}
 use Rattle.protocol.proofs.Evidence.RefusingItems.{behind, lowest}
 use Rattle.protocol.proofs.Words.Elements.{has_weaker}
+
+-- Each operation keeps the version of a space.
+keeps_version : (ts : Contents) (o : Operation) → (tuples_after ts o).version ≡ ts.version
+keeps_version ts o = go (refuses ts.version o)
+  where
+    either : (b : Bool) (us vs : Contents) → us.version ≡ ts.version → vs.version ≡ ts.version → (cond b us vs).version ≡ ts.version
+    either true us vs u v = u
+    either false us vs u v = v
+
+    added : (t : TupleTree) → (with_newest ts t).version ≡ ts.version
+    added t = either (has_room ts) _ _ refl refl
+
+    served : (o : Operation) → (served_after ts o).version ≡ ts.version
+    served (out t) = added t
+    served (rdp p) = refl
+    served (inp p) = refl
+    served (cas p t) = either (is_some (first_match p ts)) _ _ refl (added t)
+    served (rd_all n p) = refl
+    served (in_all n p) = refl
+
+    go : (b : Bool) → (cond b ts (served_after ts o)).version ≡ ts.version
+    go b = either b ts (served_after ts o) refl (served o)
+
+-- An operation that a space of version 1 answers, and not by a refusal, is one of version 1.
+is_plain : (o : Operation) (answer : Outcome) (ts : Contents) (items : List Item) → ts.version ≡ versions.One → (answer ≡ refused → ⊥) → LegalFrom ts items → Has (λ x. (x.op ≡ o) × (x.answer ≡ answer)) items
+    → is_version_2 o ≡ false
+is_plain o answer ts [] first other legal h = absurd h
+is_plain o answer ts (x ∷ items) first other legal (inl h) = go (is_version_2 o) refl
+  where
+    is_outcome : outcome ts o ≡ cond (is_version_2 o) refused (served_outcome ts o)
+    is_outcome = ap (λ (v : Version). cond (refuses v o) refused (served_outcome ts o)) first
+
+    go : (b : Bool) → is_version_2 o ≡ b → is_version_2 o ≡ false
+    go true e = absurd (other (sym h.1 ∙ legal.0 ∙ ap (outcome ts) h.0 ∙ is_outcome ∙ ap (λ (b : Bool). cond b refused (served_outcome ts o)) e))
+    go false e = e
+is_plain o answer ts (x ∷ items) first other legal (inr h) = is_plain o answer (tuples_after ts x.op) items (keeps_version ts x.op ∙ first) other legal.1 h
 
 module _ (c : Configuration) (writer reader : ℕ) (t : TupleTree) (p : TemplateTree) (differ : writer ≢ reader)
     (right_writer : is_correct_client c (256 + writer) ≡ true) (right_reader : is_correct_client c (256 + reader) ≡ true) where
@@ -29,22 +68,57 @@ module _ (c : Configuration) (writer reader : ℕ) (t : TupleTree) (p : Template
   abbrev late : List Entry
   late = Accepted reader 1 absent ∷ Invoke reader 1 (rdp p) ∷ Accepted writer 1 done ∷ Invoke writer 1 (out t) ∷ []
 
-  module _ (matches : is_match p t ≡ true) where
-    abbrev Early : Item → Type 0
-    Early x = IsWrite x × (x.position ≤ 1)
+  abbrev Early : Item → Type 0
+  Early x = IsWrite x × (x.position ≤ 1)
 
-    abbrev Late : Item → Type 0
-    Late x = IsRead x × (2 ≤ x.position)
+  abbrev Late : Item → Type 0
+  Late x = IsRead x × (2 ≤ x.position)
 
-    abbrev Misses : Item → Type 0
-    Misses x = (x.client ≡ 256 + reader) × (x.answer ≡ absent)
+  abbrev Misses : Item → Type 0
+  Misses x = (x.client ≡ 256 + reader) × (x.answer ≡ absent)
 
-    -- what the write leaves
-    abbrev written : Contents
-    written = tuples_after no_tuples (out t)
+  -- what the write leaves
+  abbrev written : Contents
+  written = tuples_after no_tuples (out t)
+
+  write_is_plain : (items : List Item) → IsLinear c items late → is_version_2 (out t) ≡ false
+  write_is_plain items linear =
+      is_plain (out t) done no_tuples items refl (λ e. let g : ⊥ = cc in g) linear.legal
+      (has_weaker (λ (x : Item). (x.client ≡ 256 + writer) × (x.timestamp ≡ 1) × (x.answer ≡ done) × Once (Invokes (256 + writer) 1 x.op) late) (λ x. (x.op ≡ out t) × (x.answer ≡ done)) (λ x h. (by x h.3, h.2)) items
+      (linear.covers.accepted (256 + writer) 1 done right_writer (inr (inr (inl (refl, refl, refl))))))
+    where
+      by : (x : Item) → Once (Invokes (256 + writer) 1 x.op) late → x.op ≡ out t
+      by x (inl h) = absurd h
+      by x (inr (inl h)) = absurd (differ (omega (arith, h.0)))
+      by x (inr (inr (inl h))) = absurd h
+      by x (inr (inr (inr (inl h)))) = sym h.2
+      by x (inr (inr (inr (inr h)))) = absurd h
+
+  read_is_plain : (items : List Item) → IsLinear c items late → is_version_2 (rdp p) ≡ false
+  read_is_plain items linear =
+      is_plain (rdp p) absent no_tuples items refl (λ e. let g : ⊥ = cc in g) linear.legal
+      (has_weaker (λ (x : Item). (x.client ≡ 256 + reader) × (x.timestamp ≡ 1) × (x.answer ≡ absent) × Once (Invokes (256 + reader) 1 x.op) late) (λ x. (x.op ≡ rdp p) × (x.answer ≡ absent)) (λ x h. (by x h.3, h.2)) items
+      (linear.covers.accepted (256 + reader) 1 absent right_reader (inl (refl, refl, refl))))
+    where
+      by : (x : Item) → Once (Invokes (256 + reader) 1 x.op) late → x.op ≡ rdp p
+      by x (inl h) = absurd h
+      by x (inr (inl h)) = sym h.2
+      by x (inr (inr (inl h))) = absurd h
+      by x (inr (inr (inr (inl h)))) = absurd (differ (omega (arith, h.0)))
+      by x (inr (inr (inr (inr h)))) = absurd h
+
+  module _ (matches : is_match p t ≡ true) (plain_write : is_version_2 (out t) ≡ false) (plain_read : is_version_2 (rdp p) ≡ false) where
+    abbrev alone : Contents
+    alone = record { version = versions.One; tuples = t ∷ [] }
+
+    is_written : written ≡ alone
+    is_written = ap (λ (b : Bool). cond b no_tuples (with_newest no_tuples t)) plain_write
 
     finds : outcome written (rdp p) ≡ found t
-    finds = ap (λ (b : Bool). found_or_absent (if b then Some t else None)) matches
+    finds =
+        ap (λ (ts : Contents). outcome ts (rdp p)) is_written
+        ∙ ap (λ (b : Bool). cond b refused (served_outcome alone (rdp p))) plain_read
+        ∙ ap (λ (b : Bool). found_or_absent (if b then Some t else None)) matches
 
     -- behind the write alone, reads find it
     after_write : (items : List Item) → ((x : Item) → Has (λ y. y ≡ x) items → Late x) → LegalFrom written items → Has Misses items → ⊥
@@ -54,7 +128,8 @@ module _ (c : Configuration) (writer reader : ℕ) (t : TupleTree) (p : Template
         let bad : absent ≡ found t = sym misses.1 ∙ legal.0 ∙ ap (outcome written) is ∙ finds in absurd cc
     after_write (x ∷ items) each legal (inr has) =
         let is : x.op ≡ rdp p = (each x (inl refl)).0.2 in
-        after_write items (λ y h. each y (inr h)) (subst (λ (o : Operation). LegalFrom (tuples_after written o) items) is legal.1) has
+        let rest : LegalFrom (tuples_after written (rdp p)) items = subst (λ (o : Operation). LegalFrom (tuples_after written o) items) is legal.1 in
+        after_write items (λ y h. each y (inr h)) (subst (λ (ts : Contents). LegalFrom ts items) (read_same written (rdp p) refl) rest) has
 
     misses_none : (items : List Item) → ((x : Item) → Has (λ y. y ≡ x) items → Early x ⊎ Late x) → NoneTwice items → NeverFall items → LegalFrom no_tuples items
         → Has (λ x. x.client ≡ 256 + writer) items → Has Misses items → ⊥
@@ -92,35 +167,35 @@ module _ (c : Configuration) (writer reader : ℕ) (t : TupleTree) (p : Template
                 by (inr l) = l
                 by (inl w) = absurd (once.0 (again y w.0 items h))
 
-    late_has_none : (items : List Item) → IsLinear c items late → ⊥
-    late_has_none items linear =
-        misses_none items each linear.covers.once linear.placed.in_order linear.legal
-        (has_weaker (λ (x : Item). (x.client ≡ 256 + writer) × (x.timestamp ≡ 1) × (x.answer ≡ done) × Once (Invokes (256 + writer) 1 x.op) late) (λ x. x.client ≡ 256 + writer) (λ x h. h.0) items
-        (linear.covers.accepted (256 + writer) 1 done right_writer (inr (inr (inl (refl, refl, refl))))))
-        (has_weaker (λ (x : Item). (x.client ≡ 256 + reader) × (x.timestamp ≡ 1) × (x.answer ≡ absent) × Once (Invokes (256 + reader) 1 x.op) late) Misses (λ x h. (h.0, h.2)) items
-        (linear.covers.accepted (256 + reader) 1 absent right_reader (inl (refl, refl, refl))))
-      where
-        each : (x : Item) → Has (λ y. y ≡ x) items → Early x ⊎ Late x
-        each x has = go (is_correct_client c x.client) refl
-          where
-            go : (b : Bool) → is_correct_client c x.client ≡ b → Early x ⊎ Late x
-            go true right = by (linear.placed.after x has right)
-              where
-                by : Once (λ past e. Invokes x.client x.timestamp x.op past e × (length past ≤ x.position)) late → Early x ⊎ Late x
-                by (inl h) = absurd h.0
-                by (inr (inl h)) = inr ((sym h.0.0, sym h.0.1, sym h.0.2), h.1)
-                by (inr (inr (inl h))) = absurd h.0
-                by (inr (inr (inr (inl h)))) =
-                    inl ((sym h.0.0, sym h.0.1, sym h.0.2), (linear.placed.before x done has right).1.1.0 (h.0.0, h.0.1, refl))
-                by (inr (inr (inr (inr h)))) = absurd h
-            go false wrong = by (linear.covers.asked x has wrong)
-              where
-                by : Once (λ past e. Asks c x.client x.timestamp x.op past e × (length past ≤ x.position)) late → Early x ⊎ Late x
-                by (inl h) = absurd h.0
-                by (inr (inl h)) = absurd h.0
-                by (inr (inr (inl h))) = absurd h.0
-                by (inr (inr (inr (inl h)))) = absurd h.0
-                by (inr (inr (inr (inr h)))) = absurd h
+  late_has_none : is_match p t ≡ true → (items : List Item) → IsLinear c items late → ⊥
+  late_has_none matches items linear =
+      misses_none matches (write_is_plain items linear) (read_is_plain items linear) items each linear.covers.once linear.placed.in_order linear.legal
+      (has_weaker (λ (x : Item). (x.client ≡ 256 + writer) × (x.timestamp ≡ 1) × (x.answer ≡ done) × Once (Invokes (256 + writer) 1 x.op) late) (λ x. x.client ≡ 256 + writer) (λ x h. h.0) items
+      (linear.covers.accepted (256 + writer) 1 done right_writer (inr (inr (inl (refl, refl, refl))))))
+      (has_weaker (λ (x : Item). (x.client ≡ 256 + reader) × (x.timestamp ≡ 1) × (x.answer ≡ absent) × Once (Invokes (256 + reader) 1 x.op) late) Misses (λ x h. (h.0, h.2)) items
+      (linear.covers.accepted (256 + reader) 1 absent right_reader (inl (refl, refl, refl))))
+    where
+      each : (x : Item) → Has (λ y. y ≡ x) items → Early x ⊎ Late x
+      each x has = go (is_correct_client c x.client) refl
+        where
+          go : (b : Bool) → is_correct_client c x.client ≡ b → Early x ⊎ Late x
+          go true right = by (linear.placed.after x has right)
+            where
+              by : Once (λ past e. Invokes x.client x.timestamp x.op past e × (length past ≤ x.position)) late → Early x ⊎ Late x
+              by (inl h) = absurd h.0
+              by (inr (inl h)) = inr ((sym h.0.0, sym h.0.1, sym h.0.2), h.1)
+              by (inr (inr (inl h))) = absurd h.0
+              by (inr (inr (inr (inl h)))) =
+                  inl ((sym h.0.0, sym h.0.1, sym h.0.2), (linear.placed.before x done has right).1.1.0 (h.0.0, h.0.1, refl))
+              by (inr (inr (inr (inr h)))) = absurd h
+          go false wrong = by (linear.covers.asked x has wrong)
+            where
+              by : Once (λ past e. Asks c x.client x.timestamp x.op past e × (length past ≤ x.position)) late → Early x ⊎ Late x
+              by (inl h) = absurd h.0
+              by (inr (inl h)) = absurd h.0
+              by (inr (inr (inl h))) = absurd h.0
+              by (inr (inr (inr (inl h)))) = absurd h.0
+              by (inr (inr (inr (inr h)))) = absurd h
 
   -- ---- a read that finds, then the write
 
@@ -144,15 +219,21 @@ module _ (c : Configuration) (writer reader : ℕ) (t : TupleTree) (p : Template
   finds_none [] each order legal has = has
   finds_none (x ∷ items) each order legal has =
       go (each x (inl refl)) has
-      (λ r f. finds_none items (λ y h. each y (inr h)) (behind x items order) (subst (λ (o : Operation). LegalFrom (tuples_after no_tuples o) items) r.0.2 legal.1) f)
+      (λ r f.
+      let rest : LegalFrom (tuples_after no_tuples (rdp p)) items = subst (λ (o : Operation). LegalFrom (tuples_after no_tuples o) items) r.0.2 legal.1 in
+      finds_none items (λ y h. each y (inr h)) (behind x items order) (subst (λ (ts : Contents). LegalFrom ts items) (read_same no_tuples (rdp p) refl) rest) f)
     where
+      nothing : (b : Bool) → found t ≡ cond b refused absent → ⊥
+      nothing true e = let g : ⊥ = cc in g
+      nothing false e = let g : ⊥ = cc in g
+
       go : Writes x ⊎ Reads x → Finds x ⊎ Has Finds items → (Reads x → Has Finds items → ⊥) → ⊥
       go (inl w) (inl f) below = not_both x w.0.0 f.0
       go (inl w) (inr f) below =
           let high = w.1 in
           let low = lowest Finds 1 x items (λ y h. h.2) order f in
           absurd (omega arith)
-      go (inr r) (inl f) below = let bad : found t ≡ absent = sym f.1 ∙ legal.0 ∙ ap (outcome no_tuples) r.0.2 in absurd cc
+      go (inr r) (inl f) below = nothing (is_version_2 (rdp p)) (sym f.1 ∙ legal.0 ∙ ap (outcome no_tuples) r.0.2)
       go (inr r) (inr f) below = below r f
 
   early_has_none : (items : List Item) → IsLinear c items early → ⊥

@@ -10,7 +10,11 @@ use tuple_text::read_line;
 
 fn is_shown(alloc: Global, kind: EntryKind, text: &[u8]) -> Result<bool, NoMemory> {
     let mut out = Vec::new(alloc);
-    write_entry(alloc, &Entry::new(kind), &mut out)?;
+    // Dropped by a call: at the end of a function all kinds of entries are told apart.
+    let entry = Entry::new(kind);
+    let written = write_entry(alloc, &entry, &mut out);
+    drop(entry);
+    written?;
     Ok(out.as_slice() == text)
 }
 
@@ -44,13 +48,14 @@ fn shows_calls(rt: HostRuntime) -> Result<(), Fail> {
 
 const CLIENT: ClientId = ClientId { number: 7 };
 
-fn shows_states(alloc: Global) -> Result<bool, NoMemory> {
+fn shows_batch(alloc: Global) -> Result<bool, NoMemory> {
     let executed = EntryKind::Executed(ReplicaId(0), Number(1), Vec::new(alloc));
+    is_shown(alloc, executed, b"executed r0 number 1 null")
+}
+
+fn shows_state(alloc: Global) -> Result<bool, NoMemory> {
     let installed = EntryKind::Installed(ReplicaId(1), Number(32), [0xab; 32]);
-    Ok(
-        is_shown(alloc, executed, b"executed r0 number 1 null")?
-            && is_shown(alloc, installed, b"installed r1 number 32 root abababab")?,
-    )
+    is_shown(alloc, installed, b"installed r1 number 32 root abababab")
 }
 
 fn shows_tick(alloc: Global) -> Result<bool, NoMemory> {
@@ -71,7 +76,8 @@ fn shows_answer(alloc: Global) -> Result<bool, NoMemory> {
 fn shows_what_happens(rt: HostRuntime) -> Result<(), Fail> {
     assert!(rt; shows_tick(rt.alloc())?);
     assert!(rt; shows_no_frame(rt.alloc())?);
-    assert!(rt; shows_states(rt.alloc())?);
+    assert!(rt; shows_batch(rt.alloc())?);
+    assert!(rt; shows_state(rt.alloc())?);
     assert!(rt; shows_answer(rt.alloc())?);
     Ok(())
 }

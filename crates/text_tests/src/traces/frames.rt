@@ -329,26 +329,42 @@ fn new_view(alloc: Global, start: &Row) -> Result<Vec<u8>, AllocError> {
 
 fn has_line(alloc: Global, kind: EntryKind, line: &str) -> Result<bool, NoMemory> {
     let mut out = Vec::new(alloc);
-    write_entry(alloc, &Entry::new(kind), &mut out)?;
+    // Dropped by a call: at the end of a function all kinds of entries are told apart.
+    let entry = Entry::new(kind);
+    let written = write_entry(alloc, &entry, &mut out);
+    drop(entry);
+    written?;
     Ok(out.as_slice() == line.as_bytes())
 }
 
-// The lines of the frame where it is got, and where it is sent.
-fn is_shown(alloc: Global, frame: Vec<u8>, text: &str, receivers: &str) -> Result<bool, NoMemory> {
-    let party = Party::Replica(ReplicaId(1));
-    let mut again = Vec::new(alloc);
-    again.extend_from_slice(frame.as_slice())?;
-    let got = format!(in alloc; "got r1 {text}")?;
-    let sent = format!(in alloc; "sent r1 {text} to {receivers}")?;
-    Ok(
-        has_line(alloc, EntryKind::Got(party, frame), got.as_str())?
-            && has_line(alloc, EntryKind::Sent(party, again), sent.as_str())?,
+fn is_got(alloc: Global, frame: &[u8], text: &str) -> Result<bool, NoMemory> {
+    let line = format!(in alloc; "got r1 {text}")?;
+    let frame = frame.to_vec(alloc)?;
+    has_line(
+        alloc,
+        EntryKind::Got(Party::Replica(ReplicaId(1)), frame),
+        line.as_str(),
     )
+}
+
+fn is_sent(alloc: Global, frame: &[u8], text: &str, receivers: &str) -> Result<bool, NoMemory> {
+    let line = format!(in alloc; "sent r1 {text} to {receivers}")?;
+    let frame = frame.to_vec(alloc)?;
+    has_line(
+        alloc,
+        EntryKind::Sent(Party::Replica(ReplicaId(1)), frame),
+        line.as_str(),
+    )
+}
+
+// The lines of the frame where it is got, and where it is sent.
+fn is_shown(alloc: Global, frame: &[u8], text: &str, receivers: &str) -> Result<bool, NoMemory> {
+    Ok(is_got(alloc, frame, text)? && is_sent(alloc, frame, text, receivers)?)
 }
 
 fn shows_sealed(alloc: Global, row: &Row) -> Result<bool, NoMemory> {
     let frame = sealed(alloc, row)?;
-    is_shown(alloc, frame, row.text, "r0,c1")
+    is_shown(alloc, &frame, row.text, "r0,c1")
 }
 
 #[test]
@@ -361,12 +377,12 @@ fn shows_frames_with_macs(rt: HostRuntime) -> Result<(), Fail> {
 
 fn shows_signed(alloc: Global, row: &Row) -> Result<bool, NoMemory> {
     let frame = signed_row(alloc, row)?;
-    is_shown(alloc, frame, row.text, "all")
+    is_shown(alloc, &frame, row.text, "all")
 }
 
 fn shows_new_view(alloc: Global, start: &Row) -> Result<bool, NoMemory> {
     let frame = new_view(alloc, start)?;
-    is_shown(alloc, frame, start.text, "all")
+    is_shown(alloc, &frame, start.text, "all")
 }
 
 #[test]
@@ -438,24 +454,35 @@ fn is_written(alloc: Global, entry: &Entry, out: &mut Vec<u8>) -> Result<bool, N
 }
 
 fn with_line_feed(alloc: Global) -> Result<Vec<u8>, AllocError> {
-    let mut out = Vec::new(alloc);
-    out.push(b'\n')?;
-    Ok(out)
+    b"\n".to_vec(alloc)
+}
+
+// The entry, at the second try where memory ran out at the first one.
+fn sent_batch_again(alloc: Global) -> Result<Entry, AllocError> {
+    match sent_batch(alloc) {
+        Ok(entry) => Ok(entry),
+        Err(_) => sent_batch(alloc),
+    }
+}
+
+// And the byte.
+fn line_feed_again(alloc: Global) -> Result<Vec<u8>, AllocError> {
+    match with_line_feed(alloc) {
+        Ok(out) => Ok(out),
+        Err(_) => with_line_feed(alloc),
+    }
+}
+
+fn is_written_behind(alloc: Global, entry: &Entry) -> Result<bool, NoMemory> {
+    let mut out = line_feed_again(alloc)?;
+    is_written(alloc, entry, &mut out)
 }
 
 // Passes whichever growth is refused, as by `tools/growths`: the bytes are as before, and a second
 // try gives the line.
 #[test]
 fn refused_memory(rt: HostRuntime) -> Result<(), Fail> {
-    let alloc = rt.alloc();
-    let entry = match sent_batch(alloc) {
-        Ok(entry) => entry,
-        Err(_) => sent_batch(alloc)?,
-    };
-    let mut out = match with_line_feed(alloc) {
-        Ok(out) => out,
-        Err(_) => with_line_feed(alloc)?,
-    };
-    assert!(rt; is_written(alloc, &entry, &mut out)?);
+    let entry = sent_batch_again(rt.alloc())?;
+    assert!(rt; is_written_behind(rt.alloc(), &entry)?);
     Ok(())
 }

@@ -6,7 +6,7 @@ use tuple_codec::{Op, encode_op};
 use tuple_text::{LineFault, read_line, read_template, write_op, write_tuple};
 
 // Lines and the bytes of their operations.
-static LINES: [(&[u8], &[u8]); 17] = [
+static LINES: [(&[u8], &[u8]); 26] = [
     (b"out (1)", b"\x21\x01\x01\0\0\0\0\0\0\0\x01"),
     (
         b"  out   ( 1  -2 )  ",
@@ -48,10 +48,34 @@ static LINES: [(&[u8], &[u8]); 17] = [
     ),
     (b"out (x09af)", b"\x21\x01\x03\0\x02\x09\xAF"),
     (b"out (x)", b"\x21\x01\x03\0\0"),
+    (
+        b"out (w1 w0)",
+        b"\x21\x02\x06\0\0\0\0\0\0\0\0\0\0\0\0\0\0\0\x01\x06\0\0\0\0\0\0\0\0\0\0\0\0\0\0\0\0",
+    ),
+    (
+        b"out (w-1)",
+        b"\x21\x01\x06\xff\xff\xff\xff\xff\xff\xff\xff\xff\xff\xff\xff\xff\xff\xff\xff",
+    ),
+    (
+        b"out (w170141183460469231731687303715884105727)",
+        b"\x21\x01\x06\x7f\xff\xff\xff\xff\xff\xff\xff\xff\xff\xff\xff\xff\xff\xff\xff",
+    ),
+    (
+        b"out (w-170141183460469231731687303715884105728)",
+        b"\x21\x01\x06\x80\0\0\0\0\0\0\0\0\0\0\0\0\0\0\0",
+    ),
+    (b"inp (?wide)", b"\x23\x01\x16"),
+    (b"inAll 2 (?wide)", b"\x26\x02\x01\x16"),
+    (b"inAll 64 (*)", b"\x26\x40\x01\x10"),
+    (b"inAll 1 ()", b"\x26\x01\0"),
+    (
+        b"  inAll   10  ( \"a\"  (?int) )  ",
+        b"\x26\x0a\x02\x02\0\x01a\x05\x01\x11",
+    ),
 ];
 
 // Lines with the byte that no line goes on with.
-static BAD_BYTES: [(&[u8], usize); 47] = [
+static BAD_BYTES: [(&[u8], usize); 75] = [
     (b"rdp (1)(2)", 7),
     (b"out (01)", 6),
     (b"out (-0)", 6),
@@ -100,14 +124,46 @@ static BAD_BYTES: [(&[u8], usize); 47] = [
     (b"out (\"\xF0\x9D\x84", 9),
     (b"out (\"\xF5\x80\x80\x80\"", 6),
     (b"out (x00fFx", 9),
+    (b"out (w)", 6),
+    (b"out (w01)", 7),
+    (b"out (w-0)", 7),
+    (b"out (w170141183460469231731687303715884105728)", 44),
+    (b"out (w-170141183460469231731687303715884105729)", 45),
+    (b"out (?wide)", 5),
+    (b"rdp (?wid)", 9),
+    // The offsets of these were computed by an independent reader of the same grammar.
+    (b"i", 1),
+    (b"in", 2),
+    (b"inx (*)", 2),
+    (b"inall 1 (*)", 2),
+    (b"inA", 3),
+    (b"inpAll 1 (*)", 3),
+    (b"inp 1 (*)", 4),
+    (b"inAl", 4),
+    (b"inAl 1 (*)", 4),
+    (b"inAll", 5),
+    (b"inAll1 (*)", 5),
+    (b"inAll ", 6),
+    (b"inAll (*)", 6),
+    (b"inAll 0 (*)", 6),
+    (b"inAll 064 (*)", 6),
+    (b"inAll 1", 7),
+    (b"inAll 65 (*)", 7),
+    (b"inAll 64(*)", 8),
+    (b"inAll 640 (*)", 8),
+    (b"inAll 1 (*", 10),
+    (b"inAll 6 (*) (1)", 12),
 ];
 
 // Whether the line is read as the operation of these bytes.
 fn is_read(alloc: Global, line: &[u8], bytes: &[u8]) -> Result<bool, Fail> {
-    match read_line(alloc, line)? {
-        Some(op) => is_spelled(alloc, &op, bytes),
-        None => Ok(false),
-    }
+    let Some(op) = read_line(alloc, line)? else {
+        return Ok(false);
+    };
+    // Dropped by a call: at the end of a function all kinds of operations are told apart.
+    let is_right = is_spelled(alloc, &op, bytes);
+    drop(op);
+    is_right
 }
 
 fn is_spelled(alloc: Global, op: &Op<Global>, bytes: &[u8]) -> Result<bool, Fail> {
@@ -145,7 +201,11 @@ fn skips_lines(rt: HostRuntime) {
     }
 }
 
-static TOO_DEEP: [&[u8]; 2] = [b"out (((((((((1)))))))))", b"inp ((((((((((x"];
+static TOO_DEEP: [&[u8]; 3] = [
+    b"out (((((((((1)))))))))",
+    b"inp ((((((((((x",
+    b"inAll 3 (((((((((",
+];
 
 #[test]
 fn a_ninth_level_is_too_deep(rt: HostRuntime) {
@@ -157,7 +217,7 @@ fn a_ninth_level_is_too_deep(rt: HostRuntime) {
 // The head, an item so many times, and the tail; with the fault of that line.
 type Long<'a> = (&'a [u8], &'a [u8], usize, &'a [u8], Option<LineFault>);
 
-static LONG: [Long<'static>; 13] = [
+static LONG: [Long<'static>; 16] = [
     // A 33rd item is too much. At one byte the levels come before the items.
     (b"out (", b"1 ", 32, b")", None),
     (b"out (", b"1 ", 33, b"", Some(LineFault::TooManyFields)),
@@ -183,6 +243,15 @@ static LONG: [Long<'static>; 13] = [
     ),
     (b"cas (\"", b"a", 1021, b"\") (*", Some(LineFault::TooLong)),
     (b"cas () (\"", b"a", 1021, b"\")", Some(LineFault::TooLong)),
+    (
+        b"inAll 3 ((",
+        b"1 ",
+        33,
+        b"",
+        Some(LineFault::TooManyFields),
+    ),
+    (b"inAll 3 (\"", b"a", 1020, b"\")", None),
+    (b"inAll 3 (\"", b"a", 1021, b"\")", Some(LineFault::TooLong)),
     // A nested list is not judged where it is closed.
     (
         b"out ((\"",
@@ -268,10 +337,12 @@ fn is_written(alloc: Global, op: &Op<Global>, text: &[u8]) -> Result<bool, Fail>
 
 // Whether the line is read and its tuple written as this text.
 fn is_written_again(alloc: Global, line: &[u8], text: &[u8]) -> Result<bool, Fail> {
-    match read_line(alloc, line)? {
-        Some(op) => is_written(alloc, &op, text),
-        None => Ok(false),
-    }
+    let Some(op) = read_line(alloc, line)? else {
+        return Ok(false);
+    };
+    let is_right = is_written(alloc, &op, text);
+    drop(op);
+    is_right
 }
 
 #[test]
@@ -283,13 +354,16 @@ fn reads_what_is_written(rt: HostRuntime) -> Result<(), Fail> {
 }
 
 // Lines as they are written.
-static WRITTEN: [&[u8]; 6] = [
+static WRITTEN: [&[u8]; 9] = [
     b"out (-1 \"\xc3\xa9\\x00\" (x0a ()) false)",
     b"rdp (* ?int (?text ?bytes) ?bool ?tuple 2)",
     b"inp ()",
     b"cas (\"k\" *) (\"k\" -1)",
     b"rdAll 64 (* ())",
     b"rdAll 1 ((((((((?tuple))))))))",
+    b"inAll 64 (* ())",
+    b"inAll 2 (?wide (?wide))",
+    b"cas (?wide w-170141183460469231731687303715884105728) (w0 w170141183460469231731687303715884105727)",
 ];
 
 // Whether the operation's line is written, at the second try where memory runs out at the first.
@@ -300,15 +374,18 @@ fn has_line(alloc: Global, op: &Op<Global>, line: &[u8]) -> bool {
     is_done && out.as_slice() == line
 }
 
-fn line_again(alloc: Global, line: &[u8]) -> bool {
-    let op = match read_line(alloc, line) {
+fn read_again(alloc: Global, line: &[u8]) -> Result<Option<Op<Global>>, LineFault> {
+    match read_line(alloc, line) {
         Err(LineFault::NoMemory) => read_line(alloc, line),
         first => first,
-    };
-    match op {
-        Ok(Some(op)) => has_line(alloc, &op, line),
-        _ => false,
     }
+}
+
+fn line_again(alloc: Global, line: &[u8]) -> bool {
+    let op = read_again(alloc, line);
+    let is_right = matches!(&op, Ok(Some(op)) if has_line(alloc, op, line));
+    drop(op);
+    is_right
 }
 
 // Passes whichever growth is refused, as by `tools/growths`: the bytes are as before, and a second

@@ -2,10 +2,10 @@ use Rattle.one_space.proofs.RunLemmas.{moved, write_stops}
 use Rattle.one_space.proofs.session.Session.run_line.Goals as goal
 
 pub returns-in-Ok-clause-along : goal.returns-in-Ok-clause-along
-returns-in-Ok-clause-along g c bytes start along =
-    c.answer_line.ensures.along _ bytes start
-    (moved bytes _ start _ _ _ _ _ _ along (c.in-Ok.ensures {u = tt}).results)
+returns-in-Ok-clause-along g c initial bytes start along =
+    c.answer_line.ensures.along _ initial bytes start
+    (moved initial bytes _ start _ _ _ _ _ _ along (c.in-Ok.ensures {u = tt}).results)
 
 pub returns-in-Err-clause-along : goal.returns-in-Err-clause-along
-returns-in-Err-clause-along g c bytes start along =
-    write_stops bytes start _ _ c.in-Err.fault (c.in-Err.ensures {u = tt}).err
+returns-in-Err-clause-along g c initial bytes start along =
+    write_stops initial bytes start _ _ c.in-Err.fault (c.in-Err.ensures {u = tt}).err

@@ -9,6 +9,6 @@ abbrev pub invariant-loop-number : goal.invariant-loop-number
 invariant-loop-number g l = record {
   births : l.self.space.next ≤ 257 * l.number;
   along : IfSome (reader_remaining g.R.Read.remaining l.initial.reader) (λ bytes.
-      Along bytes (reader_remaining g.R.Read.remaining l.reader) (g.W.Write.contents l.initial.writer)
+      Along (tuples_of l.initial.self.space) bytes (reader_remaining g.R.Read.remaining l.reader) (g.W.Write.contents l.initial.writer)
       (g.W.Write.contents l.writer) l.number (tuples_of l.self.space) l.self.results.items);
 }

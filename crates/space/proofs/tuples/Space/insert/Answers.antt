@@ -1,6 +1,7 @@
 use Rattle.std.proofs.Common.{◌≡◌, ◌<◌, ◌^◌, ◌%◌, refl, length, sym, ap, subst, ◌∙◌, arith}
 use Rattle.std.specs.Ordering.{nat_cmp}
 use Rattle.std.specs.BTreeMap.{insert_entry}
+use Rattle.space.specs.Applying.{most_tuples}
 use Rattle.space.specs.Births.{with_birth}
 use Rattle.space.specs.Counted.{IsIndexed}
 use Rattle.space.proofs.Keeping.{birth_soon, birth_from}
@@ -34,9 +35,9 @@ overflow_add-self g c =
 
 pub overflow_add-self-2 : goal.overflow_add-self-2
 overflow_add-self-2 g c =
-    let room = subst (λ s. length s.entries < 8192) (sym c.self.view_is) c.requires.room in
+    let room = subst (λ s. length s.entries < most_tuples s.version) (sym c.self.view_is) c.requires.room in
     let births = subst (λ s. s.next < 2 ^ 62) (sym c.self.view_is) c.requires.births in
-    let soon = birth_soon c.self.inside.tuples.entries c.self.inside.next c.self.inside.page_counts c.self.invariant.counts c.next_birth-birth.result c.next_birth-birth.ensures room in
+    let soon = birth_soon c.self.inside.version c.self.inside.tuples.entries c.self.inside.next c.self.inside.page_counts c.self.invariant.counts c.next_birth-birth.result c.next_birth-birth.ensures room in
     omega arith
 
 pub invariant_of-self : goal.invariant_of-self
@@ -48,7 +49,7 @@ pub invariant_of-self-in-Err : goal.invariant_of-self-in-Err
 invariant_of-self-in-Err g c =
     let es = c.self.inside.tuples.entries in
     let h = c.self.invariant in
-    subst (λ xs. IsIndexed xs c.self.inside.next c.self.inside.page_counts c.prune.new.self) (ap (λ s. s.entries) (sym (c.in-Err.ensures {u = tt}).err))
+    subst (λ xs. IsIndexed c.self.inside.version xs c.self.inside.next c.self.inside.page_counts c.prune.new.self) (ap (λ s. s.entries) (sym (c.in-Err.ensures {u = tt}).err))
     (record { counts = h.counts; indexed = c.prune.ensures.kept es (c.reserve.ensures.kept es h.indexed) })
 
 pub add-requires : goal.add-requires
@@ -61,10 +62,10 @@ invariant_of-self-2 g c =
     let counts = c.self.inside.page_counts in
     let h = c.self.invariant in
     let b = c.next_birth-birth.result in
-    let room = subst (λ s. length s.entries < 8192) (sym c.self.view_is) c.requires.room in
-    let newest = birth_from es next counts h.counts b c.next_birth-birth.ensures room in
+    let room = subst (λ s. length s.entries < most_tuples s.version) (sym c.self.view_is) c.requires.room in
+    let newest = birth_from c.self.inside.version es next counts h.counts b c.next_birth-birth.ensures room in
     let same : c.in_ok-copy.copy ≡ c.args.tuple.now = c.in_ok-copy.ensures {u = tt} in
-    IsIndexed-added es next counts c.self.inside.index h b newest c.args.tuple.now c.insert.new.self.entries c.add.new.self c.self.told c.note_tuple.ensures room c.next_birth-birth.ensures
+    IsIndexed-added c.self.inside.version es next counts c.self.inside.index h b newest c.args.tuple.now c.insert.new.self.entries c.add.new.self c.self.told c.note_tuple.ensures room c.next_birth-birth.ensures
     (subst (λ t. c.insert.new.self.entries ≡ insert_entry nat_cmp es b t) same (c.in_default.ensures {u = tt}).entries)
     (λ fs k. c.add.ensures fs (c.reserve.ensures.kept fs k))
 
@@ -75,9 +76,9 @@ returns-clause-ok g c =
     let counts = c.self.inside.page_counts in
     let h = c.self.invariant in
     let b = c.next_birth-birth.result in
-    let room = subst (λ s. length s.entries < 8192) (sym c.self.view_is) c.requires.room in
-    let newest = birth_from es next counts h.counts b c.next_birth-birth.ensures room in
+    let room = subst (λ s. length s.entries < most_tuples s.version) (sym c.self.view_is) c.requires.room in
+    let newest = birth_from c.self.inside.version es next counts h.counts b c.next_birth-birth.ensures room in
     let same : c.in_ok-copy.copy ≡ c.args.tuple.now = c.in_ok-copy.ensures {u = tt} in
-    added_state es next counts c.self.inside.index h b newest c.args.tuple.now c.insert.new.self.entries c.next_birth-birth.ensures
+    added_state c.self.inside.version es next counts c.self.inside.index h b newest c.args.tuple.now c.insert.new.self.entries c.next_birth-birth.ensures
     (subst (λ t. c.insert.new.self.entries ≡ insert_entry nat_cmp es b t) same (c.in_default.ensures {u = tt}).entries)
     ∙ ap (λ s. with_birth s c.args.tuple.now) c.self.view_is

@@ -1,31 +1,52 @@
-use Rattle.std.proofs.Common.{◌≡◌, sym, ap, subst, ◌∙◌, arith}
+use Rattle.std.proofs.Common.{◌≡◌, ◌%◌, true, set, refl, sym, ap, subst, ◌∙◌}
 use Rattle.tuple_codec.specs.OperationView.{operation_of}
-use Rattle.space.specs.Watching.{KeepsPage}
-use Rattle.space.specs.Pages.{page_text}
-use Rattle.space.proofs.Changing.{text_with_tuple, text_swapped, text_taken, marks_one, marks_none}
-use Rattle.space.proofs.Finding.{none_taken}
+use Rattle.space.specs.Births.{birth_of, oldest_births}
+use Rattle.space.specs.Marking.{with_pages}
+use Rattle.space.specs.Watching.{served_births}
+use Rattle.space.proofs.Taking.{one_oldest, none_oldest}
+use Rattle.space.proofs.Touching.{refused_births, births_served}
 use Rattle.space.proofs.tuples.Space.mark_changed.Goals as goal
+
+pub returns-then-is_refused : goal.returns-then-is_refused
+returns-then-is_refused g c =
+    ap (with_pages c.args.pages.now) (refused_births c.args.self.now (operation_of c.args.op.now) (sym c.is_refused.ensures ∙ c.if-is_refused.true))
 
 pub returns-in-Out : goal.returns-in-Out
 returns-in-Out g c =
     let s = c.args.self.now in
-    marks_one s (operation_of c.args.op.now) c.args.pages.now c.add_page.new.pages c.next_page.result c.add_page.array_long (omega (arith, c.next_page.ensures)) c.add_page.ensures
-    (λ page other. subst (λ o. KeepsPage s (operation_of o) page) (sym c.in-Out.is) (text_with_tuple s page (λ q. other (c.next_page.ensures ∙ q)) _))
+    let old = c.args.pages.now in
+    c.add_page.ensures ∙ ap (λ page. set old page true) c.next_page.ensures
+    ∙ subst (λ op. set old (birth_of s % 256) true ≡ with_pages old (served_births s (operation_of op))) (sym c.in-Out.is) refl
+    ∙ ap (with_pages old) (births_served s (operation_of c.args.op.now) (sym c.is_refused.ensures ∙ c.if-is_refused.false))
 
 pub returns-in-Cas : goal.returns-in-Cas
 returns-in-Cas g c =
     let s = c.args.self.now in
-    marks_one s (operation_of c.args.op.now) c.args.pages.now c.add_page-in-Cas.new.pages c.next_page-in-Cas.result c.add_page-in-Cas.array_long (omega (arith, c.next_page-in-Cas.ensures)) c.add_page-in-Cas.ensures
-    (λ page other. subst (λ o. KeepsPage s (operation_of o) page) (sym c.in-Cas.is) (text_swapped s page (λ q. other (c.next_page-in-Cas.ensures ∙ q)) _ _))
+    let old = c.args.pages.now in
+    c.add_page-in-Cas.ensures ∙ ap (λ page. set old page true) c.next_page-in-Cas.ensures
+    ∙ subst (λ op. set old (birth_of s % 256) true ≡ with_pages old (served_births s (operation_of op))) (sym c.in-Cas.is) refl
+    ∙ ap (with_pages old) (births_served s (operation_of c.args.op.now) (sym c.is_refused.ensures ∙ c.if-is_refused.false))
 
 pub returns-in-Some : goal.returns-in-Some
 returns-in-Some g c =
     let s = c.args.self.now in
-    marks_one s (operation_of c.args.op.now) c.args.pages.now c.add_page-in-Some.new.pages _ c.add_page-in-Some.array_long (omega arith) c.add_page-in-Some.ensures
-    (λ page other. subst (λ o. KeepsPage s (operation_of o) page) (sym c.in-Inp.is) (text_taken s c.in-Inp.template _ page c.in-Some.ensures.value other))
+    let old = c.args.pages.now in
+    c.add_page-in-Some.ensures ∙ sym (ap (with_pages old) (one_oldest c.in-Inp.template s.entries _ c.in-Some.ensures.value))
+    ∙ subst (λ op. with_pages old (oldest_births 1 c.in-Inp.template s.entries) ≡ with_pages old (served_births s (operation_of op))) (sym c.in-Inp.is) refl
+    ∙ ap (with_pages old) (births_served s (operation_of c.args.op.now) (sym c.is_refused.ensures ∙ c.if-is_refused.false))
 
 pub returns-in_default : goal.returns-in_default
 returns-in_default g c =
     let s = c.args.self.now in
-    marks_none s (operation_of c.args.op.now) c.args.pages.now
-    (λ page. subst (λ o. KeepsPage s (operation_of o) page) (sym c.in-Inp.is) (ap (λ x. page_text x page) (none_taken s c.in-Inp.template c.in_default.ensures.value)))
+    let old = c.args.pages.now in
+    sym (ap (with_pages old) (none_oldest c.in-Inp.template s.entries c.in_default.ensures.value))
+    ∙ subst (λ op. with_pages old (oldest_births 1 c.in-Inp.template s.entries) ≡ with_pages old (served_births s (operation_of op))) (sym c.in-Inp.is) refl
+    ∙ ap (with_pages old) (births_served s (operation_of c.args.op.now) (sym c.is_refused.ensures ∙ c.if-is_refused.false))
+
+pub returns-in-InAll : goal.returns-in-InAll
+returns-in-InAll g c =
+    let s = c.args.self.now in
+    let old = c.args.pages.now in
+    c.add_pages.ensures ∙ ap (with_pages old) (c.as_slice.ensures.value ∙ c.oldest_births-births.ensures.value)
+    ∙ subst (λ op. with_pages old (oldest_births c.in-InAll.max.count c.in-InAll.template s.entries) ≡ with_pages old (served_births s (operation_of op))) (sym c.in-InAll.is) refl
+    ∙ ap (with_pages old) (births_served s (operation_of c.args.op.now) (sym c.is_refused.ensures ∙ c.if-is_refused.false))

@@ -9,7 +9,7 @@ use Rattle.space.proofs.tuples.Space.oldest_match.Goals as goal
 
 pub returns-clause-value : goal.returns-clause-value
 returns-clause-value g c =
-    let s : SpaceState = record { entries = c.self.inside.tuples.entries; next = c.self.inside.next } in
+    let s : SpaceState = record { version = c.self.inside.version; entries = c.self.inside.tuples.entries; next = c.self.inside.next } in
     let h = c.self.invariant.counts.state in
     let p = c.args.template.now in
     c.oldest_match.ensures

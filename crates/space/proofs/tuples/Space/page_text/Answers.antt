@@ -8,7 +8,7 @@ use Rattle.space.proofs.tuples.Space.page_text.Goals as goal
 
 pub returns : goal.returns
 returns c =
-    let s : SpaceState = record { entries = c.self.inside.tuples.entries; next = c.self.inside.next } in
+    let s : SpaceState = record { version = c.self.inside.version; entries = c.self.inside.tuples.entries; next = c.self.inside.next } in
     let h = c.self.invariant.counts.state in
     let births = c.on_page.ensures s.entries c.self.invariant.indexed in
     let same : entries_text (entries_at s.entries c.on_page.result.now) ≡ page_text c.args.self.now c.args.page =

@@ -1,9 +1,11 @@
-use Rattle.std.proofs.Common.{◌≡◌, [], length, map, get_or, sym, ap, subst, arith, ◌∙◌}
+use Rattle.std.proofs.Common.{◌≡◌, ◌≤◌, [], length, map, get_or, sym, ap, subst, arith, ◌∙◌}
 use Rattle.std.proofs.lemmas.List.{get_or-map}
 use Rattle.std.proofs.lemmas.Result.{err_from_is_err_and}
+use Rattle.space.specs.Applying.{most_tuples}
 use Rattle.space.specs.Counted.{IsIndexed}
 use Rattle.space.specs.Pages.{on_page}
 use Rattle.space.specs.Reading.{IsPage, ArePagesRead, ArePagesOf}
+use Rattle.space.specs.declared.version.Version.TheVariants as versions
 use Rattle.space.proofs.Restoring.{ArePagesRead-none, ArePagesRead-more, IsPage-of_state, same_entries, IsCounted-read, ArePagesOf-read}
 use Rattle.space.proofs.tuples.Space.with_pages.Goals as goal
 
@@ -31,7 +33,7 @@ returns-then-len-gt-MAX_TUPLES-clause-only c s of =
     let end : c.loop-page.page ≡ 256 = omega arith in
     let read = subst (λ n. ArePagesRead n c.args.next texts c.loop-page.tuples.entries c.loop-page.page_counts) end c.loop-page.invariant in
     let same = same_entries c.args.next texts c.loop-page.tuples.entries c.loop-page.page_counts read s (omega arith) of in
-    let few = of.state.count in
+    let few : length s.entries ≤ 8192 = subst (λ v. length s.entries ≤ most_tuples v) of.version of.state.count in
     absurd (omega (arith, ap length same))
 
 pub of-requires-2 : goal.of-requires-2
@@ -42,7 +44,7 @@ invariant_of-result c =
     let texts = map (λ page. page.now) c.args.pages.now in
     let end : c.loop-page.page ≡ 256 = omega arith in
     let read = subst (λ n. ArePagesRead n c.args.next texts c.loop-page.tuples.entries c.loop-page.page_counts) end c.loop-page.invariant in
-    subst (λ es. IsIndexed es c.args.next c.loop-page.page_counts c.in_ok-index.index) (sym (c.in_ok-tuples.ensures {u = tt}))
+    subst (λ es. IsIndexed versions.One es c.args.next c.loop-page.page_counts c.in_ok-index.index) (sym (c.in_ok-tuples.ensures {u = tt}))
     (record { counts = IsCounted-read c.args.next texts c.loop-page.tuples.entries c.loop-page.page_counts read (omega arith); indexed = c.in_ok-index.ensures {u = tt} })
 
 pub returns-clause-found : goal.returns-clause-found
@@ -50,5 +52,5 @@ returns-clause-found c =
     let texts = map (λ page. page.now) c.args.pages.now in
     let end : c.loop-page.page ≡ 256 = omega arith in
     let read = subst (λ n. ArePagesRead n c.args.next texts c.loop-page.tuples.entries c.loop-page.page_counts) end c.loop-page.invariant in
-    subst (λ es. ArePagesOf c.args.next texts (record { entries = es; next = c.args.next })) (sym (c.in_ok-tuples.ensures {u = tt}))
+    subst (λ es. ArePagesOf c.args.next texts (record { version = versions.One; entries = es; next = c.args.next })) (sym (c.in_ok-tuples.ensures {u = tt}))
     (ArePagesOf-read c.args.next texts c.loop-page.tuples.entries c.loop-page.page_counts read (omega arith))

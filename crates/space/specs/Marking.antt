@@ -1,0 +1,13 @@
+-- What the private functions that mark pages speak of.
+use Rattle.std.specs.Prelude.{◌≡◌, ℕ, ◌%◌, Bool, true, List, fold, slice_set}
+use Rattle.tuple_codec.specs.Operations.{Operation}
+use Rattle.space.specs.Births.{SpaceState}
+use Rattle.space.specs.Watching.{touched_births}
+
+-- a set of pages with those of these births
+abbrev pub with_pages : List Bool → List ℕ → List Bool
+with_pages pages births = fold (λ set birth. slice_set set (birth % 256) true) pages births
+
+-- Just the pages that the operation may change are added to a set of pages.
+abbrev pub MarksChanged : SpaceState → Operation → List Bool → List Bool → Type 0
+MarksChanged s o old new = new ≡ with_pages old (touched_births s o)
