@@ -1,7 +1,7 @@
 //! Texts that are configurations, and texts that are none.
 
 use config_text::{ConfigFault, Settings, read_config};
-use std::alloc::{AllocError, Global};
+use std::alloc::Global;
 use std::test::Fail;
 
 const SEED: &str = "seed = \"000102030405060708090a0b0c0d0e0f101112131415161718191A1B1C1D1E1F\"\n";
@@ -155,10 +155,33 @@ fn has_seed(settings: &Settings) -> bool {
         .all(|(i, byte)| usize::from(*byte) == i)
 }
 
-// Why the two together are no configuration; `None` where they are one.
-fn refusal(alloc: Global, front: &str, seed: &str) -> Result<Option<ConfigFault>, AllocError> {
+// Whether these bytes are refused. Want of memory is no answer, and is handed on.
+fn are_refused(alloc: Global, text: &[u8]) -> Result<bool, ConfigFault> {
+    match read_config(alloc, text) {
+        Ok(_) => Ok(false),
+        Err(ConfigFault::Refused) => Ok(true),
+        Err(ConfigFault::NoMemory) => Err(ConfigFault::NoMemory),
+    }
+}
+
+// Whether the two together are no configuration.
+fn is_none(alloc: Global, front: &str, seed: &str) -> Result<bool, ConfigFault> {
     let text = format!(in alloc; "{front}{seed}")?;
-    Ok(read_config(alloc, text.as_bytes()).err())
+    are_refused(alloc, text.as_bytes())
+}
+
+// The first of these texts that is a configuration together with this seed.
+fn first_taken(
+    alloc: Global,
+    fronts: &[&'static str],
+    seed: &str,
+) -> Result<Option<&'static str>, ConfigFault> {
+    for front in fronts {
+        if !is_none(alloc, front, seed)? {
+            return Ok(Some(*front));
+        }
+    }
+    Ok(None)
 }
 
 // The last byte is no UTF-8.
@@ -173,18 +196,26 @@ fn reads_configurations(rt: HostRuntime) -> Result<(), Fail> {
     Ok(())
 }
 
+// The first of all texts here that are none that is a configuration.
+fn first_that_is_some(alloc: Global) -> Result<Option<&'static str>, ConfigFault> {
+    let seed_first = [SEED];
+    let groups: [(&[&'static str], &str); 3] = [
+        (&REFUSED, SEED),
+        (&REFUSED_SEEDS, ""),
+        (&seed_first, "f = 1\nclients = 1\n\u{1}\n"),
+    ];
+    for (fronts, seed) in groups {
+        if let Some(text) = first_taken(alloc, fronts, seed)? {
+            return Ok(Some(text));
+        }
+    }
+    Ok(None)
+}
+
 #[test]
 fn refuses_what_is_none(rt: HostRuntime) -> Result<(), Fail> {
-    let refused = Some(ConfigFault::Refused);
-    for &front in &REFUSED {
-        assert_eq!(rt; refusal(rt.alloc(), front, SEED)?, refused, "{front}");
-    }
-    for &text in &REFUSED_SEEDS {
-        assert_eq!(rt; refusal(rt.alloc(), text, "")?, refused, "{text}");
-    }
-    let control = refusal(rt.alloc(), SEED, "f = 1\nclients = 1\n\u{1}\n")?;
-    assert_eq!(rt; control, refused);
-    assert_eq!(rt; read_config(rt.alloc(), NO_UTF8).err(), refused);
+    assert_eq!(rt; first_that_is_some(rt.alloc())?, None);
+    assert!(rt; are_refused(rt.alloc(), NO_UTF8)?);
     Ok(())
 }
 

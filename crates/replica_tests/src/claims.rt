@@ -17,8 +17,8 @@ const MOST: usize = 5114;
 
 const LONGEST: usize = 262_118;
 
-// In view 212 it has as many, of 159 views with 32 numbers and one with 26. Of the numbers above 16 these are 159 times 16
-// and 10, and with no checkpoint a view change of them has this many bytes.
+// In view 212 it has as many, of 159 views with 32 numbers and one with 26. Of the numbers above 16 these are 159 times
+// 16 and 10, and with no checkpoint a view change of them has this many bytes.
 const LAST_VIEW: u8 = 212;
 
 const OF_UPPER_HALF: usize = 139_198;

@@ -99,8 +99,8 @@ fn gives_for_request(
     gives_with(orderer, desk, alloc, Event::Got(&frame), all)
 }
 
-// A request comes to the primary's orderer and the other's desk, and is lost. Nothing has changed then: the request gets
-// the first number with the primary's own desk, and none waits at the other.
+// A request comes to the primary's orderer and the other's desk, and is lost. Nothing has changed then: the request
+// gets the first number with the primary's own desk, and none waits at the other.
 fn is_lost(
     orderer: &mut Orderer,
     desk: &mut Desk,

@@ -49,12 +49,20 @@ pub fn parts_of_period(
 ) -> Result<(Box<Orderer>, Box<Desk>), Fail> {
     let config = config_of_period(alloc, period)?;
     let (orderer, desk) = new_replica(alloc, &config, me)?.split();
-    boxed(alloc, orderer, desk)
+    Ok(both(boxed(alloc, orderer), boxed(alloc, desk))?)
 }
 
-fn boxed(alloc: Global, orderer: Orderer, desk: Desk) -> Result<(Box<Orderer>, Box<Desk>), Fail> {
-    let orderer = Box::new(alloc, orderer)?;
-    Ok((orderer, Box::new(alloc, desk)?))
+fn boxed<T: Drop>(alloc: Global, value: T) -> Result<Box<T>, NoMemory> {
+    Ok(Box::new(alloc, value)?)
+}
+
+// Both are boxed before either is asked for, so that neither is dropped outside of its box.
+fn both(
+    orderer: Result<Box<Orderer>, NoMemory>,
+    desk: Result<Box<Desk>, NoMemory>,
+) -> Result<(Box<Orderer>, Box<Desk>), NoMemory> {
+    let orderer = orderer?;
+    Ok((orderer, desk?))
 }
 
 fn are_receivers(parties: &[Party], sent: Sent) -> bool {

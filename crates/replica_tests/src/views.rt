@@ -101,8 +101,8 @@ const LOGGED_TWO: Change = Change {
     ..NOTHING
 };
 
-// Replica 1 logs two batches, and prepares the first. Its view change says so, and it goes no further in the view that it
-// has left.
+// Replica 1 logs two batches, and prepares the first. Its view change says so, and it goes no further in the view that
+// it has left.
 static LEAVES: [Row<'static>; 9] = [
     (
         Turn::Comes(Sent::PrePrepare(1)),
@@ -170,9 +170,9 @@ const NEXT: Change = Change {
     ..NOTHING
 };
 
-/// Replica 0 moves to view 3 and replica 1 to view 2: so replica 2 moves to the lesser of these. It is the primary of view
-/// 2, and begins it when replica 3 has moved there too. It numbers a request, says the new view and the number again when
-/// the request comes again, and its next view change is signed by the third of its keys.
+/// Replica 0 moves to view 3 and replica 1 to view 2: so replica 2 moves to the lesser of these. It is the primary of
+/// view 2, and begins it when replica 3 has moved there too. It numbers a request, says the new view and the number
+/// again when the request comes again, and its next view change is signed by the third of its keys.
 pub static JOINS: [Row<'static>; 7] = [
     (Turn::Comes(Sent::ViewChange(&OF_0)), &[]),
     (
@@ -244,9 +244,9 @@ const RIGHT: Begun = Begun {
     is_forged: false,
 };
 
-// New views that are not taken: those of another sender, or of another sender's view; over two view changes, over one for
-// another view, and over two of one sender; with the null batch at what was prepared, with another batch, with none, and
-// with one more; from a state that nobody lists; with a wrong signature, and over a view change that has one.
+// New views that are not taken: those of another sender, or of another sender's view; over two view changes, over one
+// for another view, and over two of one sender; with the null batch at what was prepared, with another batch, with
+// none, and with one more; from a state that nobody lists; with a wrong signature, and over a view change that has one.
 static WRONG: [Begun; 12] = [
     Begun { sender: 2, ..RIGHT },
     Begun { view: 2, ..RIGHT },
@@ -400,8 +400,8 @@ const BEHIND: Change = Change {
     ..NOTHING
 };
 
-// It fetches the state of number 1 first and prepares number 2 then. When time goes by it asks for the part again before
-// it moves on.
+// It fetches the state of number 1 first and prepares number 2 then. When time goes by it asks for the part again
+// before it moves on.
 static FETCHES: [Row<'static>; 4] = [
     (
         Turn::Comes(Sent::NewView(&AHEAD)),

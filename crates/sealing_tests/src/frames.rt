@@ -60,7 +60,8 @@ fn ring(alloc: Global) -> Ring {
     Ring::new(alloc, &seed(), 1, 2)
 }
 
-// The request's frame for one receiver.
+// The request's frame for one receiver. A body is dropped by a call: at the end of a function all kinds of messages are
+// told apart.
 fn sealed_for(
     ring: &mut Ring,
     alloc: Global,
@@ -68,13 +69,17 @@ fn sealed_for(
     receiver: Party,
 ) -> Result<Vec<u8>, Fail> {
     let body = request(alloc, sender)?;
-    Ok(ring.seal(alloc, &body, &[receiver])?)
+    let frame = ring.seal(alloc, &body, &[receiver]);
+    drop(body);
+    Ok(frame?)
 }
 
 // The frame of the first client's request for the four replicas.
 fn sealed_for_all(ring: &mut Ring, alloc: Global) -> Result<Vec<u8>, Fail> {
     let body = request(alloc, CLIENT)?;
-    Ok(ring.seal(alloc, &body, &replicas())?)
+    let frame = ring.seal(alloc, &body, &replicas());
+    drop(body);
+    Ok(frame?)
 }
 
 // The numbers of two replicas, of which None is client 0, and the code of the request between them.
@@ -144,6 +149,24 @@ fn refusal(ring: &mut Ring, alloc: Global, bytes: &[u8], me: Party) -> Option<Op
     ring.open(alloc, bytes, me).err()
 }
 
+// Whether the party opens it. Want of memory is no answer, and is handed on.
+fn is_opened(ring: &mut Ring, alloc: Global, bytes: &[u8], me: Party) -> Result<bool, OpenFault> {
+    match refusal(ring, alloc, bytes, me) {
+        None => Ok(true),
+        Some(OpenFault::NoMemory) => Err(OpenFault::NoMemory),
+        Some(_) => Ok(false),
+    }
+}
+
+fn opens_for_all(ring: &mut Ring, alloc: Global, bytes: &[u8]) -> Result<bool, OpenFault> {
+    for replica in replicas() {
+        if !is_opened(ring, alloc, bytes, replica)? {
+            return Ok(false);
+        }
+    }
+    Ok(true)
+}
+
 fn is_worked(frame: &[u8]) -> bool {
     frame.len() == 165
         && frame.starts_with(b"\0\0\0\x17\x41")
@@ -154,32 +177,38 @@ fn is_worked(frame: &[u8]) -> bool {
 fn a_request_for_four_replicas(rt: HostRuntime) -> Result<(), Fail> {
     let mut ring = ring(rt.alloc());
     let frame = sealed_for_all(&mut ring, rt.alloc())?;
-    assert!(rt; is_worked(&frame));
-    for replica in replicas() {
-        assert_eq!(rt; refusal(&mut ring, rt.alloc(), &frame, replica), None);
-    }
+    assert!(rt; is_worked(&frame) && opens_for_all(&mut ring, rt.alloc(), &frame)?);
     // A party for which nothing was sealed.
     let fault = refusal(&mut ring, rt.alloc(), &frame, SECOND_CLIENT);
     assert_eq!(rt; fault, Some(OpenFault::BadMac));
     Ok(())
 }
 
+// Changes the last byte of the entry for replica 1, where the frame has its length.
+fn change_entry_of_1(frame: &mut [u8]) -> bool {
+    if frame.len() != 165 {
+        return false;
+    }
+    frame[96] ^= 1;
+    true
+}
+
+// Why replicas 0, 1 and 2 refuse the frame.
+fn faults_of_replicas(ring: &mut Ring, alloc: Global, bytes: &[u8]) -> [Option<OpenFault>; 3] {
+    [
+        refusal(ring, alloc, bytes, replica(0)),
+        refusal(ring, alloc, bytes, replica(1)),
+        refusal(ring, alloc, bytes, replica(2)),
+    ]
+}
+
 #[test]
 fn each_receiver_has_its_own_entry(rt: HostRuntime) -> Result<(), Fail> {
     let mut ring = ring(rt.alloc());
     let mut frame = sealed_for_all(&mut ring, rt.alloc())?;
-    assert_eq!(rt; frame.len(), 165);
-    // The last byte of the entry for replica 1.
-    frame[96] ^= 1;
-    for (replica, expected) in [(0, None), (1, Some(OpenFault::BadMac)), (2, None)] {
-        let fault = refusal(
-            &mut ring,
-            rt.alloc(),
-            &frame,
-            Party::Replica(ReplicaId(replica)),
-        );
-        assert_eq!(rt; fault, expected, "{replica}");
-    }
+    assert!(rt; change_entry_of_1(&mut frame));
+    let faults = faults_of_replicas(&mut ring, rt.alloc(), &frame);
+    assert_eq!(rt; faults, [None, Some(OpenFault::BadMac), None]);
     Ok(())
 }
 
@@ -230,16 +259,30 @@ fn view_change(alloc: Global, sender: u8) -> Result<Vec<u8>, AllocError> {
     Ok(frame)
 }
 
+fn opens_for_three(ring: &mut Ring, alloc: Global, bytes: &[u8]) -> Result<bool, OpenFault> {
+    Ok(
+        is_opened(ring, alloc, bytes, replica(0))?
+            && is_opened(ring, alloc, bytes, replica(3))?
+            && is_opened(ring, alloc, bytes, SECOND_CLIENT)?,
+    )
+}
+
+fn opens_signed(ring: &mut Ring, alloc: Global) -> Result<bool, Fail> {
+    let frame = view_change(alloc, 0)?;
+    Ok(opens_for_three(ring, alloc, &frame)?)
+}
+
+// Nobody has the number 4.
+fn fault_of_stranger(ring: &mut Ring, alloc: Global) -> Result<Option<OpenFault>, AllocError> {
+    let frame = view_change(alloc, 4)?;
+    Ok(refusal(ring, alloc, &frame, replica(0)))
+}
+
 #[test]
 fn signed_frames_open(rt: HostRuntime) -> Result<(), Fail> {
     let mut ring = ring(rt.alloc());
-    let frame = view_change(rt.alloc(), 0)?;
-    for me in [replica(0), replica(3), SECOND_CLIENT] {
-        assert_eq!(rt; refusal(&mut ring, rt.alloc(), &frame, me), None);
-    }
-    // Nobody has the number 4.
-    let other = view_change(rt.alloc(), 4)?;
-    let fault = refusal(&mut ring, rt.alloc(), &other, replica(0));
+    assert!(rt; opens_signed(&mut ring, rt.alloc())?);
+    let fault = fault_of_stranger(&mut ring, rt.alloc())?;
     assert_eq!(rt; fault, Some(OpenFault::UnknownSender));
     Ok(())
 }
@@ -297,14 +340,23 @@ fn body_of_client(alloc: Global) -> Result<Body, Bad>
     }
 }
 
-// The frame of a request for the four replicas, at the second try where memory ran out at the first one.
+// The body's frame for the four replicas, at the second try where memory ran out at the first one.
+fn sealed_body(ring: &mut Ring, alloc: Global, body: &Body) -> Result<Vec<u8>, SealFault>
+    requires said { IsBody (body_data body.now) }
+    requires unsigned { is_signed (message_data body.now.message) ≡ false }
+{
+    match ring.seal(alloc, body, &replicas()) {
+        Err(SealFault::NoMemory) => ring.seal(alloc, body, &replicas()),
+        first => first,
+    }
+}
+
+// The frame of a request for them.
 fn sealed(ring: &mut Ring, alloc: Global) -> Result<Vec<u8>, Fail> {
     let body = body_of_client(alloc)?;
-    let frame = match ring.seal(alloc, &body, &replicas()) {
-        Err(SealFault::NoMemory) => ring.seal(alloc, &body, &replicas())?,
-        first => first?,
-    };
-    Ok(frame)
+    let frame = sealed_body(ring, alloc, &body);
+    drop(body);
+    Ok(frame?)
 }
 
 fn opened(ring: &mut Ring, alloc: Global, bytes: &[u8], me: Party) -> Result<Opened, OpenFault> {
@@ -316,7 +368,18 @@ fn opened(ring: &mut Ring, alloc: Global, bytes: &[u8], me: Party) -> Result<Ope
 
 fn opens(ring: &mut Ring, alloc: Global, bytes: &[u8], me: Party) -> Result<bool, OpenFault> {
     let opened = opened(ring, alloc, bytes, me)?;
-    Ok(is_request(bytes, &opened.frame) && ring.has_sender(&opened.frame.body))
+    let is_right = is_request(bytes, &opened.frame) && ring.has_sender(&opened.frame.body);
+    drop(opened);
+    Ok(is_right)
+}
+
+fn opens_each_time(ring: &mut Ring, alloc: Global, bytes: &[u8]) -> Result<bool, OpenFault> {
+    for replica in replicas() {
+        if !opens(ring, alloc, bytes, replica)? {
+            return Ok(false);
+        }
+    }
+    Ok(true)
 }
 
 // Passes whichever growth is refused, as by `tools/growths`: a second try gives what the first one
@@ -325,9 +388,6 @@ fn opens(ring: &mut Ring, alloc: Global, bytes: &[u8], me: Party) -> Result<bool
 fn refusals_change_nothing(rt: HostRuntime) -> Result<(), Fail> {
     let mut ring = ring(rt.alloc());
     let frame = sealed(&mut ring, rt.alloc())?;
-    assert!(rt; is_worked(&frame));
-    for replica in replicas() {
-        assert!(rt; opens(&mut ring, rt.alloc(), &frame, replica)?);
-    }
+    assert!(rt; is_worked(&frame) && opens_each_time(&mut ring, rt.alloc(), &frame)?);
     Ok(())
 }

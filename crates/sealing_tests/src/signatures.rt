@@ -68,16 +68,26 @@ fn a_signer(rt: HostRuntime) -> Result<(), Fail> {
     Ok(())
 }
 
+fn has_copy(alloc: Global, signature: &Signature) -> Result<bool, AllocError> {
+    let copy = copied(alloc, signature)?;
+    Ok(copy.is_some_and(|copy| is_digest(&copy, BY_LEAF_37)))
+}
+
+fn signs_by_37(tree: &KeyTree, alloc: Global) -> Result<bool, AllocError> {
+    let signature = signed_by_37(tree, alloc)?;
+    Ok(
+        is_digest(&signature, BY_LEAF_37)
+            && verify(&tree.public(), b"a text", &signature)
+            && has_copy(alloc, &signature)?,
+    )
+}
+
 // Passes whichever growth is refused.
 #[test]
 fn a_tree_of_keys(rt: HostRuntime) -> Result<(), Fail> {
     let tree = tree_of(0);
     assert!(rt; is_code(tree.public(), PUBLIC));
-    let signature = signed_by_37(&tree, rt.alloc())?;
-    assert!(rt; is_digest(&signature, BY_LEAF_37));
-    assert!(rt; verify(&tree.public(), b"a text", &signature));
-    let copy = copied(rt.alloc(), &signature)?;
-    assert!(rt; copy.is_some_and(|copy| is_digest(&copy, BY_LEAF_37)));
+    assert!(rt; signs_by_37(&tree, rt.alloc())?);
     Ok(())
 }
 
@@ -99,6 +109,17 @@ fn counts(public: &[u8; 32], bytes: &mut [u8], at: usize) -> bool {
     is_refused
 }
 
+// The first of these bytes that doesn't count: of the leaf, a secret, a public hash, the last of the pairs, and both
+// ends of the path.
+fn first_spare(public: &[u8; 32], bytes: &mut [u8]) -> Option<usize> {
+    for at in [0, 1, 33, 16_384, 16_385, 16_576] {
+        if !counts(public, bytes, at) {
+            return Some(at);
+        }
+    }
+    None
+}
+
 #[test]
 fn each_part_counts(rt: HostRuntime) -> Result<(), Fail> {
     let mut signer = signer_of(7);
@@ -107,10 +128,7 @@ fn each_part_counts(rt: HostRuntime) -> Result<(), Fail> {
     assert!(rt; is_of_text(&public, &signature));
     let mut bytes = signature.into_bytes();
     assert_eq!(rt; bytes.len(), SIGNATURE_LEN);
-    // The leaf, a secret, a public hash, the last of the pairs, and both ends of the path.
-    for at in [0, 1, 33, 16_384, 16_385, 16_576] {
-        assert!(rt; counts(&public, &mut bytes, at), "at {at}");
-    }
+    assert_eq!(rt; first_spare(&public, &mut bytes), None);
     assert!(rt; verify_bytes(&public, b"text", &bytes));
     Ok(())
 }

@@ -70,11 +70,16 @@ fn claims_are_kept_over_views(rt: HostRuntime) -> Result<(), Fail> {
 fn of_claims(alloc: Global, count: u64) -> Result<Option<ViewChange>, Fail> {
     let batch = batch(alloc, 1)?;
     let mut claims = Claims::new(alloc);
-    // Each belongs before those that are there.
-    for number in 0..count {
-        claims.note_logged(Number(count - number), View(0), Arc::try_clone(&batch)?)?;
-    }
+    note_count(&mut claims, &batch, count)?;
     Ok(make(alloc, View(1), Number(0), Vec::new(alloc), &claims)?)
+}
+
+// Each belongs before those that are there.
+fn note_count(claims: &mut Claims, batch: &Arc<HashedBatch>, count: u64) -> Result<(), Fail> {
+    for number in 0..count {
+        claims.note_logged(Number(count - number), View(0), Arc::try_clone(batch)?)?;
+    }
+    Ok(())
 }
 
 fn has_room(change: &ViewChange) -> bool
@@ -93,7 +98,10 @@ fn frame_len(alloc: Global, change: ViewChange) -> Result<Option<usize>, Fail>
         sender: Party::Replica(ReplicaId(3)),
         message: Message::ViewChange(change),
     };
-    match begin_frame(alloc, &body, 1 + SIGNATURE_LEN) {
+    // By a call: at the end of a function all kinds of messages are told apart.
+    let frame = begin_frame(alloc, &body, 1 + SIGNATURE_LEN);
+    drop(body);
+    match frame {
         Ok(frame) => Ok(Some(frame.len())),
         Err(WireFault::TooLarge) => Ok(None),
         Err(fault) => Err(fault.into()),

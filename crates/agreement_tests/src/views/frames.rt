@@ -3,8 +3,8 @@
 
 use authenticator::signing_seed;
 use ordering::HashedBatch;
-use signing::{SignFault, Signer};
-use std::alloc::Global;
+use signing::{SignFault, Signature, Signer};
+use std::alloc::{AllocError, Global};
 use std::test::Fail;
 use terms::{Party, ReplicaId};
 use wire::Batch;
@@ -39,46 +39,76 @@ fn put_entry(alloc: Global, byte: u8, out: &mut Vec<u8>) -> Result<(), Fail> {
     Ok(())
 }
 
-fn body(alloc: Global, sender: u8, (view, low, byte): Said) -> Result<Vec<u8>, Fail> {
+fn put_said(alloc: Global, (view, low, byte): Said, out: &mut Vec<u8>) -> Result<(), Fail> {
+    out.extend_from_slice(&view.to_be_bytes())?;
+    out.extend_from_slice(&low.to_be_bytes())?;
+    out.push(1)?;
+    out.extend_from_slice(&low.to_be_bytes())?;
+    out.extend_from_slice(&[ROOT; 32])?;
+    put_entry(alloc, byte, out)?;
+    put_entry(alloc, byte, out)
+}
+
+fn body(alloc: Global, sender: u8, said: Said) -> Result<Vec<u8>, Fail> {
     let mut body = vec![in alloc; 0x46, 0, sender]?;
-    body.extend_from_slice(&view.to_be_bytes())?;
-    body.extend_from_slice(&low.to_be_bytes())?;
-    body.push(1)?;
-    body.extend_from_slice(&low.to_be_bytes())?;
-    body.extend_from_slice(&[ROOT; 32])?;
-    put_entry(alloc, byte, &mut body)?;
-    put_entry(alloc, byte, &mut body)?;
+    put_said(alloc, said, &mut body)?;
     Ok(body)
+}
+
+// At the second try where memory ran out at the first one. That spends no leaf.
+fn signature_of(alloc: Global, signer: &mut Signer, body: &[u8]) -> Result<Signature, SignFault> {
+    match signer.sign(alloc, body) {
+        Err(SignFault::NoMemory) => signer.sign(alloc, body),
+        first => first,
+    }
+}
+
+fn put_frame(body: &[u8], signature: &[u8], out: &mut Vec<u8>) -> Result<(), AllocError> {
+    // The length has four bytes.
+    let len = (body.len() as u64).to_be_bytes();
+    out.extend_from_slice(&len[4..])?;
+    out.extend_from_slice(body)?;
+    out.push(1)?;
+    out.extend_from_slice(signature)
+}
+
+fn frame_of(alloc: Global, body: &[u8], signature: &[u8]) -> Result<Vec<u8>, AllocError> {
+    let mut frame = Vec::new(alloc);
+    put_frame(body, signature, &mut frame)?;
+    Ok(frame)
+}
+
+fn signed(alloc: Global, signer: &mut Signer, body: &[u8]) -> Result<Vec<u8>, Fail> {
+    let signature = signature_of(alloc, signer, body)?;
+    Ok(frame_of(alloc, body, signature.as_slice())?)
 }
 
 // The frame of a replica's view change, with its signature.
 fn change(alloc: Global, signer: &mut Signer, sender: u8, said: Said) -> Result<Vec<u8>, Fail> {
     let body = body(alloc, sender, said)?;
-    let signature = match signer.sign(alloc, &body) {
-        Err(SignFault::NoMemory) => signer.sign(alloc, &body)?,
-        first => first?,
-    };
-    // The length has four bytes.
-    let len = (body.len() as u64).to_be_bytes();
-    let mut frame = Vec::new(alloc);
-    frame.extend_from_slice(&len[4..])?;
-    frame.extend_from_slice(&body)?;
-    frame.push(1)?;
-    frame.extend_from_slice(signature.as_slice())?;
-    Ok(frame)
+    signed(alloc, signer, &body)
 }
 
 /// The frames of view changes, each by its sender, replica 0, 1 or 2. The signature of the last one is broken.
 pub fn changes(alloc: Global, all: &[(u8, Said)]) -> Result<Vec<Vec<u8>>, Fail> {
-    let mut signers = [signer_of(0), signer_of(1), signer_of(2)];
     let mut frames = Vec::new(alloc);
+    put_changes(alloc, all, &mut frames)?;
+    break_last(&mut frames);
+    Ok(frames)
+}
+
+fn put_changes(alloc: Global, all: &[(u8, Said)], frames: &mut Vec<Vec<u8>>) -> Result<(), Fail> {
+    let mut signers = [signer_of(0), signer_of(1), signer_of(2)];
     for &(sender, said) in all {
         let signer = &mut signers[usize::from(sender % 3)];
         frames.push(change(alloc, signer, sender, said)?)?;
     }
-    // The last byte is the signature's.
+    Ok(())
+}
+
+// The last byte is the signature's.
+fn break_last(frames: &mut [Vec<u8>]) {
     if let Some(byte) = frames.last_mut().and_then(|frame| frame.last_mut()) {
         *byte ^= 1;
     }
-    Ok(frames)
 }

@@ -1,5 +1,5 @@
-//! The view changes that a replica keeps: each refusal, told where it is the first that applies, which of them it joins,
-//! and the new view that is made of them: four replicas, a checkpoint each 16 batches.
+//! The view changes that a replica keeps: each refusal, told where it is the first that applies, which of them it
+//! joins, and the new view that is made of them: four replicas, a checkpoint each 16 batches.
 
 use crate::views::frames::{ROOT, SEED, Said, changes};
 use signing::PublicKeys;

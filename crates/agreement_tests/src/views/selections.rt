@@ -42,7 +42,7 @@ fn entries(alloc: Global, rows: &[(u64, u8, u64)]) -> Result<Vec<BatchEntry>, Fa
     Ok(entries)
 }
 
-fn change(alloc: Global, sender: u8, (kept, prepared, logged): Said<'_>) -> Result<Change, Fail> {
+fn checkpoints(alloc: Global, kept: &[u64]) -> Result<Vec<CheckpointEntry>, Fail> {
     let mut checkpoints = Vec::new(alloc);
     for number in kept {
         checkpoints.push(CheckpointEntry {
@@ -50,10 +50,14 @@ fn change(alloc: Global, sender: u8, (kept, prepared, logged): Said<'_>) -> Resu
             digest: ROOT,
         })?;
     }
+    Ok(checkpoints)
+}
+
+fn change(alloc: Global, sender: u8, (kept, prepared, logged): Said<'_>) -> Result<Change, Fail> {
     let change = ViewChange {
         view: View(3),
         low: Number(0),
-        checkpoints,
+        checkpoints: checkpoints(alloc, kept)?,
         prepared: entries(alloc, prepared)?,
         pre_prepared: entries(alloc, logged)?,
     };
@@ -63,20 +67,35 @@ fn change(alloc: Global, sender: u8, (kept, prepared, logged): Said<'_>) -> Resu
     })
 }
 
-// What is selected with the batches of the bytes 1 to 3.
-fn selected(alloc: Global, sizes: Sizes, rows: &[Said<'_>]) -> Result<Option<Selection>, Fail> {
+fn changes(alloc: Global, rows: &[Said<'_>]) -> Result<Vec<Change>, Fail> {
     let mut set = Vec::new(alloc);
     for (sender, row) in rows.iter().enumerate() {
         set.push(change(alloc, (sender % 16) as u8, *row)?)?;
     }
+    Ok(set)
+}
+
+// Those of the bytes 1 to 3.
+fn batches(alloc: Global) -> Result<Vec<Arc<HashedBatch>>, Fail> {
     let mut held = Vec::new(alloc);
     for byte in 1..4 {
         held.push(batch(alloc, byte)?)?;
     }
-    if !is_set(&set, sizes, View(3)) {
+    Ok(held)
+}
+
+// What is selected of these view changes with those batches.
+fn selected_of(alloc: Global, sizes: Sizes, set: &[Change]) -> Result<Option<Selection>, Fail> {
+    if !is_set(set, sizes, View(3)) {
         return Ok(None);
     }
-    Ok(select(alloc, &set, sizes, View(3), &held)?)
+    let held = batches(alloc)?;
+    Ok(select(alloc, set, sizes, View(3), &held)?)
+}
+
+fn selected(alloc: Global, sizes: Sizes, rows: &[Said<'_>]) -> Result<Option<Selection>, Fail> {
+    let set = changes(alloc, rows)?;
+    selected_of(alloc, sizes, &set)
 }
 
 // Whether the selection starts there, and has these batches.

@@ -21,7 +21,8 @@ pub fn new_ring(alloc: Global) -> Ring {
     Ring::new(alloc, &seed(), 1, 2)
 }
 
-pub fn new_endpoint(alloc: Global, me: u8) -> Result<Endpoint, NoMemory>
+// In a box: a function that owns all of an endpoint takes long to prove.
+pub fn new_endpoint(alloc: Global, me: u8) -> Result<Box<Endpoint>, NoMemory>
     requires { me ≤ 3 }
 {
     let seed = seed();
@@ -29,7 +30,7 @@ pub fn new_endpoint(alloc: Global, me: u8) -> Result<Endpoint, NoMemory>
     let publics = PublicKeys::new(alloc, &seed)?;
     let ring = Ring::new(alloc, &seed, 1, 2);
     let signer = Signer::from_seed(&signing_seed(&seed, Party::Replica(me)));
-    Ok(Endpoint::new(me, 1, ring, publics, signer))
+    Ok(Box::new(alloc, Endpoint::new(me, 1, ring, publics, signer))?)
 }
 
 // The bytes that an output sends.

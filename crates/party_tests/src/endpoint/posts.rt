@@ -6,7 +6,7 @@ ghost use Rattle.wire.specs.Spelling.{IsMessage, is_signed};
 ghost use Rattle.wire.specs.Views.{message_data};
 
 use crate::endpoint::endpoints::{DIGEST, new_endpoint, new_ring, view_change};
-use authenticator::SealFault;
+use authenticator::{Ring, SealFault};
 use events::Output;
 use hex::FromHex;
 use posting::{
@@ -60,7 +60,8 @@ pub fn is_sent(output: &Output, receivers: &[u16], digits: &str) -> bool {
     }
 }
 
-// Whether the message goes to all others by these bytes.
+// Whether the message goes to all others by these bytes. An output is dropped by a call: at the end of a function all
+// kinds of outputs are told apart.
 pub fn goes_out(
     endpoint: &mut Endpoint,
     alloc: Global,
@@ -71,18 +72,31 @@ pub fn goes_out(
     requires unsigned { is_signed (message_data message) ≡ false }
 {
     let output = endpoint.post_to_others(alloc, message)?;
-    Ok(is_sent(&output, &OTHERS, digits))
+    let is_right = is_sent(&output, &OTHERS, digits);
+    drop(output);
+    Ok(is_right)
 }
 
-fn votes_go_out(endpoint: &mut Endpoint, alloc: Global) -> Result<bool, Fail> {
+// A message a function, since each way out of one drops all messages that it owns.
+fn prepare_goes_out(endpoint: &mut Endpoint, alloc: Global) -> Result<bool, Fail> {
     let prepare = prepare_message(View(0), Number(1), DIGEST);
-    let commit = commit_message(View(0), Number(1), DIGEST);
+    goes_out(endpoint, alloc, prepare, PREPARE)
+}
+
+fn first_commit() -> Message
+    ensures said { IsMessage (message_data result) }
+    ensures unsigned { is_signed (message_data result) ≡ false }
+{
+    commit_message(View(0), Number(1), DIGEST)
+}
+
+fn commit_goes_out(endpoint: &mut Endpoint, alloc: Global) -> Result<bool, Fail> {
+    goes_out(endpoint, alloc, first_commit(), COMMIT)
+}
+
+fn checkpoint_goes_out(endpoint: &mut Endpoint, alloc: Global) -> Result<bool, Fail> {
     let checkpoint = checkpoint_message(Number(16), DIGEST);
-    Ok(
-        goes_out(endpoint, alloc, prepare, PREPARE)?
-            && goes_out(endpoint, alloc, commit, COMMIT)?
-            && goes_out(endpoint, alloc, checkpoint, CHECKPOINT)?,
-    )
+    goes_out(endpoint, alloc, checkpoint, CHECKPOINT)
 }
 
 fn fetch_goes_out(endpoint: &mut Endpoint, alloc: Global) -> Result<bool, Fail> {
@@ -99,14 +113,15 @@ fn digests() -> [[u8; 32]; 32] {
     digests
 }
 
-// At the root, and at the last inner part.
-fn metas_go_out(endpoint: &mut Endpoint, alloc: Global) -> Result<bool, Fail> {
-    let root = meta_message(alloc, Number(16), Level::Root, 0, &digests())?;
-    let part = meta_message(alloc, Number(16), Level::Inner, 31, &digests())?;
-    Ok(
-        goes_out(endpoint, alloc, root, META_OF_ROOT)?
-            && goes_out(endpoint, alloc, part, META_OF_PART)?,
-    )
+fn meta_of_root_goes_out(endpoint: &mut Endpoint, alloc: Global) -> Result<bool, Fail> {
+    let meta = meta_message(alloc, Number(16), Level::Root, 0, &digests())?;
+    goes_out(endpoint, alloc, meta, META_OF_ROOT)
+}
+
+// Of the last inner part.
+fn meta_of_part_goes_out(endpoint: &mut Endpoint, alloc: Global) -> Result<bool, Fail> {
+    let meta = meta_message(alloc, Number(16), Level::Inner, 31, &digests())?;
+    goes_out(endpoint, alloc, meta, META_OF_PART)
 }
 
 fn page_goes_out(endpoint: &mut Endpoint, alloc: Global) -> Result<bool, Fail> {
@@ -117,9 +132,12 @@ fn page_goes_out(endpoint: &mut Endpoint, alloc: Global) -> Result<bool, Fail> {
 fn all_go_out(endpoint: &mut Endpoint, alloc: Global) -> Result<bool, Fail> {
     Ok(
         endpoint.me().0 == 0
-            && votes_go_out(endpoint, alloc)?
+            && prepare_goes_out(endpoint, alloc)?
+            && commit_goes_out(endpoint, alloc)?
+            && checkpoint_goes_out(endpoint, alloc)?
             && fetch_goes_out(endpoint, alloc)?
-            && metas_go_out(endpoint, alloc)?
+            && meta_of_root_goes_out(endpoint, alloc)?
+            && meta_of_part_goes_out(endpoint, alloc)?
             && page_goes_out(endpoint, alloc)?,
     )
 }
@@ -127,7 +145,7 @@ fn all_go_out(endpoint: &mut Endpoint, alloc: Global) -> Result<bool, Fail> {
 #[test]
 fn messages_for_all_others(rt: HostRuntime) -> Result<(), Fail> {
     let mut endpoint = new_endpoint(rt.alloc(), 0)?;
-    assert!(rt; all_go_out(&mut endpoint, rt.alloc())?);
+    assert!(rt; all_go_out(&mut *endpoint, rt.alloc())?);
     Ok(())
 }
 
@@ -141,18 +159,30 @@ fn reply() -> Message
     reply_message(CLIENT, Timestamp(1), Mode::Ordered, Number(1), Answer::Done)
 }
 
-// Whether the reply goes to the client alone, by an endpoint, and by a ring.
 fn reply_goes_out(endpoint: &mut Endpoint, alloc: Global) -> Result<bool, Fail> {
-    let party = Party::Client(CLIENT);
-    let output = endpoint.post_to(alloc, reply(), party)?;
-    let other = seal_for_one(&mut new_ring(alloc), alloc, ReplicaId(0), reply(), party)?;
-    Ok(is_sent(&output, &[256], REPLY) && is_sent(&other, &[256], REPLY))
+    let output = endpoint.post_to(alloc, reply(), Party::Client(CLIENT))?;
+    let is_right = is_sent(&output, &[256], REPLY);
+    drop(output);
+    Ok(is_right)
+}
+
+// The same by a ring.
+fn reply_goes_out_by(ring: &mut Ring, alloc: Global) -> Result<bool, Fail> {
+    let output = seal_for_one(ring, alloc, ReplicaId(0), reply(), Party::Client(CLIENT))?;
+    let is_right = is_sent(&output, &[256], REPLY);
+    drop(output);
+    Ok(is_right)
+}
+
+// Whether the reply goes to the client alone, by an endpoint, and by a ring.
+fn both_go_out(endpoint: &mut Endpoint, alloc: Global) -> Result<bool, Fail> {
+    Ok(reply_goes_out(endpoint, alloc)? && reply_goes_out_by(&mut new_ring(alloc), alloc)?)
 }
 
 #[test]
 fn a_reply(rt: HostRuntime) -> Result<(), Fail> {
     let mut endpoint = new_endpoint(rt.alloc(), 0)?;
-    assert!(rt; reply_goes_out(&mut endpoint, rt.alloc())?);
+    assert!(rt; both_go_out(&mut *endpoint, rt.alloc())?);
     Ok(())
 }
 
@@ -166,7 +196,7 @@ fn refusal(endpoint: &mut Endpoint, alloc: Global) -> Result<Option<SealFault>, 
 fn a_page_too_long(rt: HostRuntime) -> Result<(), Fail> {
     let mut endpoint = new_endpoint(rt.alloc(), 0)?;
     assert_eq!(rt;
-        refusal(&mut endpoint, rt.alloc())?,
+        refusal(&mut *endpoint, rt.alloc())?,
         Some(SealFault::TooLarge)
     );
     Ok(())
@@ -179,7 +209,9 @@ fn signed(endpoint: &mut Endpoint, alloc: Global) -> Result<Vec<u8>, PostFault> 
 // Whether the view change's frame goes to all others.
 fn frame_goes_out(endpoint: &Endpoint, alloc: Global, frame: &[u8]) -> Result<bool, NoMemory> {
     let output = endpoint.post_frame(alloc, frame)?;
-    Ok(is_sent(&output, &OTHERS, VIEW_CHANGE))
+    let is_right = is_sent(&output, &OTHERS, VIEW_CHANGE);
+    drop(output);
+    Ok(is_right)
 }
 
 // Whether no key is left after so many more.
@@ -203,22 +235,26 @@ fn spends_all(endpoint: &mut Endpoint, alloc: Global) -> Result<bool, Fail> {
 #[test]
 fn each_signed_message_spends_a_key(rt: HostRuntime) -> Result<(), Fail> {
     let mut endpoint = new_endpoint(rt.alloc(), 0)?;
-    assert!(rt; spends_all(&mut endpoint, rt.alloc())?);
+    assert!(rt; spends_all(&mut *endpoint, rt.alloc())?);
     Ok(())
 }
 
-// The first commit of replica 0, at the second try where memory ran out at the first one.
-fn commit_goes_out(endpoint: &mut Endpoint, alloc: Global) -> Result<bool, Fail> {
-    let commit = commit_message(View(0), Number(1), DIGEST);
-    let again = commit_message(View(0), Number(1), DIGEST);
-    let output = match endpoint.post_to_others(alloc, commit) {
-        Err(SealFault::NoMemory) => endpoint.post_to_others(alloc, again)?,
-        first => first?,
-    };
-    Ok(is_sent(&output, &OTHERS, COMMIT))
+// What goes out with the first commit of replica 0, at the second try where memory ran out at the first one.
+fn commit_output(endpoint: &mut Endpoint, alloc: Global) -> Result<Output, SealFault> {
+    match endpoint.post_to_others(alloc, first_commit()) {
+        Err(SealFault::NoMemory) => endpoint.post_to_others(alloc, first_commit()),
+        first => first,
+    }
 }
 
-fn made(alloc: Global) -> Result<Endpoint, NoMemory> {
+fn commit_goes_out_again(endpoint: &mut Endpoint, alloc: Global) -> Result<bool, Fail> {
+    let output = commit_output(endpoint, alloc)?;
+    let is_right = is_sent(&output, &OTHERS, COMMIT);
+    drop(output);
+    Ok(is_right)
+}
+
+fn made(alloc: Global) -> Result<Box<Endpoint>, NoMemory> {
     match new_endpoint(alloc, 0) {
         Ok(endpoint) => Ok(endpoint),
         Err(_) => new_endpoint(alloc, 0),
@@ -229,6 +265,6 @@ fn made(alloc: Global) -> Result<Endpoint, NoMemory> {
 #[test]
 fn refused_memory(rt: HostRuntime) -> Result<(), Fail> {
     let mut endpoint = made(rt.alloc())?;
-    assert!(rt; commit_goes_out(&mut endpoint, rt.alloc())?);
+    assert!(rt; commit_goes_out_again(&mut *endpoint, rt.alloc())?);
     Ok(())
 }

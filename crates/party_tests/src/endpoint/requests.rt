@@ -63,7 +63,7 @@ fn batch_goes_out(alloc: Global, frame: Vec<u8>) -> Result<bool, Fail> {
     let batch = batch_of(alloc, frame)?;
     let message = pre_prepare_message(View(0), Number(1), batch);
     let mut endpoint = new_endpoint(alloc, 0)?;
-    goes_out(&mut endpoint, alloc, message, PRE_PREPARE)
+    goes_out(&mut *endpoint, alloc, message, PRE_PREPARE)
 }
 
 #[test]

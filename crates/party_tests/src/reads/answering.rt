@@ -90,27 +90,44 @@ static ROWS: [Row<'static>; 9] = [
     (b"\x24\x01\x12\x01\x04\x01", None),
 ];
 
+fn is_as_told(
+    alloc: Global,
+    answered: &Option<Result<Reply, ReadFault>>,
+    expected: Option<&[u8]>,
+) -> Result<bool, NoMemory> {
+    match (answered, expected) {
+        (Some(Err(ReadFault::NoMemory)), _) => Err(NoMemory),
+        (Some(Ok(reply)), Some(bytes)) => says(alloc, reply, bytes),
+        (Some(Err(fault)), None) => Ok(*fault == ReadFault::NotReadOnly),
+        _ => Ok(false),
+    }
+}
+
 fn agrees(
     alloc: Global,
     space: &Space,
     arena: &mut Bump,
     (op, expected): Row<'_>,
 ) -> Result<bool, NoMemory> {
-    match (read(alloc, space, op, arena), expected) {
-        (Some(Err(ReadFault::NoMemory)), _) => Err(NoMemory),
-        (Some(Ok(reply)), Some(bytes)) => says(alloc, &reply, bytes),
-        (Some(Err(fault)), None) => Ok(fault == ReadFault::NotReadOnly),
-        _ => Ok(false),
+    let answered = read(alloc, space, op, arena);
+    let is_right = is_as_told(alloc, &answered, expected);
+    drop(answered);
+    is_right
+}
+
+fn all_agree(alloc: Global, space: &Space, arena: &mut Bump) -> Result<bool, NoMemory> {
+    for &row in &ROWS {
+        if !agrees(alloc, space, arena, row)? {
+            return Ok(false);
+        }
     }
+    Ok(space.count() == 2)
 }
 
 #[test]
 fn operations(rt: HostRuntime) -> Result<(), Fail> {
     let space = new_space(rt.alloc())?;
     let mut arena = Bump::new(rt.alloc());
-    for &row in &ROWS {
-        assert!(rt; agrees(rt.alloc(), &space, &mut arena, row)?);
-    }
-    assert!(rt; space.count() == 2);
+    assert!(rt; all_agree(rt.alloc(), &space, &mut arena)?);
     Ok(())
 }
