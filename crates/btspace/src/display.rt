@@ -6,8 +6,8 @@ use cluster_run::Watch;
 const PATIENCE: u64 = 2;
 
 /// Shows on standard error how many operations are answered, on one line that is written anew, where standard error is
-/// a terminal and the run takes longer than two seconds. The line is cleared at the end. Where the run is interrupted it
-/// stands whole, with its end, and tells how far the run came.
+/// a terminal and the run takes longer than two seconds. The line is cleared at the end. Where the run is interrupted
+/// it stands whole, with its end, and tells how far the run came.
 #[derive(Drop)]
 pub struct Display<'a, R> {
     rt: &'a R,

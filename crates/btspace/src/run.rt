@@ -74,8 +74,8 @@ impl From<ClusterFault> for RunFault {
     }
 }
 
-/// How many operations of a script are kept. Each takes two entries of the journal or more, and one more than the journal
-/// has room for tells that the script doesn't fit.
+/// How many operations of a script are kept. Each takes two entries of the journal or more, and one more than the
+/// journal has room for tells that the script doesn't fit.
 pub fn most_operations(settings: &Settings) -> usize
     ensures { result ≡ settings.now.journal / 2 + 1 }
 {

@@ -172,8 +172,8 @@ impl Client {
     ///
     /// # Errors
     ///
-    /// NoMemory where memory runs out, with which the client stops, and Stopped exactly where it had stopped before. Both
-    /// come only if a call is open.
+    /// NoMemory where memory runs out, with which the client stops, and Stopped exactly where it had stopped before.
+    /// Both come only if a call is open.
     #[tactic(auto, using(crate::proofs::Stepping::stops_got, crate::proofs::Stepping::stops_tick))]
     pub fn step(&mut self, alloc: Global, event: Event<'_>) -> Result<Outputs, Stop>
         ensures leads { IfOk result (λ outs. EventLeads self.old event.entry outs.items self.new) }

@@ -30,10 +30,10 @@ use tuple_codec::{Answer, Op};
 /// # Errors
 ///
 /// BadConfig exactly where the configuration names a faulty party, and else NoRoom exactly where the limit is below two
-/// entries an operation; nothing has started then. Call where a call was not answered, TooManyStopped where more replicas
-/// have stopped than may fail, NotInJournal where the journal doesn't have what the parties kept, NoThread where no thread
-/// could be started, NoAnswer where a client gave back too few answers, and NoMemory. The run ends at the first of them,
-/// and all threads have ended then.
+/// entries an operation; nothing has started then. Call where a call was not answered, TooManyStopped where more
+/// replicas have stopped than may fail, NotInJournal where the journal doesn't have what the parties kept, NoThread
+/// where no thread could be started, NoAnswer where a client gave back too few answers, and NoMemory. The run ends at
+/// the first of them, and all threads have ended then.
 pub fn run<
     N: Naming + Send + Sync + 'static,
     R: Threads + Wait + Clock + Copy + Send + 'static,

@@ -143,8 +143,8 @@ impl Executed {
 
     /// Puts the state of this number that has these pages in the place of the one that is there, and says whether it
     /// did: there is such a state, and no client's last timestamp falls, so that no request that ran is new again. The
-    /// tree is kept, so that the next checkpoint writes those pages alone that later requests touch. Where it says false
-    /// nothing changes, nor where memory runs out (NoMemory).
+    /// tree is kept, so that the next checkpoint writes those pages alone that later requests touch. Where it says
+    /// false nothing changes, nor where memory runs out (NoMemory).
     pub fn install(&mut self, number: Number, pages: Tree) -> Result<bool, NoMemory>
         ensures installed { (result ≡ Ok true) → HasPagesAt number.0 pages self.new.state }
         ensures rises { (result ≡ Ok true) → NoneFalls self.old.state self.new.state }

@@ -1,5 +1,5 @@
-//! A running cluster of four replicas and two clients that is started and finished without a call. The nodes' own growths
-//! are not refused: `malloc` has addresses in store for each thread that ever ran.
+//! A running cluster of four replicas and two clients that is started and finished without a call. The nodes' own
+//! growths are not refused: `malloc` has addresses in store for each thread that ever ran.
 
 ghost use Rattle.std.specs.Prelude.{◌≡◌};
 

@@ -1,8 +1,8 @@
 //! Calls under each size of memory that is left, in small steps.
 //!
 //! A test takes all memory that the system gives to its process, and gives it back crumb by crumb. After each crumb it
-//! makes one and the same call, which has to give its result or to say that memory ran out. `tools/growths` refuses each
-//! growth in turn instead, and leaves these tests out.
+//! makes one and the same call, which has to give its result or to say that memory ran out. `tools/growths` refuses
+//! each growth in turn instead, and leaves these tests out.
 #![tactic(auto)]
 
 #[cfg(test)]

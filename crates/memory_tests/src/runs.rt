@@ -36,8 +36,8 @@ static IN_VIEW_1: [&str; 10] = [
 ];
 
 // With a checkpoint at each number. Replicas 0 to 2 carry the call: its request, the pre-prepare, prepares of 1 and 2,
-// and commits of 2, 0 and 1. Replica 3 gets their checkpoints alone. It fetches seven parts from replica 0, and installs
-// them.
+// and commits of 2, 0 and 1. Replica 3 gets their checkpoints alone. It fetches seven parts from replica 0, and
+// installs them.
 static FETCHED: [&str; 34] = [
     "invoke 0 out (1)",
     "deliver 0 r0",

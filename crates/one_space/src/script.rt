@@ -12,8 +12,8 @@ use tuple_codec::Op;
 use tuple_text::LineFault;
 
 /// Reads the lines of a script, and gives their operations in their order: the first `most` of them, if there are more.
-/// Lines are numbered from 1 and stay below 2 to the power of 48; the first one that is refused is told with its number.
-/// Only what is given and one line take memory.
+/// Lines are numbered from 1 and stay below 2 to the power of 48; the first one that is refused is told with its
+/// number. Only what is given and one line take memory.
 pub fn read_script<R: Read + Drop>(
     alloc: Global,
     reader: R,

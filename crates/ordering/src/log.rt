@@ -28,12 +28,13 @@ use wire::CheckpointEntry;
 pub const NUMBERS_END: u64 = 1 << 48;
 
 /// What one replica holds of the messages of its view: a row for each number within its marks, with the batch that is
-/// logged and the votes for it, and the last three checkpoints of each replica. Of earlier views each row keeps the batch
-/// that was committed then.
+/// logged and the votes for it, and the last three checkpoints of each replica. Of earlier views each row keeps the
+/// batch that was committed then.
 ///
 /// A call goes over the votes of one row at most, ten prepares and ten commits, or over the three checkpoints of each
-/// replica; `cut` alone goes over all rows. A log takes its memory when it is made, under 1 KB for each number within the
-/// marks and for each replica, and none later: batches come with theirs, at most two for each number within the marks.
+/// replica; `cut` alone goes over all rows. A log takes its memory when it is made, under 1 KB for each number within
+/// the marks and for each replica, and none later: batches come with theirs, at most two for each number within the
+/// marks.
 #[derive(Drop)]
 pub struct Log {
     me: ReplicaId,

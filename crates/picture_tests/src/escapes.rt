@@ -5,8 +5,8 @@ use std::alloc::Global;
 use std::test::Fail;
 use terms::NoMemory;
 
-// Texts, and how they stand: by XML 1.0, which has five predefined entities, and whose characters are 9, a, d, and those
-// from 20 to d7ff, from e000 to fffd and from 10000 on.
+// Texts, and how they stand: by XML 1.0, which has five predefined entities, and whose characters are 9, a, d, and
+// those from 20 to d7ff, from e000 to fffd and from 10000 on.
 static ROWS: [(&str, &str); 9] = [
     ("", ""),
     ("out (1 x00ff true)", "out (1 x00ff true)"),

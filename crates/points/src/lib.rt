@@ -30,11 +30,11 @@ use sorting::points_of;
 use std::alloc::Global;
 use terms::NoMemory;
 
-/// The points of a trace, whose oldest entry stands first, in their order. A request that ran stands at the first position
-/// at which all but f of the correct replicas have executed or installed its number or a later one, and is left out where
-/// there is none. A read that was accepted by read-only replies stands at the position of their number or at its
-/// invocation, whichever is later, and a request that ran of the same call is left out. NoMemory where memory runs out, or
-/// births, of which there are 2 to the power of 62.
+/// The points of a trace, whose oldest entry stands first, in their order. A request that ran stands at the first
+/// position at which all but f of the correct replicas have executed or installed its number or a later one, and is
+/// left out where there is none. A read that was accepted by read-only replies stands at the position of their number
+/// or at its invocation, whichever is later, and a request that ran of the same call is left out. NoMemory where memory
+/// runs out, or births, of which there are 2 to the power of 62.
 pub fn points(alloc: Global, config: &Config, trace: &[Entry]) -> Result<Vec<Point>, NoMemory>
     ensures { IfOk result
         (λ found. items_of found.items ≡ points config.now (reverse trace.now)) }

@@ -4,9 +4,9 @@
 //! # What is proved
 //!
 //! All of it is of runs in which nobody has stopped, no message of a correct party is forged and, where states are
-//! compared, no digests collide: the premises that agreement has. What is delivered is said of a part of a trace: each
-//! frame that correct parties sent in it is got in it, in whatever order. A schedule whose last step is a flush does
-//! that ([`flushes_deliver_all`]).
+//! compared, no two texts of the run have one digest: the premises that agreement has. What is delivered is said of a
+//! part of a trace: each frame that correct parties sent in it is got in it, in whatever order. A schedule whose last
+//! step is a flush does that ([`flushes_deliver_all`]).
 //!
 //! - A call whose reply `2f + 1` correct replicas keep is accepted, once time goes by at its client and all is
 //!   delivered ([`executed_calls_are_accepted`]); as a schedule, from any world that is reached, that is a tick and a

@@ -3,14 +3,14 @@
 //! # What is proved
 //!
 //! `points_are_linear` is the headline: over every valid configuration and every run in which at most `f` replicas and
-//! any clients are faulty, no message of a correct party is forged and no digests collide, the answers that correct
-//! clients accept, of reads and writes alike, are those of one sequential tuple space, in which each operation acts at
-//! most once, an accepted one exactly once, at a position between its invocation and its acceptance. With it stand the
-//! laws of agreement over all views (`prepared_agree`, `committed_stays`, `committed_agree`, `executed_agree`,
-//! `states_agree`, `roots_agree`), `accepted_at_levels`, `none_runs_twice`, and the same laws for parties of which
-//! only safety is known (`safe_histories_are_linear`, `safe_histories_accept_at_levels`). `posted_frames_may_be_sent`
-//! ties what a replica posts to what it may send. What bytes spell, and what is heard from them, the definitions take
-//! from the crates `wire` and `signing`.
+//! any clients are faulty, no message of a correct party is forged and no two texts of the run have one digest
+//! (`NoCollision` lists them), the answers that correct clients accept, of reads and writes alike, are those of one
+//! sequential tuple space. In it each operation acts at most once, an accepted one exactly once, at a position between
+//! its invocation and its acceptance. With it stand the laws of agreement over all views (`prepared_agree`,
+//! `committed_stays`, `committed_agree`, `executed_agree`, `states_agree`, `roots_agree`), `accepted_at_levels`,
+//! `none_runs_twice`, and the same laws for parties of which only safety is known (`safe_histories_are_linear`,
+//! `safe_histories_accept_at_levels`). `posted_frames_may_be_sent` ties what a replica posts to what it may send. What
+//! bytes spell, and what is heard from them, the definitions take from the crates `wire` and `signing`.
 //!
 //! The other modules show what the definitions accept and refuse: the first operation of a client at four replicas,
 //! with the bytes of all its frames, is a run, unforged and fed by its schedule ([`accepted`], [`clients`]); over a

@@ -23,8 +23,9 @@ pub fn right_replicas_do_not_say()
     ensures fetches_above { FetchesAbove }
 {}
 
-/// A right replica fetches no state below the newest that it fetched, asks for one part at a time, and for none below the
-/// root before it got the digests of the root's children. It asks for no inner part that agrees with what is in place.
+/// A right replica fetches no state below the newest that it fetched, asks for one part at a time, and for none below
+/// the root before it got the digests of the root's children. It asks for no inner part that agrees with what is in
+/// place.
 pub fn right_replicas_fetch_what_differs()
     ensures newest { FetchesNewest }
     ensures once { FetchesOnce }
@@ -33,8 +34,8 @@ pub fn right_replicas_fetch_what_differs()
 {}
 
 /// A right replica proposes only as the view's primary, and a view only as its primary; no number outside the marks,
-/// none after a view change above the view, none twice in a view, and no request that is not authentic to it. It skips no
-/// number above the low mark, goes back to none, and gives none more than two above the executed one.
+/// none after a view change above the view, none twice in a view, and no request that is not authentic to it. It skips
+/// no number above the low mark, goes back to none, and gives none more than two above the executed one.
 pub fn right_primaries_propose()
     ensures primaries { PrePreparesAsPrimary }
     ensures marks { PrePreparesInMarks }
@@ -85,9 +86,9 @@ pub fn correct_replicas_answer()
 /// became prepared, executed what is committed and next, and numbered, as the active primary, the requests that
 /// wait, none of them twice in a view or in a batch; it has sent a checkpoint of each multiple of the period that
 /// it executed, and begun a transfer where a quorum of checkpoints is ahead, or the start of a new view. By a part that
-/// its transfer awaits it has asked for the next one, or installed the state, and at a tick it has sent the last fetch of
-/// an open transfer again. Where it had a reason to move to a view, it has sent a view change for it or for a later one,
-/// unless no frame says one or its keys are spent.
+/// its transfer awaits it has asked for the next one, or installed the state, and at a tick it has sent the last fetch
+/// of an open transfer again. Where it had a reason to move to a view, it has sent a view change for it or for a later
+/// one, unless no frame says one or its keys are spent.
 pub fn correct_replicas_go_on()
     ensures prepares { PreparesLogged }
     ensures commits { CommitsPrepared }
@@ -117,9 +118,9 @@ pub fn correct_replicas_send_again()
     ensures changes { SendsChangesAgain }
 {}
 
-/// A correct replica that goes on leaves no new view that it could send, as the primary of the view that it moves to, over
-/// view changes and with batches that it has, unless its keys are spent. So it is in the beginning, once it has the view
-/// changes of two others and its own.
+/// A correct replica that goes on leaves no new view that it could send, as the primary of the view that it moves to,
+/// over view changes and with batches that it has, unless its keys are spent. So it is in the beginning, once it has
+/// the view changes of two others and its own.
 pub fn correct_primaries_begin_views()
     ensures new_views { SendsNewViews }
     ensures first { BeginsItsView }

@@ -114,8 +114,8 @@ impl Orderer {
         }
     }
 
-    // Signs the view change for the view, with these checkpoints, at most three, ascending, and holds it beside those of
-    // the others. Its frame; none, where it can't be signed.
+    // Signs the view change for the view, with these checkpoints, at most three, ascending, and holds it beside those
+    // of the others. Its frame; none, where it can't be signed.
     fn sign_change(
         &mut self,
         alloc: Global,

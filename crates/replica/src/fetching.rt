@@ -153,8 +153,8 @@ impl Desk {
         Ok(true)
     }
 
-    /// Puts the state that was fetched in the place of the executed one, keeps it alone, as a checkpoint, and closes the
-    /// transfer; nothing, if what was fetched is no state of that number, or one that is behind in some client's
+    /// Puts the state that was fetched in the place of the executed one, keeps it alone, as a checkpoint, and closes
+    /// the transfer; nothing, if what was fetched is no state of that number, or one that is behind in some client's
     /// timestamp. Tells which state it is. NoMemory where memory runs out.
     pub(crate) fn install(&mut self) -> Result<Option<CheckpointEntry>, NoMemory>
         ensures ok { IfOk result (λ entry. Installs self.old self.new (option_map checkpoint_entry_data entry)) }

@@ -40,9 +40,9 @@
 //! history, and [`Replica::step`] hands it on by what it gives, also where it stops. A history that fits is that of a
 //! correct replica (`IsReplica`): safe, with all that is owed of it (`Owes`), in each view. Owed are numbers, prepares,
 //! commits, executions, replies, checkpoints, view changes, states that are fetched part by part until they are
-//! installed, parts that are asked for, and answers of reads; to a request that comes again its kept reply, or, while it
-//! waits, what the replica sent and others may lack; and nothing for what is dropped. As time goes by the open fetch may
-//! be sent again, and a primary may send its new view: neither is owed, and only tests tell that they are sent.
+//! installed, parts that are asked for, and answers of reads; to a request that comes again its kept reply, or, while
+//! it waits, what the replica sent and others may lack; and nothing for what is dropped. As time goes by the open fetch
+//! may be sent again, and a primary may send its new view: neither is owed, and only tests tell that they are sent.
 //!
 //! Where memory runs out the replica has stopped: it gives nothing, then and later. The parts hand on the same
 //! histories, steps and reads in any order: the desk fits the whole of one, the orderer fits it without what stands

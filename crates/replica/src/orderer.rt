@@ -1,5 +1,5 @@
-//! What orders: the log of the three phases, what is kept for changes of the view, and the keys that frames are heard and
-//! posted with.
+//! What orders: the log of the three phases, what is kept for changes of the view, and the keys that frames are heard
+//! and posted with.
 
 ghost use Rattle.std.specs.Prelude.{◌≡◌, ◌+◌, ◌*◌, ◌<◌, IfOk};
 ghost use Rattle.wire.specs.Spelling.{IsBatch};

@@ -36,8 +36,8 @@ impl Joined {
 }
 
 impl Desk {
-    /// Answers the read that bytes with its marks ask for, if the replica hears one, from what is executed. The arena is
-    /// for its template alone. Nothing changes.
+    /// Answers the read that bytes with its marks ask for, if the replica hears one, from what is executed. The arena
+    /// is for its template alone. Nothing changes.
     pub(crate) fn read(
         &mut self,
         alloc: Global,

@@ -45,15 +45,16 @@ pub fn changes_are_made()
     ensures begun { ViewsAreBegun }
 {}
 
-/// Leaves sign in their order: the next one has signed no frame that was sent. Each one before it has signed a frame that
-/// was sent; so the keys are spent once 64 are.
+/// Leaves sign in their order: the next one has signed no frame that was sent. Each one before it has signed a frame
+/// that was sent; so the keys are spent once 64 are.
 pub fn leaves_are_spent()
     ensures all { AllAreSpent }
     ensures next { NextLeafIsOwn }
 {}
 
-/// A primary that selects nothing over the view changes that it holds for the view that it moves to, with a batch of each
-/// digest that it claims, has no new view left to send by its history (Castro and Liskov, TOCS 2002, on view changes).
+/// A primary that selects nothing over the view changes that it holds for the view that it moves to, with a batch of
+/// each digest that it claims, has no new view left to send by its history (Castro and Liskov, TOCS 2002, on view
+/// changes).
 pub fn no_views_are_left()
     ensures claimed { ClaimedSelectNothing }
     ensures fewer { FewerSelectNothing }

@@ -14,8 +14,8 @@ ghost use Rattle.replica_histories.specs.Fetching.{FetchesFit, DueFetchesFit, Qu
 ghost use Rattle.replica_histories.specs.Answering.{PartsFit, KeptFetchesCount, PartsSuffice, OtherNumbersOweNone, ReadsFit, ReadsSuffice, OtherOperationsOweNone};
 ghost use Rattle.replica_histories.specs.Numbers.{FirstNumbersFit, LogsAreOfNoLaterView, LaterNumberNothing, ViewsBegin, NumbersStay, OthersKeepNumbers, BatchesKeepNumbers, NumbersFit, NextIsFree, RequestsFit, InputsKeepNumbers, StatesFit, ExecutionsRaise, NumbersAreGiven, NumbersLeaveFewer, StatesLeaveNoMore};
 
-/// Where desk and log fit the history behind an event's outputs, nothing is due, nothing is left owed and what was asked
-/// is answered, they hold of that history, and so on at the next event. Between events nothing is left owed.
+/// Where desk and log fit the history behind an event's outputs, nothing is due, nothing is left owed and what was
+/// asked is answered, they hold of that history, and so on at the next event. Between events nothing is left owed.
 pub fn events_end()
     ensures end { EventsEnd }
     ensures settled { HeldAreSettled }
@@ -135,8 +135,8 @@ pub fn transfers_begin()
     ensures lower { LowerAreFetched }
 {}
 
-/// A transfer asks for parts of a state that may be installed, each the first that differs from what is in place, and is
-/// open behind the fetch of its place, also if it asks again at a tick.
+/// A transfer asks for parts of a state that may be installed, each the first that differs from what is in place, and
+/// is open behind the fetch of its place, also if it asks again at a tick.
 pub fn transfers_ask()
     ensures again { TicksMayAsk }
     ensures any { MayAskAny }
@@ -177,8 +177,8 @@ pub fn fetches_are_answered()
 {}
 
 /// An entry makes a quorum for the checkpoint alone that it brings; and each quorum above the executed number has its
-/// root fetched in the event that makes it, as has the start of a new view in the event that takes it (Castro and Liskov,
-/// TOCS 2002, on state transfer).
+/// root fetched in the event that makes it, as has the start of a new view in the event that takes it (Castro and
+/// Liskov, TOCS 2002, on state transfer).
 pub fn quorums_are_fetched()
     ensures grow { QuorumsGrow }
     ensures same { CountsStay }
@@ -200,8 +200,8 @@ pub fn fetches_fit()
     ensures none { HeldOweNoFetch }
 {}
 
-/// A part that is heard begins an event in which the open transfer may ask on with it, and it counts if the transfer asked
-/// for it. In an event another transfer that fits may take the open one's place.
+/// A part that is heard begins an event in which the open transfer may ask on with it, and it counts if the transfer
+/// asked for it. In an event another transfer that fits may take the open one's place.
 pub fn parts_enter()
     ensures digests { DigestsEnter }
     ensures pages { PagesEnter }
@@ -230,8 +230,8 @@ pub fn parts_fit()
 {}
 
 /// The reply to a read, from the executed state, may be given once the read was heard, and is all that is owed to it.
-/// Nothing is owed to an operation that is no read, or where nothing is asked (Castro and Liskov, TOCS 2002, on read-only
-/// operations).
+/// Nothing is owed to an operation that is no read, or where nothing is asked (Castro and Liskov, TOCS 2002, on
+/// read-only operations).
 pub fn reads_fit()
     ensures reads { ReadsFit }
     ensures suffice { ReadsSuffice }
@@ -251,8 +251,8 @@ pub fn requests_come_again()
 
 /// Which of the requests that wait have a number is known from the start, and from each new view on that begins a view:
 /// the requests in its batches have one. It stays so behind each entry at the view's primary that gives no number: all
-/// but a pre-prepare of a number that is free, as long as no new view is taken. In views above the own one nothing has a
-/// number (Castro and Liskov, TOCS 2002, on normal-case operation and view changes).
+/// but a pre-prepare of a number that is free, as long as no new view is taken. In views above the own one nothing has
+/// a number (Castro and Liskov, TOCS 2002, on normal-case operation and view changes).
 pub fn numbers_stay()
     ensures first { FirstNumbersFit }
     ensures known { LogsAreOfNoLaterView }
@@ -263,9 +263,9 @@ pub fn numbers_stay()
     ensures batches { BatchesKeepNumbers }
 {}
 
-/// The next number, given to the oldest requests without one, numbers none of them twice; and where it may not be given,
-/// or all that waits has one, nothing is owed of numbers (Castro and Liskov, TOCS 2002, on normal-case operation). All
-/// have one after as many numbers as requests wait.
+/// The next number, given to the oldest requests without one, numbers none of them twice; and where it may not be
+/// given, or all that waits has one, nothing is owed of numbers (Castro and Liskov, TOCS 2002, on normal-case
+/// operation). All have one after as many numbers as requests wait.
 pub fn numbers_are_given()
     ensures fit { NumbersFit }
     ensures free { NextIsFree }

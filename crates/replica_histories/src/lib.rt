@@ -1,6 +1,6 @@
-//! Laws of one replica over its history, as long as it knows one view, which its code stands on: that what it holds
-//! fits what it got and sent, and that it gives all that it owes but for reads (Castro and Liskov, Practical Byzantine
-//! fault tolerance and proactive recovery, TOCS 2002, on normal-case operation, garbage collection and state transfer).
+//! Laws of one replica over its history, which its code stands on: that what it holds fits what it got and sent, and
+//! that it gives all that it owes but for reads (Castro and Liskov, Practical Byzantine fault tolerance and proactive
+//! recovery, TOCS 2002, on normal-case operation, garbage collection, view changes and state transfer).
 //!
 //! # What is proved
 //!
@@ -16,8 +16,8 @@
 //! history alone, so that cut rows take nothing from it ([`numbers_stay`], [`numbers_are_given`],
 //! [`waiting_keeps_numbers`]).
 //!
-//! A transfer of a state by its parts is open from the event on in which a quorum of checkpoints is above the state, and
-//! asks for one place at a time ([`fetches_fit`], [`parts_enter`]). Its root is wanted, and what it has was got
+//! A transfer of a state by its parts is open from the event on in which a quorum of checkpoints is above the state,
+//! and asks for one place at a time ([`fetches_fit`], [`parts_enter`]). Its root is wanted, and what it has was got
 //! ([`parts_count`], [`parts_are_taken`], [`transfers_stay`]); a later quorum moves it, and what is executed may reach
 //! it ([`transfers_begin`], [`transfers_ask`], [`quorums_are_fetched`]); and where all pages have the root, their state
 //! may be installed ([`transfers_install`]). A part that it awaits brings it on ([`parts_bring_on`]). Whoever fetches a

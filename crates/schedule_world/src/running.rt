@@ -55,10 +55,10 @@ impl From<NoMemory> for RunFault {
     }
 }
 
-/// Plays the steps, each where those before it have led. Over every schedule in which at most `f` of the `3f + 1` replicas
-/// and any clients are faulty, what correct clients accept, of reads and writes alike, is what one sequential tuple space
-/// answers, in which each operation acts at most once, an accepted one exactly once, at a position between its invocation
-/// and its acceptance (Herlihy and Wing, Linearizability, TOPLAS 1990).
+/// Plays the steps, each where those before it have led. Over every schedule in which at most `f` of the `3f + 1`
+/// replicas and any clients are faulty, what correct clients accept, of reads and writes alike, is what one sequential
+/// tuple space answers, in which each operation acts at most once, an accepted one exactly once, at a position between
+/// its invocation and its acceptance (Herlihy and Wing, Linearizability, TOPLAS 1990).
 ///
 /// The report names the correct parties that stopped for want of memory. Each other one does all that it owes.
 ///

@@ -55,8 +55,8 @@ impl<N: Naming + Send + Sync + 'static> Cluster<N> {
     ///
     /// # Errors
     ///
-    /// BadConfig exactly where the configuration names a faulty party, NoThread where a thread could not be started, and
-    /// NoMemory. No thread is left then.
+    /// BadConfig exactly where the configuration names a faulty party, NoThread where a thread could not be started,
+    /// and NoMemory. No thread is left then.
     pub fn start<G: Gate + Send + Sync + Drop + 'static, R: Threads + Wait + Copy + Send + 'static>(
         rt: &R,
         alloc: Global,
@@ -79,7 +79,8 @@ impl<N: Naming + Send + Sync + 'static> Cluster<N> {
     /// # Errors
     ///
     /// BadConfig exactly where the drills are not those of the configuration's faulty replicas, each once and in any
-    /// order, or a client is faulty; NoThread where a thread could not be started; and NoMemory. No thread is left then.
+    /// order, or a client is faulty; NoThread where a thread could not be started; and NoMemory. No thread is left
+    /// then.
     pub fn start_with_drills<
         G: Gate + Send + Sync + Drop + 'static,
         R: Threads + Wait + Copy + Send + 'static,

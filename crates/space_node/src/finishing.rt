@@ -122,8 +122,8 @@ fn first_client_off<N: Naming>(journal: &Journal<N>, clients: &[ClientHandle<N>]
     None
 }
 
-// The parties that have stopped: the replicas, and then the clients. Each client does all that it owes to the end of its
-// history.
+// The parties that have stopped: the replicas, and then the clients. Each client does all that it owes to the end of
+// its history.
 fn name_stopped<N: Naming>(
     alloc: Global,
     shares: &[ReplicaShare<N>],

@@ -22,10 +22,10 @@
 //!
 //! # What is not
 //!
-//! That anything happens: that a thread runs, that a frame comes, that a call is answered. What a replica did before its
-//! threads ended, as far as its share does not tell it: so that nobody stops it without a reason. A frame that a channel
-//! doesn't take is lost, as in a network. That clients get frames of a stale replica, and none of a silent one, is
-//! tested, and that the journal takes as many entries as it is told.
+//! That anything happens: that a thread runs, that a frame comes, that a call is answered. What a replica did before
+//! its threads ended, as far as its share does not tell it: so that nobody stops it without a reason. A frame that a
+//! channel doesn't take is lost, as in a network. That clients get frames of a stale replica, and none of a silent one,
+//! is tested, and that the journal takes as many entries as it is told.
 #![tactic(auto)]
 
 mod client_seat;

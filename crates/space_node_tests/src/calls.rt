@@ -111,9 +111,9 @@ fn is_line(alloc: Global, answer: &Answer<Global>, line: &str) -> Result<bool, N
     Ok(text.as_slice() == line.as_bytes())
 }
 
-// Waits until the calls have ended, and says whether they did by themselves. If more nodes stop than they can spare, the
-// cluster ends. It also ends after a time without an end: a frame for which there was no memory is lost, and replicas
-// that executed its number don't send it again to the one that missed it.
+// Waits until the calls have ended, and says whether they did by themselves. If more nodes stop than they can spare,
+// the cluster ends. It also ends after a time without an end: a frame for which there was no memory is lost, and
+// replicas that executed its number don't send it again to the one that missed it.
 fn watch<N: Naming + Send + Sync + 'static, R: Wait + Clock>(
     rt: &R,
     cluster: &Cluster<N>,

@@ -29,8 +29,8 @@ use wire::BatchEntry;
 /// There are at most as many prepared claims as numbers within the marks, 32, and at most one logged claim for each of
 /// them and each view in which the replica was active. Liars can't make these views many: a replica becomes active in a
 /// later view by a new view alone, which carries the signed view changes for it of 2f + 1 replicas. With f liars, up to
-/// 3, at least f + 1 of these are of the 2f + 1 others, each of which signs 64 messages in all. So there are at most 112
-/// new views, and at most 113 * 32 logged claims, which fit a frame.
+/// 3, at least f + 1 of these are of the 2f + 1 others, each of which signs 64 messages in all. So there are at most
+/// 112 new views, and at most 113 * 32 logged claims, which fit a frame.
 #[derive(Drop)]
 pub struct Claims {
     prepared: Vec<Claim>,

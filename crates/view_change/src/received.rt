@@ -179,8 +179,8 @@ impl Received {
         copy_frames(alloc, &self.held, view)
     }
 
-    /// Why a view change would not be taken at a replica that was last active in the view, if it would not be: the first
-    /// refusal that applies, in the order of [`ChangeFault`], of which the signature is none.
+    /// Why a view change would not be taken at a replica that was last active in the view, if it would not be: the
+    /// first refusal that applies, in the order of [`ChangeFault`], of which the signature is none.
     pub fn refusal(&self, view: View, change: &Change) -> Option<ChangeFault>
         ensures { result ≡ spec.refusal_of (configuration_of self.now) view.0 self.now.held (change_pair change.now) }
     {

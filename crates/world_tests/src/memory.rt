@@ -117,8 +117,8 @@ fn has_stopped(report: &Report) -> bool {
     report.stopped.iter().any(|party| party.number() == CLIENT)
 }
 
-// A client that stopped in its second call has it in the trace, and sent nothing. If a party stopped before, so that the
-// first call has no answer, that call is open and the step of the second may not come.
+// A client that stopped in its second call has it in the trace, and sent nothing. If a party stopped before, so that
+// the first call has no answer, that call is open and the step of the second may not come.
 fn is_called_or_open(alloc: Global) -> bool {
     match (config(alloc), steps(alloc, &CALLED_AGAIN)) {
         (Some(config), Some(steps)) => match run(alloc, &config, steps.as_slice()) {

@@ -17,8 +17,8 @@ const VIEW_CHANGE: u8 = 0x46;
 
 const NEW_VIEW: u8 = 0x47;
 
-// Time goes by 65 times at replica 1, where a request waits. Each time but the last, for which it has no key, it moves to
-// the next view: the call, its request and its delivery, 65 ticks and 64 view changes.
+// Time goes by 65 times at replica 1, where a request waits. Each time but the last, for which it has no key, it moves
+// to the next view: the call, its request and its delivery, 65 ticks and 64 view changes.
 fn spends_its_keys(alloc: Global) -> bool {
     let mut lines = Vec::new(alloc);
     if lines
@@ -45,8 +45,8 @@ fn a_replica_that_spends_its_keys(rt: HostRuntime) {
 
 static TICK_ALL: [&str; 4] = ["tick r1", "tick r2", "tick r3", "flush"];
 
-// Replica 0, which is faulty, shows replica 1 the request of client 0 as the batch of number 1, and the other two that of
-// client 1. Then time goes by so often.
+// Replica 0, which is faulty, shows replica 1 the request of client 0 as the batch of number 1, and the other two that
+// of client 1. Then time goes by so often.
 fn put_two_faces(
     alloc: Global,
     times: usize,
@@ -78,8 +78,8 @@ fn report_of_two_faces(alloc: Global, times: usize, lines: &[&str]) -> Option<Re
     report_of_put(alloc, &config, put, steps.as_slice())
 }
 
-// Nothing is executed, so many view changes are made where time goes by so often, and nobody makes a new view: in view 1
-// replica 1 would have to, which doesn't have the batch that the other two logged.
+// Nothing is executed, so many view changes are made where time goes by so often, and nobody makes a new view: in view
+// 1 replica 1 would have to, which doesn't have the batch that the other two logged.
 fn is_stuck(alloc: Global, times: usize, changes: usize) -> bool {
     match report_of_two_faces(alloc, times, &[]) {
         Some(report) => {
@@ -155,7 +155,8 @@ static OF_FOUR: [&str; 5] = [
     "deliver 11 r1",
 ];
 
-// Replica 3, which is faulty, says that it prepared another batch for number 1; it says that it logged that one, or both.
+// Replica 3, which is faulty, says that it prepared another batch for number 1; it says that it logged that one, or
+// both.
 fn put_false_claim(
     alloc: Global,
     both: bool,
