@@ -5,7 +5,7 @@ use Rattle.std.proofs.lemmas.List.{map-append}
 use Rattle.tuple_codec.specs.Operations.{Operation}
 use Rattle.space.specs.Births.{SpaceState, state_after}
 use Rattle.space.specs.Watching.{WatchedState}
-use Rattle.space.proofs.Batches.{next_after, version_after}
+use Rattle.space.proofs.Batches.{next_after}
 use Rattle.wire.specs.Words.{requests_of}
 use Rattle.protocol.specs.System.Configuration.{Configuration}
 use Rattle.protocol.specs.Replica.State.{State, run_frame, ran_in, execute}
@@ -81,8 +81,5 @@ changes_on w w' w'' r r' r'' one two = record {
   are_replies = λ h. two.are_replies (one.are_replies h);
 }
 
-pub births_after : (s s' : SpaceState) (o : Operation) → s' ≡ state_after s o → s'.next ≤ s.next + 256
-births_after s s' o e = subst (λ (x : SpaceState). x.next ≤ s.next + 256) (sym e) (next_after s o)
-
-pub version_kept : (s s' : SpaceState) (o : Operation) → s' ≡ state_after s o → s'.version ≡ s.version
-version_kept s s' o e = ap (λ (x : SpaceState). x.version) e ∙ version_after s o
+pub births_after : (s s' : SpaceState) (client : ℕ) (o : Operation) → s' ≡ state_after s client o → s'.next ≤ s.next + 256
+births_after s s' client o e = subst (λ (x : SpaceState). x.next ≤ s.next + 256) (sym e) (next_after s client o)

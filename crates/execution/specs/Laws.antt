@@ -8,4 +8,4 @@ PagesDetermine = (s t : State) → IsState s → IsState t → pages_of s ≡ pa
 
 -- A page has at most 64 tuples, each of 1,024 bytes behind the 8 of its birth number, or one reply, which is shorter.
 abbrev pub PagesAreShort : Type 0
-PagesAreShort = (st : State) (page : ℕ) → IsState st → length (page_text st page) ≤ 66048
+PagesAreShort = (st : State) (page : ℕ) → IsState st → length (page_text st page) ≤ 66176

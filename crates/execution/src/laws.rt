@@ -7,7 +7,7 @@ pub fn pages_determine()
     ensures { PagesDetermine }
 {}
 
-/// The text of a state's page has at most 66,048 bytes.
+/// The text of a state's page has at most 66,176 bytes.
 pub fn pages_are_short()
     ensures { PagesAreShort }
 {}

@@ -10,7 +10,7 @@
 //! pages of the state and their root, though only pages that a request may have changed since the last call are written
 //! and hashed again. `install` puts the state of a number in its place exactly where it is given the pages of one in
 //! which no client's last timestamp is lower, want of memory aside, and else changes nothing. An [`Executed`] always is
-//! a state (`IsState`). Laws: `pages_determine` (equal pages are equal states), `pages_are_short` (66,048 bytes at the
+//! a state (`IsState`). Laws: `pages_determine` (equal pages are equal states), `pages_are_short` (66,176 bytes at the
 //! most).
 #![tactic(auto)]
 

@@ -1,6 +1,6 @@
 //! Running the requests of a batch.
 
-ghost use Rattle.std.specs.Prelude.{◌≡◌, ◌+◌, ◌*◌, ◌^◌, ◌<◌, ◌≤◌, map, length, OnOk};
+ghost use Rattle.std.specs.Prelude.{◌+◌, ◌*◌, ◌^◌, ◌<◌, ◌≤◌, map, length, OnOk};
 ghost use Rattle.wire.specs.Headers.{IsFrame};
 ghost use Rattle.wire.specs.Lists.{Each};
 ghost use Rattle.execution.specs.Running.{so_far, Runs, RunsAll};
@@ -39,7 +39,6 @@ fn run_frame(
     ensures runs { OnOk result (Runs clients number.0 frame.now
         (so_far space.old replies.old ran.old.items) (so_far space.new replies.new ran.new.items)) }
     ensures births { space.new.state.next ≤ space.old.state.next + 256 }
-    ensures version { space.new.state.version ≡ space.old.state.version }
     ensures changes { Changes space.old replies.old space.new replies.new }
 {
     let Some(call) = read_call(alloc, frame, clients)? else {
@@ -48,7 +47,7 @@ fn run_frame(
     if call.timestamp.0 <= replies.replies().seen(call.client) {
         return Ok(());
     }
-    let answer = space.apply(&call.op)?;
+    let answer = space.apply(call.client.number, &call.op)?;
     let kept = answer.copy_in(alloc)?;
     replies.put(call.client, call.timestamp, number, kept)?;
     ran.push(Ran {
@@ -76,7 +75,6 @@ pub fn run_frames(
     ensures runs { OnOk result (RunsAll clients number.0 (map (λ frame. frame.now) frames.now)
         (so_far space.old replies.old ran.old.items) (so_far space.new replies.new ran.new.items)) }
     ensures births { space.new.state.next ≤ space.old.state.next + 256 * length frames.now }
-    ensures version { space.new.state.version ≡ space.old.state.version }
     ensures changes { Changes space.old replies.old space.new replies.new }
 {
     for frame in frames {

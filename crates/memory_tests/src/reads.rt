@@ -50,7 +50,7 @@ impl Call for Answers {
 fn answers_under_each_size(rt: HostRuntime) -> Result<(), Fail> {
     let mut space = Space::new(rt.alloc());
     let out = read_op(rt.alloc(), OUT).ok_or("not prepared")?;
-    assert!(rt; space.births_left() && space.apply(&out).is_ok());
+    assert!(rt; space.births_left() && space.apply(0, &out).is_ok());
     let mut answers = Answers { space };
     if let Some(tally) = under_each_size(&rt, rt.alloc(), CRUMBS, CRUMB, &mut answers) {
         assert!(rt; tally.is_right(), "{tally:?}");

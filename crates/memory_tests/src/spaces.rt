@@ -54,7 +54,7 @@ impl Call for Puts {
 // None where memory ran out.
 fn applied(space: &mut Space, op: &Op<Global>) -> Option<Answer<Global>> {
     if space.births_left() {
-        space.apply(op).ok()
+        space.apply(0, op).ok()
     } else {
         Some(Answer::Full)
     }

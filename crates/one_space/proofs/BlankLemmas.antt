@@ -7,7 +7,7 @@ use Rattle.std.specs.List.{list_all}
 use Rattle.std.specs.Str.Lines.{lines, strip_carriage_return}
 use Rattle.std.specs.Io.BufRead.{drop_through}
 use Rattle.tuple_tree.specs.Items.{none}
-use Rattle.tuple_codec.specs.Operations.{Operation, out, rdp, inp, cas, rd_all, in_all}
+use Rattle.tuple_codec.specs.Operations.{Operation, out, rdp, inp, cas, rd_all, in_all, upgrade}
 use Rattle.tuple_text.specs.Texts.{AreBlanks}
 use Rattle.tuple_text.specs.Lines.{name, IsSkipped, IsComment}
 use Rattle.tuple_text.specs.Faults.{Refuses, IsBadAt, Begins, EndsTooLong, KeepsBoth}
@@ -71,6 +71,7 @@ unnamed (inp p) rest h = omega (arith, h.0)
 unnamed (cas p t) rest h = omega (arith, h.0)
 unnamed (rd_all n p) rest h = omega (arith, h.0)
 unnamed (in_all n p) rest h = omega (arith, h.0)
+unnamed upgrade rest h = omega (arith, h.0)
 
 -- a line whose first n bytes are blanks, as many as a line may have, and which is longer
 module _ (l : List ℕ) (n : ℕ) (blank : AreBlanks (take n l)) (least : 65536 ≤ n) (most : n ≤ 65536) (long : n + 1 ≤ length l) where

@@ -61,17 +61,17 @@ module _ (initial : Contents) (bytes : List ℕ) (known old new : Option (List �
   }
 
   pub past_operation : (left : Option (List ℕ)) (o : Operation) (first : List ℕ) (more_pending : List ℕ) (after : Contents) → n < 2 ^ 48 → IsNextLine first along.rest left
-      → IsLine o first → after ≡ tuples_after ts o → more_pending ≡ pending ++ result_line (outcome ts o) → Along initial bytes left old new (n + 1) after more_pending
+      → IsLine o first → after ≡ tuples_after ts 0 o → more_pending ≡ pending ++ result_line (outcome ts 0 o) → Along initial bytes left old new (n + 1) after more_pending
   past_operation left o first more_pending after below given is_line e w = record {
     rest = given.rest;
     done = along.done;
     known_is = given.left_is;
     wrote = along.wrote;
     leads = λ more ending r.
-        let answered = along.leads (result_line (outcome ts o) ++ more) ending
-        (subst (λ ls. Runs n ts ls (result_line (outcome ts o) ++ more) ending) (sym given.split) (answers o below is_line (subst (λ us. Runs (n + 1) us (lines given.rest) more ending) e r))) in
+        let answered = along.leads (result_line (outcome ts 0 o) ++ more) ending
+        (subst (λ ls. Runs n ts ls (result_line (outcome ts 0 o) ++ more) ending) (sym given.split) (answers o below is_line (subst (λ us. Runs (n + 1) us (lines given.rest) more ending) e r))) in
         subst (λ l. Runs 1 initial (lines bytes) l ending)
-        (sym (append_assoc (along.done ++ pending) (result_line (outcome ts o)) more) ∙ ap (λ l. l ++ more) (append_assoc along.done pending (result_line (outcome ts o)) ∙ ap (λ l. along.done ++ l) (sym w)))
+        (sym (append_assoc (along.done ++ pending) (result_line (outcome ts 0 o)) more) ∙ ap (λ l. l ++ more) (append_assoc along.done pending (result_line (outcome ts 0 o)) ∙ ap (λ l. along.done ++ l) (sym w)))
         answered;
   }
 
@@ -114,8 +114,8 @@ at_number initial start known old new n m ts pending e h =
     subst (λ k. IfSome start (λ bytes. Along initial bytes known old new k ts pending)) e h
 
 -- an operation raises the next birth number by 257 at the most
-pub state_after_next : (s : SpaceState) (o : Operation) → (state_after s o).next ≤ s.next + 257
-state_after_next s o = omega (arith, next_after s o)
+pub state_after_next : (s : SpaceState) (o : Operation) → (state_after s 0 o).next ≤ s.next + 257
+state_after_next s o = omega (arith, next_after s 0 o)
 
 -- What reading the next line tells of the bytes that are left.
 module _ (initial : Contents) (bytes : List ℕ) (known old new : Option (List ℕ)) (n : ℕ) (ts : Contents) (pending : List ℕ) (along : Along initial bytes known old new n ts pending)
@@ -141,14 +141,14 @@ module _ (initial : Contents) (bytes : List ℕ) (known old new : Option (List �
 
   pub runs_on : (field : NextLine) (op : Op Global) (after before : SpaceState) (more_pending : List ℕ) → n < 2 ^ 48
       → result ≡ Ok field → field ≡ next.Operation op → ts ≡ tuples_of before
-      → after ≡ state_after before (operation_of op)
-      → more_pending ≡ pending ++ result_line (outcome ts (operation_of op))
+      → after ≡ state_after before 0 (operation_of op)
+      → more_pending ≡ pending ++ result_line (outcome ts 0 (operation_of op))
       → Along initial bytes left old new (n + 1) (tuples_of after) more_pending
   runs_on field op after before more_pending below e f t s w =
       let given = gives field (next.Operation op) e f in
-      let is_after : tuples_of after ≡ tuples_after ts (operation_of op) =
+      let is_after : tuples_of after ≡ tuples_after ts 0 (operation_of op) =
       ap tuples_of s
-      ∙ (tuples_of-state_after before (operation_of op) ∙ ap (λ us. tuples_after us (operation_of op)) (sym t)) in
+      ∙ (tuples_of-state_after before 0 (operation_of op) ∙ ap (λ us. tuples_after us 0 (operation_of op)) (sym t)) in
       past_operation initial bytes known old new n ts pending along left (operation_of op) given.0 more_pending
       (tuples_of after) below given.1 given.2 is_after w
 

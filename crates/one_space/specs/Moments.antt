@@ -44,7 +44,7 @@ EndsLines result old new =
 
 -- The result line of the operation is put behind the others.
 abbrev pub AddsResult : {A : Type 0} → Op A → SpaceState → Vec ℕ Global → Vec ℕ Global → Type 0
-AddsResult op s old new = new.items ≡ old.items ++ result_line (outcome (tuples_of s) (operation_of op))
+AddsResult op s old new = new.items ≡ old.items ++ result_line (outcome (tuples_of s) 0 (operation_of op))
 
 -- Some results, or none, went to the writer.
 abbrev pub WritesDue : {W E : Type 0} → (W → Option (List ℕ)) → Result (Unit {0}) E

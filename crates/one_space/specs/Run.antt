@@ -1,5 +1,5 @@
--- What the lines of a script come to. They run on one space, and each operation writes its outcome on a line of
--- its own, until a line is refused.
+-- What the lines of a script come to. They run on one space, as operations of client 0, and each writes its outcome on a
+-- line of its own, until a line is refused.
 use Rattle.std.specs.Prelude.{◌≢◌, ℕ, ◌+◌, ◌^◌, ◌<◌, ◌≤◌, List, [], ◌∷◌, ◌++◌}
 use Rattle.tuple_codec.specs.Operations.{Operation, Outcome}
 use Rattle.tuple_text.specs.Lines.{IsLine, IsSkipped}
@@ -26,8 +26,8 @@ pub data Runs : ℕ → Contents → List (List ℕ) → List ℕ → Ending →
   skips : {n : ℕ} {ts : Contents} {l : List ℕ} {ls : List (List ℕ)} {written : List ℕ} {ending : Ending}
       → n < 2 ^ 48 → IsSkipped l → Runs (n + 1) ts ls written ending → Runs n ts (l ∷ ls) written ending
   answers : {n : ℕ} {ts : Contents} {l : List ℕ} {ls : List (List ℕ)} {written : List ℕ} {ending : Ending}
-      → (o : Operation) → n < 2 ^ 48 → IsLine o l → Runs (n + 1) (tuples_after ts o) ls written ending
-      → Runs n ts (l ∷ ls) (result_line (outcome ts o) ++ written) ending
+      → (o : Operation) → n < 2 ^ 48 → IsLine o l → Runs (n + 1) (tuples_after ts 0 o) ls written ending
+      → Runs n ts (l ∷ ls) (result_line (outcome ts 0 o) ++ written) ending
   refuses : {n : ℕ} {ts : Contents} {l : List ℕ} {ls : List (List ℕ)} {fault : LineFault}
       → n < 2 ^ 48 → fault ≢ NoMemory → Refuses fault l → Runs n ts (l ∷ ls) [] (refused_at n fault)
   is_late : {n : ℕ} {ts : Contents} {l : List ℕ} {ls : List (List ℕ)}

@@ -212,16 +212,16 @@ pub fn read_fault(fault: ReadFault) -> LocalFault
     }
 }
 
-// Applies the operation and adds the result line. At an error the results are as before.
+// Applies the operation as client 0's and adds the result line. At an error the results are as before.
 fn answer(space: &mut Space, op: &Op<Global>, results: &mut Vec<u8>) -> Result<(), NoMemory>
     requires { space.old.next < 2 ^ 62 }
-    ensures state { OnOk result (Follows space.old space.new (operation_of op.now)) }
-    ensures tuples { OnOk result (TuplesFollow space.old space.new (operation_of op.now)) }
+    ensures state { OnOk result (Follows space.old space.new 0 (operation_of op.now)) }
+    ensures tuples { OnOk result (TuplesFollow space.old space.new 0 (operation_of op.now)) }
     ensures ok { OnOk result (AddsResult op.now space.old results.old results.new) }
     ensures err { OnErr result (results.new.items ≡ results.old.items) }
 {
     let old_len = results.len();
-    let given = space.apply(op)?;
+    let given = space.apply(0, op)?;
     write_answer(&given, results)?;
     if results.push(b'\n').is_err() {
         results.truncate(old_len);

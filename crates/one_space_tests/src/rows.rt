@@ -8,7 +8,7 @@ use std::test::Fail;
 use tuple_text::LineFault;
 
 // Scripts on a space of version 1, their results, and how they end.
-static ROWS: [(&str, &str, Ending); 20] = [
+static ROWS: [(&str, &str, Ending); 23] = [
     (
         "out (\"a\\n\")\nrdp (?text)\n",
         "done\nfound (\"a\\n\")\n",
@@ -99,6 +99,21 @@ static ROWS: [(&str, &str, Ending); 20] = [
         "out (1)\ninAll 64 (*)\ninp (*)\n",
         "done\nrefused\nfound (1)\n",
         Ending::Complete,
+    ),
+    (
+        "out (w1)\nupgrade\nout (w1)\nrdp (?int)\ninAll 2 (*)\n",
+        "refused\ndone\ndone\nabsent\nall 1 (w1)\n",
+        Ending::Complete,
+    ),
+    (
+        "upgrade\nupgrade\ninAll 1 ()\n",
+        "done\ndone\nall 0\n",
+        Ending::Complete,
+    ),
+    (
+        "upgrade 2\n",
+        "",
+        Ending::Refused(1, LineFault::BadByte { offset: 8 }),
     ),
     (
         "out (?int)\n",

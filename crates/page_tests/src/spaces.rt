@@ -22,8 +22,22 @@ const HEADER: &[u8; 17] = b"\x01\0\0\0\0\0\0\0\x01\0\0\0\0\0\0\0\x01";
 
 const LATER_HEADER: &[u8; 17] = b"\x01\0\0\0\0\0\0\0\x01\0\0\0\0\0\0\x01\x02";
 
+// In version 2: the tuple `(1)` with birth number 0, `(w7)` with birth number 2, and the empty tuple with 1 and 257.
+const FIRST_V2: &[u8; 20] = b"\0\0\0\0\0\0\0\0\0\x0a\x01\x01\0\0\0\0\0\0\0\x01";
+
+const THIRD_V2: &[u8; 28] = b"\0\0\0\0\0\0\0\x02\0\x12\x01\x06\0\0\0\0\0\0\0\0\0\0\0\0\0\0\0\x07";
+
+const RISING_V2: &[u8; 22] = b"\0\0\0\0\0\0\0\x01\0\x01\0\0\0\0\0\0\0\x01\x01\0\x01\0";
+
+// Four executed batches and 3 as the next birth number, and those of the headers above.
+const UPGRADED_HEADER: &[u8; 17] = b"\x02\0\0\0\0\0\0\0\x04\0\0\0\0\0\0\0\x03";
+
+const HEADER_V2: &[u8; 17] = b"\x02\0\0\0\0\0\0\0\x01\0\0\0\0\0\0\0\x01";
+
+const LATER_HEADER_V2: &[u8; 17] = b"\x02\0\0\0\0\0\0\0\x01\0\0\0\0\0\0\x01\x02";
+
 fn is_applied(space: &mut Space, op: &Op<Global>) -> bool {
-    space.births_left() && space.apply(op).is_ok()
+    space.births_left() && space.apply(0, op).is_ok()
 }
 
 // Whether the operation of these bytes is applied, at the second try where memory ran out at the first one, which
@@ -58,6 +72,26 @@ fn pages_of_a_space(rt: HostRuntime) {
     assert!(rt; is_added(&mut space, rt.alloc(), b"\x21\x01\x01\0\0\0\0\0\0\0\x01"));
     assert!(rt; has_page(&space, 0, FIRST.as_slice()) && has_page(&space, 1, b""));
     assert_eq!(rt; space.header_text(1), *HEADER);
+}
+
+// An upgrade rewrites each page.
+#[test]
+fn pages_after_an_upgrade(rt: HostRuntime) {
+    let mut space = Space::new(rt.alloc());
+    assert!(rt; is_added(&mut space, rt.alloc(), b"\x21\x01\x01\0\0\0\0\0\0\0\x01"));
+    assert!(rt; is_added(&mut space, rt.alloc(), b"\x21\x01\x01\0\0\0\0\0\0\0\x02"));
+    assert!(rt; is_added(&mut space, rt.alloc(), b"\x27"));
+    assert!(rt;
+        is_added(
+            &mut space,
+            rt.alloc(),
+            b"\x21\x01\x06\0\0\0\0\0\0\0\0\0\0\0\0\0\0\0\x07"
+        )
+    );
+    assert!(rt;
+        has_page(&space, 0, FIRST_V2.as_slice()) && has_page(&space, 2, THIRD_V2.as_slice())
+    );
+    assert_eq!(rt; space.header_text(4), *UPGRADED_HEADER);
 }
 
 // Page 1 has the births 1 and 257 in their order.
@@ -105,10 +139,13 @@ fn are_read(alloc: Global, first: [&[u8]; 2], header: &[u8]) -> Result<bool, Bad
 // Passes whichever growth is refused.
 #[test]
 fn pages_are_read_back(rt: HostRuntime) {
-    let rows: [([&[u8]; 2], &[u8]); 3] = [
+    let rows: [([&[u8]; 2], &[u8]); 6] = [
         ([b"", b""], b"\x01\0\0\0\0\0\0\0\0\0\0\0\0\0\0\0\0"),
         ([FIRST, b""], HEADER),
         ([FIRST, RISING], LATER_HEADER),
+        ([b"", b""], b"\x02\0\0\0\0\0\0\0\0\0\0\0\0\0\0\0\0"),
+        ([FIRST_V2, b""], HEADER_V2),
+        ([FIRST_V2, RISING_V2], LATER_HEADER_V2),
     ];
     for (first, header) in rows {
         assert_eq!(rt; are_read(rt.alloc(), first, header), Ok(true));
@@ -116,10 +153,11 @@ fn pages_are_read_back(rt: HostRuntime) {
 }
 
 // Headers of no state.
-static WRONG_HEADERS: [&[u8]; 6] = [
+static WRONG_HEADERS: [&[u8]; 7] = [
     b"",
-    // Another version, a byte too few, a byte too many.
-    b"\x02\0\0\0\0\0\0\0\x01\0\0\0\0\0\0\0\x01",
+    // Other versions, a byte too few, a byte too many.
+    b"\0\0\0\0\0\0\0\0\x01\0\0\0\0\0\0\0\x01",
+    b"\x03\0\0\0\0\0\0\0\x01\0\0\0\0\0\0\0\x01",
     b"\x01\0\0\0\0\0\0\0\x01\0\0\0\0\0\0\0",
     b"\x01\0\0\0\0\0\0\0\x01\0\0\0\0\0\0\0\0\x01",
     // 4,097 births for one batch, and 2 to the power of 48 batches.
@@ -169,6 +207,29 @@ fn pages_of_no_state(rt: HostRuntime) {
     for &text in &WRONG_PAGES {
         assert_eq!(rt;
             are_read(rt.alloc(), [b"", text], LATER_HEADER),
+            Err(Bad::Malformed)
+        );
+    }
+}
+
+// Texts that page 1 doesn't have in version 2.
+static WRONG_PAGES_V2: [&[u8]; 7] = [
+    // Those of version 1.
+    RISING,
+    b"\0\0\0\0\0\0\0\x01\0",
+    // A length too great, one too small, one with the bytes turned, a length alone, and a byte too many.
+    b"\0\0\0\0\0\0\0\x01\0\x02\0",
+    b"\0\0\0\0\0\0\0\x01\0\0\0",
+    b"\0\0\0\0\0\0\0\x01\x01\0\0",
+    b"\0\0\0\0\0\0\0\x01\0\x01",
+    b"\0\0\0\0\0\0\0\x01\0\x01\0\0",
+];
+
+#[test]
+fn pages_of_no_state_in_version_2(rt: HostRuntime) {
+    for &text in &WRONG_PAGES_V2 {
+        assert_eq!(rt;
+            are_read(rt.alloc(), [b"", text], LATER_HEADER_V2),
             Err(Bad::Malformed)
         );
     }

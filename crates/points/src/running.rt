@@ -118,7 +118,7 @@ fn run_frame(
     if !space.births_left() {
         return Err(NoMemory);
     }
-    let answer = space.apply(&call.op)?;
+    let answer = space.apply(call.client.number, &call.op)?;
     let kept = answer.copy_in(alloc)?;
     replies.put(call.client, call.timestamp.0, turn.number.0, kept)?;
     let Some(position) = turn.place else {

@@ -1,5 +1,5 @@
 -- A read is accepted where 2f + 1 correct replicas stay at one number: each answers from the state of that number.
-use Rattle.std.proofs.Common.{◌≡◌, ℕ, suc, ◌+◌, ◌*◌, ◌≤◌, ◌⊎◌, inl, inr, Bool, true, cond, List, [], ◌∷◌, ◌++◌, Some, refl, sym, ap, ◌∙◌, subst, arith, append_assoc, eq-eqb}
+use Rattle.std.proofs.Common.{◌≡◌, ℕ, suc, ◌+◌, ◌-◌, ◌*◌, ◌≤◌, ◌⊎◌, inl, inr, Bool, true, cond, List, [], ◌∷◌, ◌++◌, Some, refl, sym, ap, ◌∙◌, subst, arith, append_assoc, eq-eqb}
 use Rattle.quorum.specs.Quorum.{count_below}
 use Rattle.tuple_codec.specs.Operations.{Operation, Outcome}
 use Rattle.space.specs.Applying.{is_read_only, outcome}
@@ -165,25 +165,25 @@ module _ (c : Configuration) (setting : IsConfiguration c) (k t n : ℕ) (op : O
     invokes : Once (Invokes me t op) (history_of me trace)
     invokes = subst (λ (xs : List Entry). Once (Invokes me t op) xs) (sym is_mine) (once_append (Invokes me t op) (history_of me later) (Invoke k t op ∷ history_of me start) (inl (refl, refl, refl)))
 
-    answers_it : answer ≡ outcome (tuples (state_by c trace opening 1 n)) op
+    answers_it : answer ≡ outcome (tuples (state_by c trace opening 1 n)) (me - 256) op
     answers_it =
         let s = read_replied c trace r me t number answer run correct client it in
         let same = one_invocation c me t s.op op (history_of me trace) (run.runs.clients me client) s.invoked invokes in
-        s.answer_is ∙ ap (λ (m : ℕ). outcome (tuples (state_by c trace opening 1 m)) s.op) at_number ∙ ap (outcome (tuples (state_by c trace opening 1 n))) same
+        s.answer_is ∙ ap (λ (m : ℕ). outcome (tuples (state_by c trace opening 1 m)) (me - 256) s.op) at_number ∙ ap (outcome (tuples (state_by c trace opening 1 n)) (me - 256)) same
 
   contradiction : (Accepting k t (history_of me later) → ⊥) → (answers : ℕ → Bool) → 2 * c.faults + 1 ≤ count_below answers (replicas c)
       → ((r : ℕ) → answers r ≡ true → (is_correct_replica c r ≡ true) × StaysAt n later begun r) → ⊥
   contradiction none answers enough each =
-      not_all_alike c setting later begun is_run goes unforged apart k call client opened all none modes.ReadOnly n (outcome (tuples (state_by c trace opening 1 n)) op) answers enough by same
+      not_all_alike c setting later begun is_run goes unforged apart k call client opened all none modes.ReadOnly n (outcome (tuples (state_by c trace opening 1 n)) (me - 256) op) answers enough by same
     where
       by : (r : ℕ) → answers r ≡ true → Voted c trace (history_of me later ++ history_of me begun) me t modes.ReadOnly r
       by r h =
           let correct = (each r h).0 in
           let e = event c setting later begun is_run goes unforged apart k call client opened all none modes.ReadOnly asked r correct in
-          voted c setting later begun is_run goes unforged apart k call client opened all none modes.ReadOnly asked r correct e.old.state.number (outcome (tuples e.old.state) op)
+          voted c setting later begun is_run goes unforged apart k call client opened all none modes.ReadOnly asked r correct e.old.state.number (outcome (tuples e.old.state) (me - 256) op)
           (e.owes.reads me t op (hears_request c setting later begun is_run goes unforged apart k call client opened all none modes.ReadOnly asked r correct).hears is_read)
 
-      same : (r : ℕ) (h : answers r ≡ true) → ((by r h).vote.number ≡ n) × ((by r h).vote.answer ≡ outcome (tuples (state_by c trace opening 1 n)) op)
+      same : (r : ℕ) (h : answers r ≡ true) → ((by r h).vote.number ≡ n) × ((by r h).vote.answer ≡ outcome (tuples (state_by c trace opening 1 n)) (me - 256) op)
       same r h =
           let v = by r h in (
             at_number r (each r h).0 (each r h).1 v.vote.number v.vote.answer v.says,

@@ -42,7 +42,7 @@ pub record IsReadReply (shelf : Shelf) (request : ReadRequest) (op : Operation) 
   pub read : is_read_only op ≡ true
   pub says : reply_data r
       ≡ read_reply request.client.number request.timestamp.0 shelf.number.0
-      (outcome (tuples_of shelf.space.now) op)
+      (outcome (tuples_of shelf.space.now) request.client.number op)
 
 -- It is so for the operation that the request asks for.
 abbrev pub AnswersRead : Shelf → ReadRequest → Reply → Type 0
@@ -55,7 +55,7 @@ AnswersRead shelf request r =
 abbrev pub begins_as_read : List ℕ → Bool
 begins_as_read text = slice_index text 0 == 0x22 || slice_index text 0 == 0x25
 
--- The answer is what the operation that the text spells comes to in a space.
+-- The answer is what the operation that the text spells comes to in a space, whichever client asks.
 abbrev pub AnswersText : SpaceState → List ℕ → Answer Global → Type 0
 AnswersText s text answer =
-    (op : Operation) → SpellsOperation text op → outcome_of answer ≡ outcome (tuples_of s) op
+    (client : ℕ) (op : Operation) → SpellsOperation text op → outcome_of answer ≡ outcome (tuples_of s) client op

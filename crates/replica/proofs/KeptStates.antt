@@ -59,7 +59,7 @@ page_answer pages k level index at text is same text_is =
 -- ---- the lengths of pages
 
 pub pages_short : (st : State) → IsState st → HaveShortPages (pages_of st)
-pages_short st is i below = subst (λ (text : List ℕ). length text ≤ 66048) (sym (page_there st i below)) (pages_are_short st i is)
+pages_short st is i below = subst (λ (text : List ℕ). length text ≤ 66176) (sym (page_there st i below)) (pages_are_short st i is)
 
 -- a page that is short fits a frame
 pub page_fits : (pages : List (List ℕ)) (m : Message) (k : ℕ) (level : Level) (index at : ℕ) (text : List ℕ) → HaveShortPages pages → m ≡ Page k index text → level ≡ levels.Page → index ≤ last_index level

@@ -1,5 +1,5 @@
 -- A read that is answered beside ordering keeps what the desk holds; no orderer is mentioned.
-use Rattle.std.proofs.Common.{◌≡◌, ℕ, suc, ◌+◌, ◌≤◌, inl, inr, true, false, List, [], ◌∷◌, map, refl, sym, ap, ◌∙◌, subst, arith, Option, Some, None, is_some, ◌<◌}
+use Rattle.std.proofs.Common.{◌≡◌, ℕ, suc, ◌+◌, ◌-◌, ◌≤◌, inl, inr, true, false, List, [], ◌∷◌, map, refl, sym, ap, ◌∙◌, subst, arith, Option, Some, None, is_some, ◌<◌}
 use Rattle.std.specs.Option.{option_map_or}
 use Rattle.std.specs.Prelude.{option_and_then}
 use Rattle.tuple_codec.specs.Operations.{Operation, Outcome}
@@ -141,9 +141,9 @@ module _ (c : Configuration) (me : ℕ) (h : List Entry) (p : Point) (bytes answ
       no_execution k (inr x) = x
 
       same_answer : (a t : ℕ) (o : Operation) → Some (read_from client timestamp op) ≡ Some (read_from a t o)
-          → said answer ≡ Some (record { sender = me; message = Reply a t modes.ReadOnly p.state.number (outcome (tuples p.state) o) })
+          → said answer ≡ Some (record { sender = me; message = Reply a t modes.ReadOnly p.state.number (outcome (tuples p.state) (a - 256) o) })
       same_answer a t o is =
-          subst (λ (b : Body). said answer ≡ Some (record { sender = me; message = elim b.message [ Request time mode x ↦ Reply b.sender time modes.ReadOnly p.state.number (outcome (tuples p.state) x) | _ ↦ b.message ] }))
+          subst (λ (b : Body). said answer ≡ Some (record { sender = me; message = elim b.message [ Request time mode x ↦ Reply b.sender time modes.ReadOnly p.state.number (outcome (tuples p.state) (b.sender - 256) x) | _ ↦ b.message ] }))
           (some_injective (read_from client timestamp op) (record { sender = a; message = Request t modes.ReadOnly o }) is) frame.says
 
   may_send : MaySend c me (Got me bytes ∷ h) mid (Sent me answer) answer
@@ -153,7 +153,7 @@ module _ (c : Configuration) (me : ℕ) (h : List Entry) (p : Point) (bytes answ
     own = refl;
     seen = tt;
     say = record { op = op; is_read = is_read; heard = inl hears; answer_is = refl; number_is = refl };
-    is_sealed = λ f is. let s = frame.is_sealed f is in (s.0, addressed c me (Got me bytes ∷ h) client timestamp p.state.number (outcome (tuples p.state) op) f.authenticator s.1);
+    is_sealed = λ f is. let s = frame.is_sealed f is in (s.0, addressed c me (Got me bytes ∷ h) client timestamp p.state.number (outcome (tuples p.state) (client - 256) op) f.authenticator s.1);
     leaf = unsigned_have_no_leaf (Got me bytes ∷ h) answer (record { sender = me; message = read_reply p.state client timestamp op }) frame.says refl;
     once = λ here. here;
   }

@@ -1,5 +1,5 @@
 -- A read is answered from what is executed.
-use Rattle.std.proofs.Common.{◌≡◌, ℕ, ◌+◌, ◌⊎◌, inl, inr, true, false, List, [], ◌∷◌, Some, refl, sym, ap, ◌∙◌, subst}
+use Rattle.std.proofs.Common.{◌≡◌, ℕ, ◌+◌, ◌-◌, arith, ◌⊎◌, inl, inr, true, false, List, [], ◌∷◌, Some, refl, sym, ap, ◌∙◌, subst}
 use Rattle.tuple_codec.specs.Operations.{Operation}
 use Rattle.space.specs.Applying.{is_read_only}
 use Rattle.terms.specs.declared.order.Mode.TheVariants as modes
@@ -158,7 +158,11 @@ answered d bytes shelf request reply before after h answer space number says = i
     same : 256 + reply.client.number ≡ 256 + request.client.number
     same = ap named a.says
 
+    client : request.client.number ≡ 256 + reply.client.number - 256
+    client = omega (arith, same)
+
     said_is : message_of reply ≡ read_reply d.executed.state (256 + reply.client.number) t h.op
-    said_is = a.says ∙ ap (λ k. Reply k t modes.ReadOnly shelf.number.0 (outcome (tuples_of shelf.space.now) h.op)) (sym same)
-        ∙ ap (λ n. Reply (256 + reply.client.number) t modes.ReadOnly n (outcome (tuples_of shelf.space.now) h.op)) number
-        ∙ ap (λ x. Reply (256 + reply.client.number) t modes.ReadOnly d.executed.state.number (outcome (tuples_of x) h.op)) space
+    said_is = a.says ∙ ap (λ k. Reply k t modes.ReadOnly shelf.number.0 (outcome (tuples_of shelf.space.now) request.client.number h.op)) (sym same)
+        ∙ ap (λ n. Reply (256 + reply.client.number) t modes.ReadOnly n (outcome (tuples_of shelf.space.now) request.client.number h.op)) number
+        ∙ ap (λ x. Reply (256 + reply.client.number) t modes.ReadOnly d.executed.state.number (outcome (tuples_of x) request.client.number h.op)) space
+        ∙ ap (λ i. Reply (256 + reply.client.number) t modes.ReadOnly d.executed.state.number (outcome (tuples_of d.executed.state.space) i h.op)) client

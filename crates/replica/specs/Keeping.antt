@@ -26,7 +26,7 @@ pub record AreKept (period number : ℕ) (snapshots : List Snapshot) : Type 0 wh
 
 -- No page is longer than a state's can be: 64 tuples of 1,024 bytes, each behind the 8 of its birth number.
 abbrev pub HaveShortPages : List (List ℕ) → Type 0
-HaveShortPages pages = (i : ℕ) → i < 1024 → length (slice_index_or pages i []) ≤ 66048
+HaveShortPages pages = (i : ℕ) → i < 1024 → length (slice_index_or pages i []) ≤ 66176
 
 -- A state is kept beside the newest two.
 abbrev pub newest_with : Snapshot → List Snapshot → List Snapshot

@@ -1,7 +1,7 @@
 -- What an input may want of a replica: a part of a state that it keeps, or a read; what it sent for a request that
 -- waits; that it goes on with a part that comes; or that it moves to another view. What an event owes to it (Castro and
 -- Liskov, TOCS 2002, on state transfer, on read-only operations, and on view changes).
-use Rattle.std.specs.Prelude.{◌≡◌, ℕ, ◌+◌, ◌≤◌, ◌⊎◌, Bool, true, false, List, ◌∷◌, ◌++◌, Option, Some}
+use Rattle.std.specs.Prelude.{◌≡◌, ℕ, ◌+◌, ◌-◌, ◌≤◌, ◌⊎◌, Bool, true, false, List, ◌∷◌, ◌++◌, Option, Some}
 use Rattle.std.specs.Option.{option_map_or}
 use Rattle.tuple_codec.specs.Operations.{Operation}
 use Rattle.space.specs.Applying.{outcome, is_read_only}
@@ -25,7 +25,7 @@ use Rattle.replica_histories.specs.TransfersAnswers.{AnswersFetches}
 
 -- the reply to a read: the outcome in a state, with that state's number
 abbrev pub read_reply : State → ℕ → ℕ → Operation → Message
-read_reply st client timestamp op = Reply client timestamp modes.ReadOnly st.number (outcome (tuples st) op)
+read_reply st client timestamp op = Reply client timestamp modes.ReadOnly st.number (outcome (tuples st) (client - 256) op)
 
 -- the read-only request of a client
 abbrev pub read_from : ℕ → ℕ → Operation → Body

@@ -16,6 +16,7 @@ use Rattle.space.specs.Filing.{births_by, first_key}
 use Rattle.space.specs.Found.{found_at, entries_at}
 use Rattle.space.specs.Keys.{template_key}
 use Rattle.space.specs.Pages.{entry_text, entries_text}
+use Rattle.space.specs.declared.version.Version.{Version}
 use Rattle.space.proofs.Filing.{filter-same}
 use Rattle.space.proofs.Keying.{closed_key}
 use Rattle.space.proofs.Texts.{entries_text_push}
@@ -127,14 +128,14 @@ module _ (es : List Entry) (births : List ℕ) (i b : ℕ) (within : i < length 
       ap (entries_at es) (take_more births i b within) ∙ flat_map-append (found_at es) (take i births) (get_or births i b ∷ [])
       ∙ ap (λ (xs : List Entry). entries_at es (take i births) ++ xs) (flat_map-cons (found_at es) (get_or births i b) [] ∙ append-nil (found_at es (get_or births i b)) ∙ ap (found_at es) (sym is))
 
-  pub text_here : (t : TupleTree) → Some t ≡ lookup (is_at (nat_cmp b)) es → entries_text (entries_at es (take i births)) ++ entry_text (b, t) ≡ entries_text (entries_at es (take (i + 1) births))
-  text_here t h =
-      sym (ap entries_text (text_next ∙ ap (λ (o : Option TupleTree). entries_at es (take i births) ++ map (λ t. (b, t)) (option_to_list o)) (sym h))
-      ∙ entries_text_push (entries_at es (take i births)) (b, t))
+  pub text_here : (v : Version) (t : TupleTree) → Some t ≡ lookup (is_at (nat_cmp b)) es → entries_text v (entries_at es (take i births)) ++ entry_text v (b, t) ≡ entries_text v (entries_at es (take (i + 1) births))
+  text_here v t h =
+      sym (ap (entries_text v) (text_next ∙ ap (λ (o : Option TupleTree). entries_at es (take i births) ++ map (λ t. (b, t)) (option_to_list o)) (sym h))
+      ∙ entries_text_push v (entries_at es (take i births)) (b, t))
 
-  pub text_gone : None ≡ lookup (is_at (nat_cmp b)) es → entries_text (entries_at es (take i births)) ≡ entries_text (entries_at es (take (i + 1) births))
-  text_gone h =
-      sym (ap entries_text (text_next ∙ ap (λ (o : Option TupleTree). entries_at es (take i births) ++ map (λ t. (b, t)) (option_to_list o)) (sym h) ∙ append-nil (entries_at es (take i births))))
+  pub text_gone : (v : Version) → None ≡ lookup (is_at (nat_cmp b)) es → entries_text v (entries_at es (take i births)) ≡ entries_text v (entries_at es (take (i + 1) births))
+  text_gone v h =
+      sym (ap (entries_text v) (text_next ∙ ap (λ (o : Option TupleTree). entries_at es (take i births) ++ map (λ t. (b, t)) (option_to_list o)) (sym h) ∙ append-nil (entries_at es (take i births))))
 
 -- where a copy is made there is a match
 pub copied_some : (n : ℕ) (xs ys zs : List TupleTree) (t : TupleTree) → (ys ++ t ∷ []) ++ zs ≡ take n xs → xs ≢ []

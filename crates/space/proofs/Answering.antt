@@ -4,7 +4,7 @@ use Rattle.std.specs.Prelude.{All, filter, find, is_some}
 use Rattle.std.proofs.lemmas.List.{length-take}
 use Rattle.std.proofs.lemmas.List.Elements.{All-head, All-tail, All-take, All-filter, All-map}
 use Rattle.tuple_tree.specs.Values.{TupleTree, TemplateTree, IsTuple}
-use Rattle.tuple_codec.specs.Operations.{Operation, out, rdp, inp, cas, rd_all, in_all, IsOperation, IsOutcome, done, swapped, all, full, refused, AreTuples}
+use Rattle.tuple_codec.specs.Operations.{Operation, out, rdp, inp, cas, rd_all, in_all, upgrade, IsOperation, IsOutcome, done, swapped, all, full, refused, AreTuples}
 use Rattle.template_match.specs.Tests.{is_match}
 use Rattle.space.specs.Applying.{refuses, served_outcome, outcome, has_room, first_match, found_or_absent}
 use Rattle.space.specs.Births.{SpaceState, IsState, tuples_of}
@@ -42,9 +42,10 @@ served_answers s (cas p t) h valid = go (is_some (first_match p (tuples_of s))) 
     go false false = tt
 served_answers s (rd_all n p) h valid = all_valid s n p h valid.1
 served_answers s (in_all n p) h valid = all_valid s n p h valid.1
+served_answers s upgrade h valid = tt
 
-pub answers_are_valid : (s : SpaceState) (o : Operation) → IsState s → IsOperation o → IsOutcome (outcome (tuples_of s) o)
-answers_are_valid s o h valid = go (refuses s.version o)
+pub answers_are_valid : (s : SpaceState) (client : ℕ) (o : Operation) → IsState s → IsOperation o → IsOutcome (outcome (tuples_of s) client o)
+answers_are_valid s client o h valid = go (refuses s.version client o)
   where
     go : (b : Bool) → IsOutcome (cond b refused (served_outcome (tuples_of s) o))
     go true = tt

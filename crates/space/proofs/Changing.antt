@@ -1,9 +1,11 @@
 -- Which pages an operation changes.
-use Rattle.std.proofs.Common.{◌≡◌, ◌≢◌, ◌⊎◌, inl, inr, ℕ, zero, suc, ◌%◌, ◌<◌, Bool, true, false, cond, List, [], ◌∷◌, ◌++◌, length, get_or, set, Some, refl, sym, ap, ◌∙◌, arith, append-nil}
+use Rattle.std.proofs.Common.{◌≡◌, ◌≢◌, ◌⊎◌, inl, inr, ℕ, zero, suc, ◌+◌, ◌%◌, ◌<◌, ◌≤◌, Bool, true, false, cond, List, [], ◌∷◌, ◌++◌, length, get_or, set, Some, refl, sym, ap, ◌∙◌, arith, append-nil}
 use Rattle.std.specs.Prelude.{◌==◌, All, Contains, find, map, remove, is_some}
+use Rattle.std.specs.List.{range_with_len}
 use Rattle.std.proofs.lemmas.Bool.{cases_eq, ne_eqb}
 use Rattle.std.proofs.lemmas.List.{get_or-set_same, get_or-set_other, length-set}
 use Rattle.std.proofs.lemmas.List.Elements.{All-nil, All-cons}
+use Rattle.std.proofs.lemmas.List.FromFn.{length-range_with_len, get_or-range_with_len}
 use Rattle.tuple_tree.specs.Values.{TupleTree, TemplateTree}
 use Rattle.template_match.specs.Tests.{is_match}
 use Rattle.space.specs.Applying.{has_room, first_match}
@@ -21,7 +23,7 @@ elsewhere page e other = ap (λ (b : Bool). cond b (e ∷ []) []) (ne_eqb (e.0 %
 module _ (s : SpaceState) (page : ℕ) (other : birth_of s % 256 ≢ page) where
   added : (t : TupleTree) → page_text (with_birth s t) page ≡ page_text s page
   added t =
-      ap entries_text (on_page-append page s.entries ((birth_of s, t) ∷ []) ∙ ap (λ (xs : List Entry). on_page page s.entries ++ xs) (elsewhere page (birth_of s, t) other)
+      ap (entries_text s.version) (on_page-append page s.entries ((birth_of s, t) ∷ []) ∙ ap (λ (xs : List Entry). on_page page s.entries ++ xs) (elsewhere page (birth_of s, t) other)
       ∙ append-nil (on_page page s.entries))
 
   pub text_with_tuple : (t : TupleTree) → page_text (with_tuple s t) page ≡ page_text s page
@@ -47,8 +49,8 @@ on_page-remove page (x ∷ xs) (suc i) d l other = ap (λ (ys : List Entry). con
 pub text_taken : (s : SpaceState) (p : TemplateTree) (e : Entry) (page : ℕ) → Some e ≡ find (λ e. is_match p e.1) s.entries → e.0 % 256 ≢ page → page_text (without_match s p) page ≡ page_text s page
 text_taken s p e page h other =
     let k = first_taken (λ (x : Entry). is_match p x.1) s.entries e (sym h) in
-    ap (λ (es : List Entry). entries_text (on_page page es)) k.1.left
-    ∙ ap entries_text (on_page-remove page s.entries k.0 e k.1.within (λ q. other (ap (λ (x : Entry). x.0 % 256) k.1.here ∙ q)))
+    ap (λ (es : List Entry). entries_text s.version (on_page page es)) k.1.left
+    ∙ ap (entries_text s.version) (on_page-remove page s.entries k.0 e k.1.within (λ q. other (ap (λ (x : Entry). x.0 % 256) k.1.here ∙ q)))
 
 -- ---- sets of pages
 
@@ -63,6 +65,18 @@ unmarked (b ∷ bs) old page long within none =
     let marked : get_or (set old at true) page false ≡ true = ap (λ (i : ℕ). get_or (set old at true) i false) (sym same) ∙ get_or-set_same old at true false (omega arith) in
     absurd (let e : true ≡ false = sym marked ∙ rest.0 in cc) in
     (sym (get_or-set_other old at page true false (λ q. other (sym q))) ∙ rest.0, All-cons (λ b. b % 256 ≢ page) b bs other rest.1)
+
+-- a set of pages with all from this one on
+pub with_pages_next : (pages : List Bool) (page n : ℕ) → page < 256 → with_pages pages (range_with_len page (suc n)) ≡ with_pages (set pages page true) (range_with_len (page + 1) n)
+with_pages_next pages page n l = let e : page % 256 ≡ page = omega arith in ap (λ (i : ℕ). with_pages (set pages i true) (range_with_len (page + 1) n)) e
+
+-- No page is none of the first n numbers.
+pub one_of_all : (page n : ℕ) → page < n → n ≤ 256 → All (λ b. b % 256 ≢ page) (range_with_len 0 n) → ⊥
+one_of_all page n l m h =
+    let first : 0 + page ≡ page = omega arith in
+    let is : get_or (range_with_len 0 n) page 0 ≡ page = get_or-range_with_len 0 n page 0 l ∙ first in
+    let e : page % 256 ≡ page = omega arith in
+    h page 0 (omega (arith, l, length-range_with_len 0 n)) (ap (λ (i : ℕ). i % 256) is ∙ e)
 
 -- One of the births lies on a page that is there afterwards and wasn't before.
 pub marked : (births : List ℕ) (old : List Bool) (page : ℕ) → get_or (with_pages old births) page false ≡ true → get_or old page false ≡ false → Contains (map (λ b. b % 256) births) page

@@ -1,18 +1,19 @@
 -- States are equal where their pages and headers are.
-use Rattle.std.proofs.Common.{◌≡◌, ℕ, suc, ◌%◌, ◌^◌, ◌≤◌, ◌<◌, Bool, true, false, cond, List, [], ◌∷◌, ◌++◌, length, take, drop, refl, sym, ap, ◌∙◌, subst, arith, eq-eqb, append_assoc}
+use Rattle.std.proofs.Common.{◌≡◌, ℕ, suc, ◌%◌, ◌^◌, ◌≤◌, ◌<◌, Bool, true, false, cond, List, [], ◌∷◌, ◌++◌, length, take, drop, get_or, refl, sym, ap, ◌∙◌, subst, arith, eq-eqb, append_assoc, length-append}
 use Rattle.std.specs.Prelude.{◌==◌, All, AllPairs, filter}
-use Rattle.std.specs.Int.{w64, to_be_bytes, from_be_bytes}
+use Rattle.std.specs.Int.{w16, w64, to_be_bytes, from_be_bytes}
 use Rattle.std.proofs.lemmas.List.{take_at, drop_at}
 use Rattle.std.proofs.lemmas.List.Elements.{All-cons, All-head, All-tail, All-filter, All-weaker}
 use Rattle.std.proofs.lemmas.Nat.{from_be_bytes-to_be_bytes_8}
-use Rattle.tuple_tree.specs.Values.{IsTuple}
+use Rattle.tuple_tree.specs.Values.{TupleTree, IsTuple}
 use Rattle.tuple_codec.specs.Spelling.{tuple_spelling}
 use Rattle.tuple_codec.specs.Reading.{tuple_at}
 use Rattle.tuple_codec.proofs.Grammar.{one, tuple_reads}
 use Rattle.space.specs.Births.{Entry, SpaceState, IsState}
 use Rattle.space.specs.Reading.{IsEntry}
 use Rattle.space.specs.declared.version.Version.{Version}
-use Rattle.space.specs.Pages.{entry_text, entries_text, on_page, page_text, header_text, IsStateAt}
+use Rattle.space.specs.declared.version.Version.TheVariants as versions
+use Rattle.space.specs.Pages.{stored_text, entry_text, entries_text, on_page, page_text, version_byte, header_text, IsStateAt}
 
 -- ---- numbers and texts
 
@@ -25,25 +26,43 @@ number_split a b u v l m e =
     let rest : u ≡ v = sym (drop_at (to_be_bytes w64 a) u 8 refl) ∙ ap (drop 8) e ∙ drop_at (to_be_bytes w64 b) v 8 refl in
     (bytes_same a b l m front, rest)
 
-pub entry_split : (e f : Entry) (u v : List ℕ) → IsEntry e → IsEntry f → entry_text e ++ u ≡ entry_text f ++ v → (e ≡ f) × (u ≡ v)
-entry_split e f u v d g t =
-    let a : to_be_bytes w64 e.0 ++ (tuple_spelling e.1 ++ u) ≡ to_be_bytes w64 f.0 ++ (tuple_spelling f.1 ++ v) =
-    sym (append_assoc (to_be_bytes w64 e.0) (tuple_spelling e.1) u) ∙ t ∙ append_assoc (to_be_bytes w64 f.0) (tuple_spelling f.1) v in
-    let s = number_split e.0 f.0 (tuple_spelling e.1 ++ u) (tuple_spelling f.1 ++ v) d.fits g.fits a in
-    let p = one IsTuple tuple_spelling tuple_at tuple_reads (tuple_spelling e.1) (tuple_spelling f.1) u v e.1 f.1
-    (record { valid = d.tuple; spelled = refl }) (record { valid = g.tuple; spelled = refl }) s.1 in
+tuple_split : (t r : TupleTree) (u v : List ℕ) → IsTuple t → IsTuple r → tuple_spelling t ++ u ≡ tuple_spelling r ++ v → (t ≡ r) × (u ≡ v)
+tuple_split t r u v d g e =
+    let p = one IsTuple tuple_spelling tuple_at tuple_reads (tuple_spelling t) (tuple_spelling r) u v t r
+    (record { valid = d; spelled = refl }) (record { valid = g; spelled = refl }) e in
     let rest : u ≡ v =
-    sym (drop_at (tuple_spelling e.1) u (length (tuple_spelling e.1)) refl) ∙ ap (drop (length (tuple_spelling e.1))) s.1
-    ∙ drop_at (tuple_spelling f.1) v (length (tuple_spelling e.1)) (ap length (sym p.0)) in
-    (rw (s.0, p.1) refl, rest)
+    sym (drop_at (tuple_spelling t) u (length (tuple_spelling t)) refl) ∙ ap (drop (length (tuple_spelling t))) e
+    ∙ drop_at (tuple_spelling r) v (length (tuple_spelling t)) (ap length (sym p.0)) in
+    (p.1, rest)
 
-pub entries_same : (es fs : List Entry) → All IsEntry es → All IsEntry fs → entries_text es ≡ entries_text fs → es ≡ fs
-entries_same [] [] d g t = refl
-entries_same [] (f ∷ fs) d g t = absurd (let h : ⊥ = cc in h)
-entries_same (e ∷ es) [] d g t = absurd (let h : ⊥ = cc in h)
-entries_same (e ∷ es) (f ∷ fs) d g t =
-    let s = entry_split e f (entries_text es) (entries_text fs) (All-head IsEntry e es d) (All-head IsEntry f fs g) t in
-    rw (s.0, entries_same es fs (All-tail IsEntry e es d) (All-tail IsEntry f fs g) s.1) refl
+-- what stands behind the length of a tuple's spelling
+pub behind_length : (t : TupleTree) (u : List ℕ) → drop 2 (stored_text versions.Two t ++ u) ≡ tuple_spelling t ++ u
+behind_length t u =
+    let front : List ℕ = to_be_bytes w16 (length (tuple_spelling t)) in
+    ap (drop 2) (append_assoc front (tuple_spelling t) u) ∙ drop_at front (tuple_spelling t ++ u) 2 refl
+
+pub stored_split : (w : Version) (t r : TupleTree) (u v : List ℕ) → IsTuple t → IsTuple r → stored_text w t ++ u ≡ stored_text w r ++ v → (t ≡ r) × (u ≡ v)
+stored_split versions.One t r u v d g e = tuple_split t r u v d g e
+stored_split versions.Two t r u v d g e = tuple_split t r u v d g (sym (behind_length t u) ∙ ap (drop 2) e ∙ behind_length r v)
+
+pub entry_split : (w : Version) (e f : Entry) (u v : List ℕ) → IsEntry e → IsEntry f → entry_text w e ++ u ≡ entry_text w f ++ v → (e ≡ f) × (u ≡ v)
+entry_split w e f u v d g t =
+    let a : to_be_bytes w64 e.0 ++ (stored_text w e.1 ++ u) ≡ to_be_bytes w64 f.0 ++ (stored_text w f.1 ++ v) =
+    sym (append_assoc (to_be_bytes w64 e.0) (stored_text w e.1) u) ∙ t ∙ append_assoc (to_be_bytes w64 f.0) (stored_text w f.1) v in
+    let s = number_split e.0 f.0 (stored_text w e.1 ++ u) (stored_text w f.1 ++ v) d.fits g.fits a in
+    let p = stored_split w e.1 f.1 u v d.tuple g.tuple s.1 in
+    (rw (s.0, p.0) refl, p.1)
+
+pub entries_none : (w : Version) (e : Entry) (u : List ℕ) → entry_text w e ++ u ≡ [] → ⊥
+entries_none w e u t = omega (arith, ap length t, length-append (entry_text w e) u, length-append (to_be_bytes w64 e.0) (stored_text w e.1))
+
+pub entries_same : (w : Version) (es fs : List Entry) → All IsEntry es → All IsEntry fs → entries_text w es ≡ entries_text w fs → es ≡ fs
+entries_same w [] [] d g t = refl
+entries_same w [] (f ∷ fs) d g t = absurd (entries_none w f (entries_text w fs) (sym t))
+entries_same w (e ∷ es) [] d g t = absurd (entries_none w e (entries_text w es) t)
+entries_same w (e ∷ es) (f ∷ fs) d g t =
+    let s = entry_split w e f (entries_text w es) (entries_text w fs) (All-head IsEntry e es d) (All-head IsEntry f fs g) t in
+    rw (s.0, entries_same w es fs (All-tail IsEntry e es d) (All-tail IsEntry f fs g) s.1) refl
 
 -- ---- pages of births that rise
 
@@ -114,6 +133,13 @@ on_page_fits s page h l = All-filter (λ e. e.0 % 256 == page) IsEntry s.entries
 pub next_fits : (s : SpaceState) (number : ℕ) → IsStateAt s number → s.next < 2 ^ 64
 next_fits s number h = let a = h.births in let b = h.few in omega arith
 
+-- the first byte tells the version
+pub one_version : (v w : Version) → version_byte v ≡ version_byte w → v ≡ w
+one_version versions.One versions.One e = refl
+one_version versions.One versions.Two e = absurd (omega (arith, e))
+one_version versions.Two versions.One e = absurd (omega (arith, e))
+one_version versions.Two versions.Two e = refl
+
 pub pages_determine : (s t : SpaceState) (m n : ℕ) → IsStateAt s m → IsStateAt t n → header_text s m ≡ header_text t n
     → ((page : ℕ) → page < 256 → page_text s page ≡ page_text t page) → (m ≡ n) × (s ≡ t)
 pages_determine s t m n h k e pages =
@@ -121,10 +147,12 @@ pages_determine s t m n h k e pages =
     let hm = h.few in
     let kn = k.few in
     let header = number_split m n (to_be_bytes w64 s.next) (to_be_bytes w64 t.next) (omega arith) (omega arith) u in
+    let version : s.version ≡ t.version = one_version s.version t.version (ap (λ bs. get_or bs 0 0) e) in
     let next : s.next ≡ t.next = bytes_same s.next t.next (next_fits s m h) (next_fits t n k) header.1 in
     let entries : s.entries ≡ t.entries = entries_from_pages s.entries t.entries h.state.rising k.state.rising (λ page l.
-    entries_same (on_page page s.entries) (on_page page t.entries) (on_page_fits s page h.state (next_fits s m h)) (on_page_fits t page k.state (next_fits t n k)) (pages page l)) in
-    (header.0, build s.version t.version s.entries t.entries s.next t.next (h.version ∙ sym k.version) entries next)
+    entries_same s.version (on_page page s.entries) (on_page page t.entries) (on_page_fits s page h.state (next_fits s m h)) (on_page_fits t page k.state (next_fits t n k))
+    (pages page l ∙ ap (λ w. entries_text w (on_page page t.entries)) (sym version))) in
+    (header.0, build s.version t.version s.entries t.entries s.next t.next version entries next)
   where
     build : (v w : Version) (es fs : List Entry) (a b : ℕ) → v ≡ w → es ≡ fs → a ≡ b
         → ◌≡◌ {A = SpaceState} (record { version = v; entries = es; next = a }) (record { version = w; entries = fs; next = b })

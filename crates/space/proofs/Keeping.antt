@@ -8,10 +8,10 @@ use Rattle.std.proofs.lemmas.List.Elements.{All-nil, All-push, All-append, All-t
 use Rattle.std.proofs.lemmas.List.Quantifiers.{all_pairs_push, all_pairs_remove}
 use Rattle.tuple_tree.specs.Items.{none}
 use Rattle.tuple_tree.specs.Values.{TupleTree, TemplateTree, IsTuple}
-use Rattle.tuple_codec.specs.Operations.{Operation, out, rdp, inp, cas, rd_all, in_all, IsOperation, is_read_only}
+use Rattle.tuple_codec.specs.Operations.{Operation, out, rdp, inp, cas, rd_all, in_all, upgrade, IsOperation, is_read_only}
 use Rattle.template_match.specs.Tests.{is_match}
 use Rattle.space.specs.Applying.{Contents, has_room, most_tuples, refuses, without_first, without_firsts, first_match, with_newest, served_after, tuples_after}
-use Rattle.space.specs.Births.{Entry, SpaceState, empty_in, tuples_of, page_count, has_page_room, first_passing, birth_of, with_birth, with_tuple, without_match, without_matches, served_state, state_after, IsState, IsNextBirth}
+use Rattle.space.specs.Births.{Entry, SpaceState, empty_in, tuples_of, page_count, has_page_room, first_passing, birth_of, with_birth, with_tuple, without_match, without_matches, upgraded, served_state, state_after, IsState, IsNextBirth}
 use Rattle.space.specs.Counted.{IsCounted}
 use Rattle.space.specs.declared.version.Version.{Version}
 use Rattle.space.specs.declared.version.Version.TheVariants as versions
@@ -96,6 +96,20 @@ pub IsState-without_matches : (n : ℕ) (s : SpaceState) (p : TemplateTree) → 
 IsState-without_matches zero s p h = h
 IsState-without_matches (suc n) s p h = IsState-without_matches n (without_match s p) p (IsState-without_match s p h)
 
+-- Version 2 allows as many tuples as each version, and more.
+most_rises : (v : Version) → most_tuples v ≤ 12288
+most_rises versions.One = omega arith
+most_rises versions.Two = omega arith
+
+pub IsState-upgraded : (s : SpaceState) → IsState s → IsState (upgraded s)
+IsState-upgraded s h = record {
+  rising = h.rising;
+  below_next = h.below_next;
+  pages = h.pages;
+  count = let few = h.count in omega (arith, few, most_rises s.version);
+  tuples = h.tuples;
+}
+
 length-tuples_of : (s : SpaceState) → length (tuples_of s).tuples ≡ length s.entries
 length-tuples_of s = length-map s.entries (λ e. e.1)
 
@@ -117,9 +131,10 @@ IsState-served_state s (cas p t) h valid = go (is_some (first_match p (tuples_of
     go false = IsState-with_tuple s t h valid.1
 IsState-served_state s (rd_all n p) h valid = h
 IsState-served_state s (in_all n p) h valid = IsState-without_matches n s p h
+IsState-served_state s upgrade h valid = IsState-upgraded s h
 
-pub IsState-state_after : (s : SpaceState) (o : Operation) → IsState s → IsOperation o → IsState (state_after s o)
-IsState-state_after s o h valid = go (refuses s.version o)
+pub IsState-state_after : (s : SpaceState) (client : ℕ) (o : Operation) → IsState s → IsOperation o → IsState (state_after s client o)
+IsState-state_after s client o h valid = go (refuses s.version client o)
   where
     go : (b : Bool) → IsState (cond b s (served_state s o))
     go true = h
@@ -147,17 +162,18 @@ tuples_of-served_state s (cas p t) = go (is_some (first_match p (tuples_of s)))
     go false = tuples_of-with_tuple s t
 tuples_of-served_state s (rd_all n p) = refl
 tuples_of-served_state s (in_all n p) = ap (λ ts. record (tuples_of s) { tuples = ts }) (without_firsts-map n p s.entries)
+tuples_of-served_state s upgrade = refl
 
-pub tuples_of-state_after : (s : SpaceState) (o : Operation) → tuples_of (state_after s o) ≡ tuples_after (tuples_of s) o
-tuples_of-state_after s o = go (refuses s.version o)
+pub tuples_of-state_after : (s : SpaceState) (client : ℕ) (o : Operation) → tuples_of (state_after s client o) ≡ tuples_after (tuples_of s) client o
+tuples_of-state_after s client o = go (refuses s.version client o)
   where
     go : (b : Bool) → tuples_of (cond b s (served_state s o)) ≡ cond b (tuples_of s) (served_after (tuples_of s) o)
     go true = refl
     go false = tuples_of-served_state s o
 
 -- What only reads leaves the tuples as they are.
-pub read_same : (ts : Contents) (o : Operation) → is_read_only o ≡ true → tuples_after ts o ≡ ts
-read_same ts o h = go (refuses ts.version o)
+pub read_same : (ts : Contents) (client : ℕ) (o : Operation) → is_read_only o ≡ true → tuples_after ts client o ≡ ts
+read_same ts client o h = go (refuses ts.version client o)
   where
     served : (o : Operation) → is_read_only o ≡ true → served_after ts o ≡ ts
     served (out t) h = absurd cc
@@ -166,6 +182,7 @@ read_same ts o h = go (refuses ts.version o)
     served (cas p t) h = absurd cc
     served (rd_all n p) h = refl
     served (in_all n p) h = absurd cc
+    served upgrade h = absurd cc
 
     go : (b : Bool) → cond b ts (served_after ts o) ≡ ts
     go true = refl

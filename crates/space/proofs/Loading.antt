@@ -9,7 +9,8 @@ use Rattle.tuple_tree.specs.Values.{IsTuple}
 use Rattle.space.specs.Births.{Entry}
 use Rattle.space.specs.Pages.{entry_text, entries_text, on_page}
 use Rattle.space.specs.Reading.{IsEntry, IsEntryOf, IsPage, IsAdded, IsPageRead, IsFrontRead}
-use Rattle.space.proofs.Determining.{entry_split}
+use Rattle.space.specs.declared.version.Version.{Version}
+use Rattle.space.proofs.Determining.{entry_split, entries_none}
 use Rattle.space.proofs.Texts.{entries_text_push}
 
 pub on_page-all : (P : Entry → Type 0) (page : ℕ) (es : List Entry) → All P (on_page page es) → All (λ x. x.0 % 256 ≡ page → P x) es
@@ -36,27 +37,27 @@ entry_fits page least next e l h = let b = h.below in record { fits = omega arit
 pub IsPage-fits : (page next : ℕ) (es : List Entry) → next < 2 ^ 64 → IsPage page next es → All IsEntry es
 IsPage-fits page next es l h k d m = let b = h.below_next k d m in record { fits = omega arith; tuple = h.tuples k d m }
 
-pub IsFrontRead-none : (page next : ℕ) (text : List ℕ) (old : List Entry) → AllPairs (λ e f. e.0 < f.0) old → on_page page old ≡ [] → IsFrontRead page next text old old text 0 0
-IsFrontRead-none page next text old rises empty =
+pub IsFrontRead-none : (v : Version) (page next : ℕ) (text : List ℕ) (old : List Entry) → AllPairs (λ e f. e.0 < f.0) old → on_page page old ≡ [] → IsFrontRead v page next text old old text 0 0
+IsFrontRead-none v page next text old rises empty =
     let none : IsPage page next [] = record { rising = λ i j d l m. absurd (omega arith); below_next = All-nil _; here = All-nil _; few = omega arith; tuples = All-nil _ } in
     record {
       rising = rises;
       valid = subst (IsPage page next) (sym empty) none;
-      spelled = ap (λ es. entries_text es ++ text) (sym empty);
+      spelled = ap (λ es. entries_text v es ++ text) (sym empty);
       others = λ p other. refl;
       counted = ap length (sym empty);
       above = subst (All (λ e. e.0 < 0)) (sym empty) (All-nil _);
       tight = λ n a. omega arith;
     }
 
-module _ (page next : ℕ) (text : List ℕ) (old es : List Entry) (rest : List ℕ) (count least : ℕ) (h : IsFrontRead page next text old es rest count least) where
+module _ (v : Version) (page next : ℕ) (text : List ℕ) (old es : List Entry) (rest : List ℕ) (count least : ℕ) (h : IsFrontRead v page next text old es rest count least) where
   -- what is on the page already comes before what may follow
   pub latest : (e : Entry) → IsEntryOf page least next e → All (λ x. x.0 % 256 ≡ e.0 % 256 → x.0 < e.0) es
   latest e of =
       let above = All-weaker (λ x. x.0 < least) (λ x. x.0 < e.0) (λ x l. let m = of.not_below in omega arith) (on_page page es) h.above in
       subst (λ p. All (λ x. x.0 % 256 ≡ p → x.0 < e.0) es) (sym of.here) (on_page-all (λ x. x.0 < e.0) page es above)
 
-  pub IsFrontRead-more : (e : Entry) (after : List ℕ) (new : List Entry) → IsEntryOf page least next e → rest ≡ entry_text e ++ after → count < 64 → IsAdded es new e → IsFrontRead page next text old new after (count + 1) (e.0 + 1)
+  pub IsFrontRead-more : (e : Entry) (after : List ℕ) (new : List Entry) → IsEntryOf page least next e → rest ≡ entry_text v e ++ after → count < 64 → IsAdded es new e → IsFrontRead v page next text old new after (count + 1) (e.0 + 1)
   IsFrontRead-more e after new of front few added =
       let xs : List Entry = on_page page es in
       let now : on_page page new ≡ xs ++ e ∷ [] = added.pages page ∙ ap (λ ys. xs ++ ys) (one_here page e of.here) in
@@ -71,8 +72,8 @@ module _ (page next : ℕ) (text : List ℕ) (old es : List Entry) (rest : List 
       record {
         rising = added.rising;
         valid = subst (IsPage page next) (sym now) more;
-        spelled = h.spelled ∙ ap (λ bs. entries_text xs ++ bs) front ∙ sym (append_assoc (entries_text xs) (entry_text e) after)
-            ∙ ap (λ bs. bs ++ after) (sym (entries_text_push xs e)) ∙ ap (λ ys. entries_text ys ++ after) (sym now);
+        spelled = h.spelled ∙ ap (λ bs. entries_text v xs ++ bs) front ∙ sym (append_assoc (entries_text v xs) (entry_text v e) after)
+            ∙ ap (λ bs. bs ++ after) (sym (entries_text_push v xs e)) ∙ ap (λ ys. entries_text v ys ++ after) (sym now);
         others = λ p other. added.pages p ∙ ap (λ ys. on_page p es ++ ys) (none_here p e (λ same. other (sym same ∙ of.here))) ∙ append-nil (on_page p es) ∙ h.others p other;
         counted = omega (arith, h.counted, length_push xs e, ap length now);
         above = subst (All (λ x. x.0 < e.0 + 1)) (sym now) (All-push (λ x. x.0 < e.0 + 1) xs e (All-weaker (λ x. x.0 < e.0) (λ x. x.0 < e.0 + 1) (λ x l. omega arith) xs below) (omega arith));
@@ -83,56 +84,56 @@ module _ (page next : ℕ) (text : List ℕ) (old es : List Entry) (rest : List 
             omega arith;
       }
 
-  pub IsPageRead-all : rest ≡ [] → IsPageRead page next text old es
-  IsPageRead-all none = record { rising = h.rising; valid = h.valid; spelled = h.spelled ∙ ap (λ bs. entries_text (on_page page es) ++ bs) none ∙ append-nil _; others = h.others }
+  pub IsPageRead-all : rest ≡ [] → IsPageRead v page next text old es
+  IsPageRead-all none = record { rising = h.rising; valid = h.valid; spelled = h.spelled ∙ ap (λ bs. entries_text v (on_page page es) ++ bs) none ∙ append-nil _; others = h.others }
 
 -- Texts where one goes on as the other: so do the entries.
-prefix : (es fs : List Entry) (rest : List ℕ) → All IsEntry es → All IsEntry fs → entries_text es ≡ entries_text fs ++ rest → (more : List Entry) × (es ≡ fs ++ more) × (rest ≡ entries_text more)
-prefix es [] rest a b t = (es, refl, sym t)
-prefix [] (f ∷ fs) rest a b t = absurd (let h : ⊥ = cc in h)
-prefix (e ∷ es) (f ∷ fs) rest a b t =
-    let s = entry_split e f (entries_text es) (entries_text fs ++ rest) (All-head IsEntry e es a) (All-head IsEntry f fs b) (t ∙ append_assoc (entry_text f) (entries_text fs) rest) in
-    let r = prefix es fs rest (All-tail IsEntry e es a) (All-tail IsEntry f fs b) s.1 in
+prefix : (w : Version) (es fs : List Entry) (rest : List ℕ) → All IsEntry es → All IsEntry fs → entries_text w es ≡ entries_text w fs ++ rest → (more : List Entry) × (es ≡ fs ++ more) × (rest ≡ entries_text w more)
+prefix w es [] rest a b t = (es, refl, sym t)
+prefix w [] (f ∷ fs) rest a b t = absurd (entries_none w f (entries_text w fs ++ rest) (sym (t ∙ append_assoc (entry_text w f) (entries_text w fs) rest)))
+prefix w (e ∷ es) (f ∷ fs) rest a b t =
+    let s = entry_split w e f (entries_text w es) (entries_text w fs ++ rest) (All-head IsEntry e es a) (All-head IsEntry f fs b) (t ∙ append_assoc (entry_text w f) (entries_text w fs) rest) in
+    let r = prefix w es fs rest (All-tail IsEntry e es a) (All-tail IsEntry f fs b) s.1 in
     (r.0, ap (λ x. x ∷ es) s.0 ∙ ap (λ xs. f ∷ xs) r.1, r.2)
 
 -- What a page that is spelled so goes on with.
-module _ (page next : ℕ) (text : List ℕ) (old es : List Entry) (rest : List ℕ) (count least : ℕ) (h : IsFrontRead page next text old es rest count least) (l : next < 2 ^ 64)
-    (all : List Entry) (valid : IsPage page next all) (spelled : text ≡ entries_text all) where
-  left : (more : List Entry) × (all ≡ on_page page es ++ more) × (rest ≡ entries_text more)
-  left = prefix all (on_page page es) rest (IsPage-fits page next all l valid) (IsPage-fits page next (on_page page es) l h.valid) (sym spelled ∙ h.spelled)
+module _ (v : Version) (page next : ℕ) (text : List ℕ) (old es : List Entry) (rest : List ℕ) (count least : ℕ) (h : IsFrontRead v page next text old es rest count least) (l : next < 2 ^ 64)
+    (all : List Entry) (valid : IsPage page next all) (spelled : text ≡ entries_text v all) where
+  left : (more : List Entry) × (all ≡ on_page page es ++ more) × (rest ≡ entries_text v more)
+  left = prefix v all (on_page page es) rest (IsPage-fits page next all l valid) (IsPage-fits page next (on_page page es) l h.valid) (sym spelled ∙ h.spelled)
 
   pub no_more : 64 ≤ count → rest ≡ []
   no_more many = go left.0 left.1 left.2
     where
-      go : (more : List Entry) → all ≡ on_page page es ++ more → rest ≡ entries_text more → rest ≡ []
+      go : (more : List Entry) → all ≡ on_page page es ++ more → rest ≡ entries_text v more → rest ≡ []
       go [] is r = r
       go (m ∷ ms) is r = absurd (omega (arith, ap length is, length-append (on_page page es) (m ∷ ms), h.counted, valid.few))
 
   next_of : (m : Entry) (ms : List Entry) → all ≡ on_page page es ++ m ∷ ms → IsEntryOf page least next m
   next_of m ms is =
       let xs : List Entry = on_page page es in
-      let v : IsPage page next (xs ++ m ∷ ms) = subst (IsPage page next) is valid in
+      let p : IsPage page next (xs ++ m ∷ ms) = subst (IsPage page next) is valid in
       let long : length xs < length (xs ++ m ∷ ms) = omega (arith, length-append xs (m ∷ ms)) in
       let at : get_or (xs ++ m ∷ ms) (length xs) m ≡ m = get_or_at xs m ms m (length xs) refl in
       let before : All (λ x. x.0 < m.0) xs = λ k d n.
-      let p : (get_or (xs ++ m ∷ ms) k m).0 < (get_or (xs ++ m ∷ ms) (length xs) m).0 = v.rising k (length xs) m n long in
-      subst (λ x. x.0 < m.0) (get_or_append_left xs (m ∷ ms) m k n ∙ same xs k m d n) (subst (λ x. (get_or (xs ++ m ∷ ms) k m).0 < x.0) at p) in
+      let q : (get_or (xs ++ m ∷ ms) k m).0 < (get_or (xs ++ m ∷ ms) (length xs) m).0 = p.rising k (length xs) m n long in
+      subst (λ x. x.0 < m.0) (get_or_append_left xs (m ∷ ms) m k n ∙ same xs k m d n) (subst (λ x. (get_or (xs ++ m ∷ ms) k m).0 < x.0) at q) in
       record {
-        here = subst (λ x. x.0 % 256 ≡ page) at (v.here (length xs) m long);
+        here = subst (λ x. x.0 % 256 ≡ page) at (p.here (length xs) m long);
         not_below = h.tight m.0 before;
-        below = subst (λ x. x.0 < next) at (v.below_next (length xs) m long);
-        tuple = subst (λ x. IsTuple x.1) at (v.tuples (length xs) m long);
+        below = subst (λ x. x.0 < next) at (p.below_next (length xs) m long);
+        tuple = subst (λ x. IsTuple x.1) at (p.tuples (length xs) m long);
       }
     where
       same : (xs : List Entry) (k : ℕ) (d e : Entry) → k < length xs → get_or xs k d ≡ get_or xs k e
       same xs k d e n = get_or_default xs k d e n
 
-  pub next_there : rest ≢ [] → (m : Entry) × (after : List ℕ) × IsEntryOf page least next m × (rest ≡ entry_text m ++ after)
+  pub next_there : rest ≢ [] → (m : Entry) × (after : List ℕ) × IsEntryOf page least next m × (rest ≡ entry_text v m ++ after)
   next_there some = go left.0 left.1 left.2
     where
-      go : (more : List Entry) → all ≡ on_page page es ++ more → rest ≡ entries_text more → (m : Entry) × (after : List ℕ) × IsEntryOf page least next m × (rest ≡ entry_text m ++ after)
+      go : (more : List Entry) → all ≡ on_page page es ++ more → rest ≡ entries_text v more → (m : Entry) × (after : List ℕ) × IsEntryOf page least next m × (rest ≡ entry_text v m ++ after)
       go [] is r = absurd (some r)
-      go (m ∷ ms) is r = (m, entries_text ms, next_of m ms is, r)
+      go (m ∷ ms) is r = (m, entries_text v ms, next_of m ms is, r)
 
 pub not_empty : (xs : List ℕ) → false ≡ (length xs == 0) → xs ≢ []
 not_empty xs t e = absurd (let bad : false ≡ true = t ∙ eq-eqb (length xs) 0 (ap length e) in let g : ⊥ = cc in g)

@@ -11,9 +11,10 @@ use Rattle.std.proofs.lemmas.Bool.{eqb-true}
 use Rattle.tuple_tree.specs.Values.{IsTuple}
 use Rattle.space.specs.Births.{Entry, SpaceState, IsState, page_count}
 use Rattle.space.specs.Counted.{IsCounted}
-use Rattle.space.specs.Pages.{ArePages, MayBePages, entries_text, on_page}
+use Rattle.space.specs.Applying.{most_tuples}
+use Rattle.space.specs.Pages.{ArePages, MayBePages, entries_text, on_page, version_byte}
 use Rattle.space.specs.Reading.{IsPage, IsPageRead, ArePagesRead, ArePagesOf, IsHeader}
-use Rattle.space.specs.declared.version.Version.TheVariants as versions
+use Rattle.space.specs.declared.version.Version.{Version}
 use Rattle.space.proofs.Determining.{entries_same, entries_from_pages, on_page_fits, pages_determine}
 use Rattle.space.proofs.Loading.{on_page-all, IsPage-fits}
 
@@ -38,20 +39,20 @@ IsPage-of_state s page h = record {
 }
 
 -- the texts are so many as pages, and the header is that of a state with no tuples
-pub MayBePages-read : (texts : List (List ℕ)) (header : List ℕ) (number next : ℕ) → length texts ≡ 256 → IsHeader header number next → MayBePages texts header
-MayBePages-read texts header number next all h =
-    let s : SpaceState = record { version = versions.One; entries = []; next = next } in
+pub MayBePages-read : (texts : List (List ℕ)) (header : List ℕ) (v : Version) (number next : ℕ) → length texts ≡ 256 → IsHeader header v number next → MayBePages texts header
+MayBePages-read texts header v number next all h =
+    let s : SpaceState = record { version = v; entries = []; next = next } in
     let valid : IsState s = record { rising = λ i j d l m. absurd (omega arith); below_next = All-nil _; pages = λ page. omega arith; count = omega arith; tuples = All-nil _ } in
     record {
       all = all;
-      heading = (s, number, record { state = valid; version = refl; births = h.births; few = h.few }, h.spelled);
+      heading = (s, number, record { state = valid; births = h.births; few = h.few }, h.spelled);
     }
 
 -- ---- page by page
 
-pub ArePagesRead-none : (next : ℕ) (texts : List (List ℕ)) (counts : List ℕ) → ((page : ℕ) → page < 256 → get_or counts page 0 ≡ 0) → length counts ≡ 256 → ArePagesRead 0 next texts [] counts
+pub ArePagesRead-none : (v : Version) (next : ℕ) (texts : List (List ℕ)) (counts : List ℕ) → ((page : ℕ) → page < 256 → get_or counts page 0 ≡ 0) → length counts ≡ 256 → ArePagesRead v 0 next texts [] counts
 unfolding on_page
-ArePagesRead-none next texts counts zero long = record {
+ArePagesRead-none v next texts counts zero long = record {
   rising = λ i j d l m. absurd (omega arith);
   valid = λ page l. absurd (omega arith);
   spelled = λ page l. absurd (omega arith);
@@ -60,17 +61,17 @@ ArePagesRead-none next texts counts zero long = record {
   long = long;
 }
 
-pub ArePagesRead-more : (n next : ℕ) (texts : List (List ℕ)) (text : List ℕ) (old new : List Entry) (counts : List ℕ) (count : ℕ) → ArePagesRead n next texts old counts → n < 256
-    → get_or texts n [] ≡ text → IsPageRead n next text old new → count ≡ length (on_page n new) → ArePagesRead (n + 1) next texts new (set counts n count)
-ArePagesRead-more n next texts text old new counts count h l is read counted = record {
+pub ArePagesRead-more : (v : Version) (n next : ℕ) (texts : List (List ℕ)) (text : List ℕ) (old new : List Entry) (counts : List ℕ) (count : ℕ) → ArePagesRead v n next texts old counts → n < 256
+    → get_or texts n [] ≡ text → IsPageRead v n next text old new → count ≡ length (on_page n new) → ArePagesRead v (n + 1) next texts new (set counts n count)
+ArePagesRead-more v n next texts text old new counts count h l is read counted = record {
   rising = read.rising;
   valid = λ page m. elim (cases_eq page n) [
     | inl same ↦ subst (λ p. IsPage p next (on_page p new)) (sym same) read.valid
     | inr other ↦ subst (IsPage page next) (sym (read.others page other)) (h.valid page (omega arith))
   ];
   spelled = λ page m. elim (cases_eq page n) [
-    | inl same ↦ subst (λ p. get_or texts p [] ≡ entries_text (on_page p new)) (sym same) (is ∙ read.spelled)
-    | inr other ↦ h.spelled page (omega arith) ∙ ap entries_text (sym (read.others page other))
+    | inl same ↦ subst (λ p. get_or texts p [] ≡ entries_text v (on_page p new)) (sym same) (is ∙ read.spelled)
+    | inr other ↦ h.spelled page (omega arith) ∙ ap (entries_text v) (sym (read.others page other))
   ];
   unread = λ page m. read.others page (λ same. absurd (omega arith)) ∙ h.unread page (omega arith);
   counted = λ page m. elim (cases_eq page n) [
@@ -82,8 +83,8 @@ ArePagesRead-more n next texts text old new counts count h l is read counted = r
 
 -- ---- all pages
 
-module _ (next : ℕ) (texts : List (List ℕ)) (es : List Entry) (counts : List ℕ) (h : ArePagesRead 256 next texts es counts) where
-  IsState-read : length es ≤ 8192 → IsState (record { version = versions.One; entries = es; next = next })
+module _ (v : Version) (next : ℕ) (texts : List (List ℕ)) (es : List Entry) (counts : List ℕ) (h : ArePagesRead v 256 next texts es counts) where
+  IsState-read : length es ≤ most_tuples v → IsState (record { version = v; entries = es; next = next })
   IsState-read few = record {
     rising = h.rising;
     below_next = all_from_pages (λ e. e.0 < next) es (λ page l. (h.valid page l).below_next);
@@ -95,26 +96,27 @@ module _ (next : ℕ) (texts : List (List ℕ)) (es : List Entry) (counts : List
     tuples = all_from_pages (λ e. IsTuple e.1) es (λ page l. (h.valid page l).tuples);
   }
 
-  pub IsCounted-read : length es ≤ 8192 → IsCounted versions.One es next counts
+  pub IsCounted-read : length es ≤ most_tuples v → IsCounted v es next counts
   IsCounted-read few = record { state = IsState-read few; counted = λ page l. h.counted page l ∙ sym (page_count-on_page es page) }
 
-  pub ArePagesOf-read : length es ≤ 8192 → ArePagesOf next texts (record { version = versions.One; entries = es; next = next })
+  pub ArePagesOf-read : length es ≤ most_tuples v → ArePagesOf v next texts (record { version = v; entries = es; next = next })
   ArePagesOf-read few = record { state = IsState-read few; version = refl; same_next = refl; each = h.spelled }
 
   -- a state with these pages has these tuples
-  pub same_entries : (s : SpaceState) → next < 2 ^ 64 → ArePagesOf next texts s → es ≡ s.entries
+  pub same_entries : (s : SpaceState) → next < 2 ^ 64 → ArePagesOf v next texts s → es ≡ s.entries
   same_entries s l of =
       entries_from_pages es s.entries h.rising of.state.rising (λ page m.
       let fits = on_page_fits s page of.state (subst (λ n. n < 2 ^ 64) (sym of.same_next) l) in
-      entries_same (on_page page es) (on_page page s.entries) (IsPage-fits page next (on_page page es) l (h.valid page m)) fits (sym (h.spelled page m) ∙ of.each page m))
+      entries_same v (on_page page es) (on_page page s.entries) (IsPage-fits page next (on_page page es) l (h.valid page m)) fits (sym (h.spelled page m) ∙ of.each page m ∙ ap (λ w. entries_text w (on_page page s.entries)) of.version))
 
-pub ArePages-read : (texts : List (List ℕ)) (header : List ℕ) (s : SpaceState) (number next : ℕ) → length texts ≡ 256 → IsHeader header number next → ArePagesOf next texts s → ArePages texts header s number
-ArePages-read texts header s number next all head of =
+pub ArePages-read : (texts : List (List ℕ)) (header : List ℕ) (s : SpaceState) (v : Version) (number next : ℕ) → length texts ≡ 256 → IsHeader header v number next → ArePagesOf v next texts s → ArePages texts header s number
+ArePages-read texts header s v number next all head of =
     let same = of.same_next in
     let births = head.births in
     record {
-      state = record { state = of.state; version = of.version; births = omega arith; few = head.few };
-      heading = head.spelled ∙ ap (λ n. 1 ∷ to_be_bytes w64 number ++ to_be_bytes w64 n) (sym same);
+      state = record { state = of.state; births = omega arith; few = head.few };
+      heading = head.spelled ∙ ap (λ w. version_byte w ∷ to_be_bytes w64 number ++ to_be_bytes w64 next) (sym of.version)
+          ∙ ap (λ n. version_byte s.version ∷ to_be_bytes w64 number ++ to_be_bytes w64 n) (sym same);
       all = all;
       each = of.each;
     }
@@ -125,5 +127,5 @@ ArePages-one texts header s t m n h k =
     let d = pages_determine s t m n h.state k.state (sym h.heading ∙ k.heading) (λ page l. sym (h.each page l) ∙ k.each page l) in
     (d.1, d.0)
 
-pub IsHeader-of : (texts : List (List ℕ)) (header : List ℕ) (s : SpaceState) (number : ℕ) → ArePages texts header s number → IsHeader header number s.next
+pub IsHeader-of : (texts : List (List ℕ)) (header : List ℕ) (s : SpaceState) (number : ℕ) → ArePages texts header s number → IsHeader header s.version number s.next
 IsHeader-of texts header s number h = record { spelled = h.heading; births = h.state.births; few = h.state.few }

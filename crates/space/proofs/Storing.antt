@@ -73,10 +73,10 @@ module _ (s : SpaceState) (h : IsState s) where
           ∙ ap (λ (xs : List Entry). cond (is_match p e.1) (e ∷ xs) xs) (passing es)
 
   -- the births of a page lead to its tuples
-  pub page_among : (page : ℕ) → entries_text (entries_at s.entries (births_by (λ e. bytes_eq (page_key e) (page ∷ [])) s.entries)) ≡ page_text s page
+  pub page_among : (page : ℕ) → entries_text s.version (entries_at s.entries (births_by (λ e. bytes_eq (page_key e) (page ∷ [])) s.entries)) ≡ page_text s page
   unfolding on_page
   page_among page =
-      ap entries_text (entries_of_births (λ e. bytes_eq (page_key e) (page ∷ [])) s.entries h.rising
+      ap (entries_text s.version) (entries_of_births (λ e. bytes_eq (page_key e) (page ∷ [])) s.entries h.rising
       ∙ filter-same (λ (e : Entry). bytes_eq (page_key e) (page ∷ [])) (λ e. e.0 % 256 == page) s.entries (λ k d l. both ((get_or s.entries k d).0 % 256 == page)))
     where
       both : (b : Bool) → (b && true) ≡ b

@@ -1,5 +1,5 @@
 -- What a space answers.
-use Rattle.std.specs.Prelude.{◌≡◌, ◌↔◌, false, Result, Err, IfOk}
+use Rattle.std.specs.Prelude.{◌≡◌, ◌↔◌, ℕ, false, Result, Err, IfOk}
 use Rattle.tuple_codec.specs.Operations.{Operation}
 use Rattle.tuple_codec.specs.OperationView.{outcome_of}
 use Rattle.tuple_codec.specs.declared.operations.Answer.{Answer}
@@ -8,9 +8,13 @@ use Rattle.space.specs.Births.{SpaceState, tuples_of}
 use Rattle.space.specs.declared.tuples.PeekFault.{PeekFault}
 use Rattle.space.specs.declared.tuples.PeekFault.TheVariants.{NotReadOnly, NoMemory}
 
--- The answer is that of the state, unless there is none.
-abbrev pub Answers : {A E : Type 0} → Result (Answer A) E → SpaceState → Operation → Type 0
-Answers result s o = IfOk result (λ answer. outcome_of answer ≡ outcome (tuples_of s) o)
+-- The answer is that of the state to the client's operation, unless there is none.
+abbrev pub Answers : {A E : Type 0} → Result (Answer A) E → SpaceState → ℕ → Operation → Type 0
+Answers result s client o = IfOk result (λ answer. outcome_of answer ≡ outcome (tuples_of s) client o)
+
+-- So it is to the operation of each client.
+abbrev pub AnswersAnyone : {A E : Type 0} → Result (Answer A) E → SpaceState → Operation → Type 0
+AnswersAnyone result s o = (client : ℕ) → Answers result s client o
 
 -- The operation is refused as none that only reads, where it is none.
 abbrev pub RefusesChanges : {V : Type 0} → Result V PeekFault → Operation → Type 0

@@ -1,9 +1,9 @@
 -- What an operation on a tuple space answers and leaves (Bessani and others, DepSpace, EuroSys 2008, section 3). The
 -- space is the list of its tuples, the oldest first; the versions, their limits and the choice of the oldest match are
 -- our own.
-use Rattle.std.specs.Prelude.{ℕ, zero, suc, Bool, true, false, List, [], ◌∷◌, ◌++◌, length, take, filter, find, nat_lt, Option, Some, None, is_some, if◌then◌else◌}
+use Rattle.std.specs.Prelude.{ℕ, zero, suc, Bool, true, false, not, ◌||◌, ◌==◌, List, [], ◌∷◌, ◌++◌, length, take, filter, find, nat_lt, Option, Some, None, is_some, if◌then◌else◌}
 use Rattle.tuple_tree.specs.Values.{TupleTree, TemplateTree}
-use Rattle.tuple_codec.specs.Operations.{Operation, out, rdp, inp, cas, rd_all, in_all, Outcome, done, found, absent, swapped, all, full, refused, is_version_2}
+use Rattle.tuple_codec.specs.Operations.{Operation, out, rdp, inp, cas, rd_all, in_all, upgrade, Outcome, done, found, absent, swapped, all, full, refused, is_version_2}
 pub use Rattle.tuple_codec.specs.Operations.{is_read_only}
 use Rattle.template_match.specs.Tests.{is_match}
 use Rattle.space.specs.declared.version.Version.{Version}
@@ -51,10 +51,19 @@ abbrev pub found_or_absent : Option TupleTree → Outcome
 found_or_absent None = absent
 found_or_absent (Some t) = found t
 
--- Whether a space of this version refuses an operation: one of version 1 refuses each of version 2.
-abbrev pub refuses : Version → Operation → Bool
-refuses versions.One o = is_version_2 o
-refuses versions.Two o = false
+-- Whether a space of this version doesn't know an operation: one of version 1 knows none of version 2.
+abbrev pub is_unknown : Version → Operation → Bool
+is_unknown versions.One o = is_version_2 o
+is_unknown versions.Two o = false
+
+-- Whether a client may not do an operation: only client 0 may upgrade a space.
+abbrev pub is_forbidden : ℕ → Operation → Bool
+is_forbidden client upgrade = not (client == 0)
+is_forbidden client _ = false
+
+-- whether a space of this version refuses an operation of a client
+abbrev pub refuses : Version → ℕ → Operation → Bool
+refuses v client o = is_unknown v o || is_forbidden client o
 
 -- what an operation is answered that is not refused
 abbrev pub served_outcome : Contents → Operation → Outcome
@@ -67,9 +76,11 @@ served_outcome ts (cas p t) =
     else full
 served_outcome ts (rd_all n p) = all (take n (filter (is_match p) ts.tuples))
 served_outcome ts (in_all n p) = all (take n (filter (is_match p) ts.tuples))
+served_outcome ts upgrade = done
 
-abbrev pub outcome : Contents → Operation → Outcome
-outcome ts o = if refuses ts.version o then refused else served_outcome ts o
+-- what an operation of a client is answered
+abbrev pub outcome : Contents → ℕ → Operation → Outcome
+outcome ts client o = if refuses ts.version client o then refused else served_outcome ts o
 
 -- Whether an operation may want memory: it adds a tuple, or copies a match to answer with. An inp moves what it takes.
 abbrev pub served_wants_memory : Contents → Operation → Bool
@@ -79,9 +90,10 @@ served_wants_memory ts (inp p) = false
 served_wants_memory ts (cas p t) = if is_some (first_match p ts) then false else has_room ts
 served_wants_memory ts (rd_all n p) = is_some (first_match p ts)
 served_wants_memory ts (in_all n p) = is_some (first_match p ts)
+served_wants_memory ts upgrade = false
 
 abbrev pub wants_memory : Contents → Operation → Bool
-wants_memory ts o = if refuses ts.version o then false else served_wants_memory ts o
+wants_memory ts o = if is_unknown ts.version o then false else served_wants_memory ts o
 
 -- what an operation leaves that is not refused
 abbrev pub served_after : Contents → Operation → Contents
@@ -91,6 +103,8 @@ served_after ts (inp p) = record ts { tuples = without_first (is_match p) ts.tup
 served_after ts (cas p t) = if is_some (first_match p ts) then ts else with_newest ts t
 served_after ts (rd_all n p) = ts
 served_after ts (in_all n p) = record ts { tuples = without_firsts n (is_match p) ts.tuples }
+served_after ts upgrade = record ts { version = versions.Two }
 
-abbrev pub tuples_after : Contents → Operation → Contents
-tuples_after ts o = if refuses ts.version o then ts else served_after ts o
+-- what an operation of a client leaves
+abbrev pub tuples_after : Contents → ℕ → Operation → Contents
+tuples_after ts client o = if refuses ts.version client o then ts else served_after ts o

@@ -4,7 +4,7 @@ use Rattle.std.specs.Prelude.{◌≡◌, ℕ, zero, suc, ◌+◌, ◌%◌, ◌<�
 use Rattle.std.specs.Coded.{Coded, code_by, coded×, coded_list, coded_ℕ}
 use Rattle.tuple_tree.specs.Values.{TupleTree, TemplateTree, IsTuple}
 use Rattle.tuple_tree.specs.ValuesCode.{tuple_code}
-use Rattle.tuple_codec.specs.Operations.{Operation, out, rdp, inp, cas, rd_all, in_all}
+use Rattle.tuple_codec.specs.Operations.{Operation, out, rdp, inp, cas, rd_all, in_all, upgrade}
 use Rattle.template_match.specs.Tests.{is_match}
 use Rattle.space.specs.VersionCode.{version_code}
 use Rattle.space.specs.Applying.{Contents, has_room, most_tuples, refuses, without_first, without_firsts, first_match, wants_memory, tuples_after}
@@ -61,6 +61,10 @@ without_match s p = record s { entries = without_first (λ e. is_match p e.1) s.
 abbrev pub without_matches : SpaceState → ℕ → TemplateTree → SpaceState
 without_matches s n p = record s { entries = without_firsts n (λ e. is_match p e.1) s.entries }
 
+-- the state with the same tuples in version 2
+abbrev pub upgraded : SpaceState → SpaceState
+upgraded s = record s { version = versions.Two }
+
 -- the births of the n oldest tuples that the template matches
 abbrev pub oldest_births : ℕ → TemplateTree → List Entry → List ℕ
 oldest_births n p es = take n (map (λ e. e.0) (filter (λ e. is_match p e.1) es))
@@ -73,17 +77,27 @@ served_state s (inp p) = without_match s p
 served_state s (cas p t) = if is_some (first_match p (tuples_of s)) then s else with_tuple s t
 served_state s (rd_all n p) = s
 served_state s (in_all n p) = without_matches s n p
+served_state s upgrade = upgraded s
 
-abbrev pub state_after : SpaceState → Operation → SpaceState
-state_after s o = if refuses s.version o then s else served_state s o
+-- the state that an operation of a client leaves
+abbrev pub state_after : SpaceState → ℕ → Operation → SpaceState
+state_after s client o = if refuses s.version client o then s else served_state s o
 
--- One state comes after the other by the operation.
-abbrev pub Follows : SpaceState → SpaceState → Operation → Type 0
-Follows old new o = new ≡ state_after old o
+-- an operation and the client that asks for it
+pub record Asked : Type 0 where
+  pub client : ℕ
+  pub op : Operation
+
+abbrev pub state_after_asked : SpaceState → Asked → SpaceState
+state_after_asked s x = state_after s x.client x.op
+
+-- One state comes after the other by the client's operation.
+abbrev pub Follows : SpaceState → SpaceState → ℕ → Operation → Type 0
+Follows old new client o = new ≡ state_after old client o
 
 -- So do their tuples, births aside.
-abbrev pub TuplesFollow : SpaceState → SpaceState → Operation → Type 0
-TuplesFollow old new o = tuples_of new ≡ tuples_after (tuples_of old) o
+abbrev pub TuplesFollow : SpaceState → SpaceState → ℕ → Operation → Type 0
+TuplesFollow old new client o = tuples_of new ≡ tuples_after (tuples_of old) client o
 
 -- The operation adds a tuple, or copies a match to answer with.
 abbrev pub WantsMemory : SpaceState → Operation → Type 0

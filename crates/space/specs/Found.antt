@@ -8,6 +8,7 @@ use Rattle.tuple_tree.specs.Values.{TupleTree, TemplateTree}
 use Rattle.template_match.specs.Tests.{is_match}
 use Rattle.space.specs.Births.{Entry, SpaceState}
 use Rattle.space.specs.Pages.{entries_text}
+use Rattle.space.specs.declared.version.Version.{Version}
 
 -- the entry of a birth
 abbrev pub found_at : List Entry → ℕ → List Entry
@@ -18,8 +19,8 @@ abbrev pub entries_at : List Entry → List ℕ → List Entry
 entries_at es births = flat_map (found_at es) births
 
 -- the text of the entries of these births
-abbrev pub births_text : List Entry → List ℕ → List ℕ
-births_text es births = entries_text (entries_at es births)
+abbrev pub births_text : Version → List Entry → List ℕ → List ℕ
+births_text v es births = entries_text v (entries_at es births)
 
 -- the state without the entry of a birth
 abbrev pub without_birth : SpaceState → ℕ → SpaceState

@@ -1,18 +1,26 @@
 -- What holds of each state, operation and batch.
-use Rattle.std.specs.Prelude.{◌≡◌, ℕ, ◌+◌, ◌^◌, ◌<◌, ◌≤◌, List, length, fold, All}
-use Rattle.tuple_codec.specs.Operations.{Operation, IsOperation, IsOutcome}
-use Rattle.space.specs.Applying.{outcome}
-use Rattle.space.specs.Births.{SpaceState, IsState, state_after, tuples_of}
+use Rattle.std.specs.Prelude.{◌≡◌, ℕ, ◌+◌, ◌^◌, ◌<◌, ◌≤◌, true, List, length, fold, All}
+use Rattle.tuple_codec.specs.Operations.{Operation, is_read_only, IsOperation, IsOutcome}
+use Rattle.space.specs.Applying.{Contents, outcome, tuples_after}
+use Rattle.space.specs.Births.{SpaceState, IsState, Asked, state_after, state_after_asked, tuples_of}
 use Rattle.space.specs.Pages.{IsStateAt, page_text, header_text}
 
 -- Each operation leaves a state.
 abbrev pub StatesStay : Type 0
-StatesStay = (s : SpaceState) (o : Operation) → IsState s → IsOperation o → IsState (state_after s o)
+StatesStay =
+    (s : SpaceState) (client : ℕ) (o : Operation) → IsState s → IsOperation o → IsState (state_after s client o)
 
 -- Each answer of a state is within the limits.
 abbrev pub AnswersAreValid : Type 0
 AnswersAreValid =
-    (s : SpaceState) (o : Operation) → IsState s → IsOperation o → IsOutcome (outcome (tuples_of s) o)
+    (s : SpaceState) (client : ℕ) (o : Operation) → IsState s → IsOperation o
+    → IsOutcome (outcome (tuples_of s) client o)
+
+-- A read is answered the same whichever client asks, and leaves all as it is.
+abbrev pub ReadsKnowNoClient : Type 0
+ReadsKnowNoClient =
+    (ts : Contents) (client other : ℕ) (o : Operation) → is_read_only o ≡ true
+    → (outcome ts client o ≡ outcome ts other o) × (tuples_after ts client o ≡ ts)
 
 -- States are equal where their pages and headers are, and so are the numbers of batches.
 abbrev pub PagesDetermine : Type 0
@@ -23,5 +31,6 @@ PagesDetermine =
 -- A batch of at most 16 operations leaves a state after one more batch, while the numbers of batches last.
 abbrev pub BatchesLeaveStates : Type 0
 BatchesLeaveStates =
-    (s : SpaceState) (number : ℕ) (os : List Operation) → IsStateAt s number
-    → length os ≤ 16 → All IsOperation os → number + 1 < 2 ^ 48 → IsStateAt (fold state_after s os) (number + 1)
+    (s : SpaceState) (number : ℕ) (os : List Asked) → IsStateAt s number
+    → length os ≤ 16 → All (λ x. IsOperation x.op) os → number + 1 < 2 ^ 48
+    → IsStateAt (fold state_after_asked s os) (number + 1)

@@ -8,6 +8,6 @@ use Rattle.space.specs.Watching.{touched_births}
 abbrev pub with_pages : List Bool → List ℕ → List Bool
 with_pages pages births = fold (λ set birth. slice_set set (birth % 256) true) pages births
 
--- Just the pages that the operation may change are added to a set of pages.
-abbrev pub MarksChanged : SpaceState → Operation → List Bool → List Bool → Type 0
-MarksChanged s o old new = new ≡ with_pages old (touched_births s o)
+-- Just the pages that the client's operation may change are added to a set of pages.
+abbrev pub MarksChanged : SpaceState → ℕ → Operation → List Bool → List Bool → Type 0
+MarksChanged s client o old new = new ≡ with_pages old (touched_births s client o)

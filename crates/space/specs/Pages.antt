@@ -1,37 +1,49 @@
 -- The pages of a space. Page i, 0 to 255, has the tuples whose birth number has the remainder i by 256, in the order of
--- births: each as its birth number in 8 bytes, high byte first, and its spelling. What else a state has stands in a
--- header: a version byte, the number of executed batches and the next birth number, both in 8 bytes.
+-- births: each as its birth number in 8 bytes, high byte first, in version 2 the length of its spelling in 2 bytes, and
+-- its spelling. What else a state has stands in a header: a byte for the version, the number of executed batches and the
+-- next birth number, both in 8 bytes.
 use Rattle.std.specs.Prelude.{◌≡◌, ℕ, ◌*◌, ◌^◌, ◌≤◌, ◌<◌, ◌%◌, List, [], ◌∷◌, ◌++◌, length, map, filter, flat_map, slice_index_or, ◌==◌, Result, MatchResult}
 use Rattle.std.specs.Borrow.{Bor}
 use Rattle.std.specs.Int.{w64, to_be_bytes}
-use Rattle.tuple_codec.specs.Spelling.{tuple_spelling}
+use Rattle.tuple_tree.specs.Values.{TupleTree}
+use Rattle.tuple_codec.specs.Spelling.{string, tuple_spelling}
 use Rattle.tuple_codec.specs.declared.bad.Bad.{Bad}
 use Rattle.tuple_codec.specs.declared.bad.Bad.TheVariants.{NoMemory}
 use Rattle.space.specs.Births.{Entry, SpaceState, IsState}
+use Rattle.space.specs.declared.version.Version.{Version}
 use Rattle.space.specs.declared.version.Version.TheVariants as versions
 
-abbrev pub entry_text : Entry → List ℕ
-entry_text e = to_be_bytes w64 e.0 ++ tuple_spelling e.1
+-- how a tuple stands on a page behind its birth number
+abbrev pub stored_text : Version → TupleTree → List ℕ
+stored_text versions.One t = tuple_spelling t
+stored_text versions.Two t = string (tuple_spelling t)
 
-abbrev pub entries_text : List Entry → List ℕ
-entries_text es = flat_map entry_text es
+abbrev pub entry_text : Version → Entry → List ℕ
+entry_text v e = to_be_bytes w64 e.0 ++ stored_text v e.1
+
+abbrev pub entries_text : Version → List Entry → List ℕ
+entries_text v es = flat_map (entry_text v) es
 
 -- the tuples of a page, the oldest first
 unfoldable pub on_page : ℕ → List Entry → List Entry
 on_page page es = filter (λ e. e.0 % 256 == page) es
 
 abbrev pub page_text : SpaceState → ℕ → List ℕ
-page_text s page = entries_text (on_page page s.entries)
+page_text s page = entries_text s.version (on_page page s.entries)
+
+-- the first byte of a header
+abbrev pub version_byte : Version → ℕ
+version_byte versions.One = 1
+version_byte versions.Two = 2
 
 -- the text of the header after so many executed batches
 abbrev pub header_text : SpaceState → ℕ → List ℕ
-header_text s number = 1 ∷ to_be_bytes w64 number ++ to_be_bytes w64 s.next
+header_text s number = version_byte s.version ∷ to_be_bytes w64 number ++ to_be_bytes w64 s.next
 
 -- A state after so many executed batches: each batch has at most 16 requests, and each request takes at most 256
--- births. Pages don't tell the version, which is 1.
+-- births.
 pub record IsStateAt (s : SpaceState) (number : ℕ) : Type 0 where
   pub state : IsState s
-  pub version : s.version ≡ versions.One
   pub births : s.next ≤ 4096 * number
   pub few : number < 2 ^ 48
 

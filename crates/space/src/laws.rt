@@ -1,9 +1,9 @@
 //! Laws of the definitions that the space keeps to.
 
-ghost use Rattle.std.specs.Prelude.{◌<◌, length};
+ghost use Rattle.std.specs.Prelude.{ℕ, ◌<◌, length};
 ghost use Rattle.tuple_codec.specs.Operations.{Operation};
 ghost use Rattle.space.specs.Births.{SpaceState, IsNextBirth, TuplesFollow, birth_of, empty_state, state_after};
-ghost use Rattle.space.specs.Laws.{StatesStay, AnswersAreValid, PagesDetermine, BatchesLeaveStates};
+ghost use Rattle.space.specs.Laws.{StatesStay, AnswersAreValid, ReadsKnowNoClient, PagesDetermine, BatchesLeaveStates};
 ghost use Rattle.space.specs.Pages.{IsStateAt};
 
 /// A new tuple takes the least birth number whose page has room, and such a number is never far. The 256 pages hold
@@ -22,9 +22,15 @@ pub fn answers_are_valid()
     ensures { AnswersAreValid }
 {}
 
+/// A read knows no client, and leaves the tuples as they are.
+pub fn reads_know_no_client()
+    ensures { ReadsKnowNoClient }
+{}
+
 /// Births aside, a state changes as the list of its tuples.
 pub fn tuples_follow_states()
-    ensures { (s : SpaceState) (o : Operation) → TuplesFollow s (state_after s o) o }
+    ensures { (s : SpaceState) (client : ℕ) (o : Operation)
+        → TuplesFollow s (state_after s client o) client o }
 {}
 
 /// States are equal where their pages and headers are.

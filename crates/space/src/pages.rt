@@ -1,11 +1,13 @@
 //! The texts of pages.
 
-ghost use Rattle.std.specs.Prelude.{◌≡◌, ◌++◌, ◌∷◌, IfOk, OnOk};
+ghost use Rattle.std.specs.Prelude.{◌≡◌, ◌++◌, ◌∷◌, length, IfOk, OnOk, IfSome, IsSome};
 ghost use Rattle.std.specs.Int.{w64, to_be_bytes};
 ghost use Rattle.space.specs.Found.{births_text};
-ghost use Rattle.space.specs.Pages.{entry_text};
+ghost use Rattle.tuple_codec.specs.Spelling.{tuple_spelling};
+ghost use Rattle.space.specs.Pages.{stored_text, entry_text, version_byte};
 
 use crate::stored::Stored;
+use crate::version::Version;
 use byteorder::{BigEndian, ByteOrder};
 use std::alloc::Global;
 use terms::NoMemory;
@@ -15,34 +17,83 @@ use tuple_tree::Tuple;
 /// How many bytes a header has.
 pub const HEADER_LEN: usize = 17;
 
-/// The first byte of a header.
-pub const VERSION: u8 = 1;
-
-/// The text of the tuples of these births.
-pub fn text_of(alloc: Global, tuples: &Stored, births: &[u64]) -> Result<Vec<u8>, NoMemory>
-    ensures { IfOk result (λ text. text.items ≡ births_text tuples.now.entries births.now) }
+/// The text of the tuples of these births, in the form of a version.
+pub fn text_of(
+    alloc: Global,
+    version: Version,
+    tuples: &Stored,
+    births: &[u64],
+) -> Result<Vec<u8>, NoMemory>
+    ensures { IfOk result (λ text. text.items ≡ births_text version tuples.now.entries births.now) }
 {
     let mut text = Vec::new(alloc);
     for birth in births {
         if let Some(tuple) = tuples.get(*birth) {
-            put_entry(*birth, tuple, &mut text)?;
+            put_entry(version, *birth, tuple, &mut text)?;
         }
     }
     Ok(text)
 }
 
-fn put_entry(birth: u64, tuple: &Tuple<Global>, out: &mut Vec<u8>) -> Result<(), NoMemory>
-    ensures { OnOk result (out.new.items ≡ out.old.items ++ entry_text (birth, tuple.now)) }
+fn put_entry(
+    version: Version,
+    birth: u64,
+    tuple: &Tuple<Global>,
+    out: &mut Vec<u8>,
+) -> Result<(), NoMemory>
+    ensures { OnOk result (out.new.items ≡ out.old.items ++ entry_text version (birth, tuple.now)) }
 {
     out.extend_from_slice(&birth.to_be_bytes())?;
-    encode_tuple(tuple, out)
+    put_stored(version, tuple, out)
 }
 
-/// The text of a header: a version byte, the number of executed batches, and the next birth number.
-pub fn header_of(number: u64, next: u64) -> [u8; HEADER_LEN]
-    ensures { result ≡ 1 ∷ to_be_bytes w64 number ++ to_be_bytes w64 next }
+// The tuple, as it stands behind its birth.
+fn put_stored(version: Version, tuple: &Tuple<Global>, out: &mut Vec<u8>) -> Result<(), NoMemory>
+    ensures { OnOk result (out.new.items ≡ out.old.items ++ stored_text version tuple.now) }
 {
-    let mut text = [VERSION; HEADER_LEN];
+    match version {
+        Version::One => encode_tuple(tuple, out),
+        Version::Two => {
+            out.extend_from_slice(&len_of(tuple).to_be_bytes())?;
+            encode_tuple(tuple, out)
+        }
+    }
+}
+
+/// The length of a tuple's spelling.
+pub fn len_of(tuple: &Tuple<Global>) -> u16
+    ensures { result ≡ length (tuple_spelling tuple.now) }
+{
+    tuple.encoded_len() as u16
+}
+
+/// The first byte of a header.
+pub fn first_byte(version: Version) -> u8
+    ensures { result ≡ version_byte version }
+{
+    match version {
+        Version::One => 1,
+        Version::Two => 2,
+    }
+}
+
+/// The version by the first byte of a header; none where no version has it.
+pub fn version_of(first: u8) -> Option<Version>
+    ensures found { IfSome result (λ version. version_byte version ≡ first) }
+    ensures only { (version : Version) → version_byte version ≡ first → IsSome result }
+{
+    match first {
+        1 => Some(Version::One),
+        2 => Some(Version::Two),
+        _ => None,
+    }
+}
+
+/// The text of a header: a byte for the version, the number of executed batches, and the next birth number.
+pub fn header_of(version: Version, number: u64, next: u64) -> [u8; HEADER_LEN]
+    ensures { result ≡ version_byte version ∷ to_be_bytes w64 number ++ to_be_bytes w64 next }
+{
+    let mut text = [first_byte(version); HEADER_LEN];
     BigEndian::write_u64(&mut text[1..], number);
     BigEndian::write_u64(&mut text[9..], next);
     text

@@ -1,21 +1,22 @@
 //! The space and its operations.
 
 ghost use Rattle.std.specs.Prelude.{◌≡◌, ◌+◌, ◌%◌, ◌^◌, ◌<◌, ◌≤◌, true, length, slice_set, is_some, OnOk, OnErr, IfOk, IfSome, IsTrue, ◌↔◌};
+ghost use Rattle.std.specs.List.{range_with_len};
 ghost use Rattle.std.specs.Ordering.{nat_cmp};
 ghost use Rattle.std.specs.Map.{lookup};
 ghost use Rattle.std.specs.BTreeMap.{is_at};
 ghost use Rattle.tuple_tree.specs.Values.{IsTuple};
 ghost use Rattle.tuple_codec.specs.Operations.{rdp, inp, cas, rd_all, in_all};
 ghost use Rattle.tuple_codec.specs.OperationView.{operation_of, outcome_of};
-ghost use Rattle.space.specs.Answers.{Answers, RefusesChanges, LacksMemory};
+ghost use Rattle.space.specs.Answers.{Answers, AnswersAnyone, RefusesChanges, LacksMemory};
 ghost use Rattle.space.specs.Candidates.{candidates_of};
-ghost use Rattle.space.specs.Applying.{served_outcome, first_match, has_room, most_tuples, refuses};
+ghost use Rattle.space.specs.Applying.{served_outcome, first_match, has_room, most_tuples, is_unknown, is_forbidden, refuses};
 ghost use Rattle.space.specs.Serving.{AnswersServed, FollowsServed, WantsServed};
 ghost use Rattle.space.specs.Pages.{page_text, header_text, texts_of, ArePages, MayBePages, ReadsEachState};
 ghost use Rattle.space.specs.Reading.{ArePagesOf, ReadsAllPages};
 ghost use Rattle.space.specs.Found.{IsOldest, without_birth, without_births};
 ghost use Rattle.space.specs.Marking.{MarksChanged, with_pages};
-ghost use Rattle.space.specs.Births.{IsState, Follows, TuplesFollow, WantsMemory, empty_state, empty_in, birth_of, oldest_births, tuples_of, with_birth, with_tuple, without_match, without_matches};
+ghost use Rattle.space.specs.Births.{IsState, Follows, TuplesFollow, WantsMemory, empty_state, empty_in, birth_of, oldest_births, tuples_of, with_birth, with_tuple, without_match, without_matches, upgraded};
 
 use crate::births::{PAGES, empty_pages, next_birth};
 use crate::index::Index;
@@ -113,14 +114,15 @@ impl Space {
         }
     }
 
-    /// The space of version 1 of a state by the texts of its pages 0 to 255 and its header, and how many batches were
-    /// executed by the header.
+    /// The space of a state by the texts of its pages 0 to 255 and its header, whose first byte tells the version, and
+    /// how many batches were executed by the header.
     ///
     /// # Errors
     ///
     /// Malformed where these are those of no state within the limits: births that rise on their page and are below the
-    /// next one, at most 64 tuples on a page and 8,192 in all, each tuple spelled, at most 4,096 births for each
-    /// executed batch, and fewer than 2 to the power of 48 batches. NoMemory where memory runs out before that is seen;
+    /// next one, at most 64 tuples on a page and as many in all as the version allows, each tuple spelled, in version 2
+    /// behind its length, at most 4,096 births for each executed batch, and fewer than 2 to the power of 48 batches.
+    /// NoMemory where memory runs out before that is seen;
     /// the number of texts and the header are judged first.
     pub fn from_pages(alloc: Global, pages: &[&[u8]], header: &[u8]) -> Result<(Space, u64), Bad>
         // What is read has these pages.
@@ -136,33 +138,33 @@ impl Space {
             return Err(Bad::Malformed);
         }
         match read_header(header) {
-            Some(numbers) => {
-                let space = Space::with_pages(alloc, pages, numbers.next)?;
-                Ok((space, numbers.number))
+            Some(head) => {
+                let space = Space::with_pages(alloc, head.version, pages, head.next)?;
+                Ok((space, head.number))
             }
             None => Err(Bad::Malformed),
         }
     }
 
-    // The space by the texts of its pages 0 to 255 and its next birth number.
-    fn with_pages(alloc: Global, pages: &[&[u8]], next: u64) -> Result<Space, Bad>
+    // The space of a version by the texts of its pages 0 to 255 and its next birth number.
+    fn with_pages(alloc: Global, version: Version, pages: &[&[u8]], next: u64) -> Result<Space, Bad>
         requires { length pages.now ≡ 256 }
-        ensures found { IfOk result (λ s. ArePagesOf next (texts_of pages.now) s) }
-        ensures only { ReadsAllPages next (texts_of pages.now) result }
+        ensures found { IfOk result (λ s. ArePagesOf version next (texts_of pages.now) s) }
+        ensures only { ReadsAllPages version next (texts_of pages.now) result }
     {
         let mut tuples = BTreeMap::new(alloc);
         let mut page_counts = empty_pages();
         for (page, text) in pages.iter().enumerate() {
-            page_counts[page] = read_page(alloc, &mut tuples, text, page, next)?;
+            page_counts[page] = read_page(alloc, version, &mut tuples, text, page, next)?;
         }
-        if tuples.len() > MAX_TUPLES {
+        if tuples.len() > limit_of(version) {
             return Err(Bad::Malformed);
         }
         let index = Index::of(alloc, &tuples)?;
         let tuples = Stored::of(alloc, tuples)?;
         Ok(Space {
             alloc,
-            version: Version::One,
+            version,
             tuples,
             next,
             page_counts,
@@ -193,20 +195,22 @@ impl Space {
     }
 
     /// The text of page `page`, 0 to 255: its tuples in the order of births, each as 8 bytes of birth number, high byte
-    /// first, and its spelling. At most 64 * 1,032 bytes. NoMemory where memory runs out.
+    /// first, in version 2 the length of its spelling in 2 bytes, and its spelling. At most 64 * 1,034 bytes. NoMemory
+    /// where memory runs out.
     pub fn page_text(&self, page: usize) -> Result<Vec<u8>, NoMemory>
         requires { page < PAGES }
         ensures { IfOk result (λ text. text.items ≡ page_text self.now page) }
     {
-        text_of(self.alloc, &self.tuples, self.index.on_page(page))
+        let births = self.index.on_page(page);
+        text_of(self.alloc, self.version, &self.tuples, births)
     }
 
-    /// The text of the header after `number` executed batches: a version byte, the number and the next birth number,
-    /// both in 8 bytes, high byte first.
+    /// The text of the header after `number` executed batches: a byte for the version, the number and the next birth
+    /// number, both in 8 bytes, high byte first.
     pub fn header_text(&self, number: u64) -> [u8; HEADER_LEN]
         ensures { result ≡ header_text self.now number }
     {
-        header_of(number, self.next)
+        header_of(self.version, number, self.next)
     }
 
     // The value of each space is a state.
@@ -220,20 +224,24 @@ impl Space {
     fn limit(&self) -> usize
         ensures { result ≡ most_tuples self.now.version }
     {
-        match self.version {
-            Version::One => MAX_TUPLES,
-            Version::Two => MAX_TUPLES_V2,
-        }
+        limit_of(self.version)
     }
 
-    // Whether the version refuses the operation.
-    fn is_refused<A: Allocator>(&self, op: &Op<A>) -> bool
-        ensures { result ≡ refuses self.now.version (operation_of op.now) }
+    // Whether the version doesn't know the operation.
+    fn is_unknown<A: Allocator>(&self, op: &Op<A>) -> bool
+        ensures { result ≡ is_unknown self.now.version (operation_of op.now) }
     {
         match self.version {
             Version::One => op.is_version_2(),
             Version::Two => false,
         }
+    }
+
+    // Whether the space refuses the client's operation.
+    fn is_refused<A: Allocator>(&self, client: u16, op: &Op<A>) -> bool
+        ensures { result ≡ refuses self.now.version client (operation_of op.now) }
+    {
+        self.is_unknown(op) || forbids(client, op)
     }
 
     // Adds a copy of the tuple as the newest one. An `Err` changes nothing.
@@ -383,6 +391,13 @@ impl Space {
         Ok(answer)
     }
 
+    // Makes the space one of version 2.
+    fn upgrade(&mut self)
+        ensures { self.new ≡ upgraded self.old }
+    {
+        self.version = Version::Two;
+    }
+
     fn has_match<A: Allocator>(&self, template: &Template<A>) -> bool
         ensures { result ≡ is_some (first_match template.now (tuples_of self.now)) }
     {
@@ -411,30 +426,39 @@ impl Space {
         }
     }
 
-    /// Applies an operation. A tuple that is added is copied, and so is one that is read; one that `inp` takes is
-    /// handed out, and those that `inAll` takes are copied first. NoMemory comes only where a tuple is to be copied. It
-    /// changes nothing.
-    pub fn apply<A: Allocator>(&mut self, op: &Op<A>) -> Result<Answer<Global>, NoMemory>
+    /// Applies an operation of a client, of which only number 0 may upgrade the space. A tuple that is added is copied,
+    /// and so is one that is read; one that `inp` takes is handed out, and those that `inAll` takes are copied first.
+    /// NoMemory comes only where a tuple is to be copied. It changes nothing.
+    pub fn apply<A: Allocator>(
+        &mut self,
+        client: u16,
+        op: &Op<A>,
+    ) -> Result<Answer<Global>, NoMemory>
         requires { self.old.next < 2 ^ 62 }
-        ensures answer { Answers result self.old (operation_of op.now) }
-        ensures state { OnOk result (Follows self.old self.new (operation_of op.now)) }
-        ensures tuples { OnOk result (TuplesFollow self.old self.new (operation_of op.now)) }
+        ensures answer { Answers result self.old client (operation_of op.now) }
+        ensures state { OnOk result (Follows self.old self.new client (operation_of op.now)) }
+        ensures tuples { OnOk result (TuplesFollow self.old self.new client (operation_of op.now)) }
         ensures valid { IsState self.new }
         ensures next { self.new.next ≤ self.old.next + 256 }
         ensures memory { OnErr result (WantsMemory self.old (operation_of op.now)) }
         ensures err { OnErr result (self.new ≡ self.old) }
     {
-        let result = self.answer(op);
+        let result = self.answer(client, op);
         self.note_state();
         result
     }
 
     /// Adds the pages that the operation may change to a set of pages. Takes no memory.
-    pub(crate) fn mark_changed<A: Allocator>(&self, op: &Op<A>, pages: &mut [bool; PAGES])
+    pub(crate) fn mark_changed<A: Allocator>(
+        &self,
+        client: u16,
+        op: &Op<A>,
+        pages: &mut [bool; PAGES],
+    )
         requires { self.now.next < 2 ^ 62 }
-        ensures { MarksChanged self.now (operation_of op.now) pages.old pages.new }
+        ensures { MarksChanged self.now client (operation_of op.now) pages.old pages.new }
     {
-        if self.is_refused(op) {
+        if self.is_refused(client, op) {
             return;
         }
         match op {
@@ -449,6 +473,7 @@ impl Space {
                 let births = self.oldest_births(*max, template);
                 add_pages(pages, births.as_slice());
             }
+            Op::Upgrade => add_all_pages(pages),
             Op::Rdp(_) | Op::RdAll(_, _) => {}
         }
     }
@@ -462,14 +487,14 @@ impl Space {
         (birth % PAGES as u64) as usize
     }
 
-    fn answer<A: Allocator>(&mut self, op: &Op<A>) -> Result<Answer<Global>, NoMemory>
+    fn answer<A: Allocator>(&mut self, client: u16, op: &Op<A>) -> Result<Answer<Global>, NoMemory>
         requires { self.old.next < 2 ^ 62 }
-        ensures answer { Answers result self.old (operation_of op.now) }
-        ensures state { OnOk result (Follows self.old self.new (operation_of op.now)) }
+        ensures answer { Answers result self.old client (operation_of op.now) }
+        ensures state { OnOk result (Follows self.old self.new client (operation_of op.now)) }
         ensures memory { OnErr result (WantsMemory self.old (operation_of op.now)) }
         ensures err { OnErr result (self.new ≡ self.old) }
     {
-        if self.is_refused(op) {
+        if self.is_refused(client, op) {
             return Ok(Answer::Refused);
         }
         self.serve(op)
@@ -496,13 +521,17 @@ impl Space {
             Op::Cas(template, tuple) => self.swap(template, tuple),
             Op::RdAll(max, template) => self.read_all(*max, template),
             Op::InAll(max, template) => self.take_all(*max, template),
+            Op::Upgrade => {
+                self.upgrade();
+                Ok(Answer::Done)
+            }
         }
     }
 
-    /// Answers an operation that changes nothing; any other is refused before memory is looked at. NoMemory comes only
-    /// where a match is to be copied.
+    /// Answers an operation that changes nothing, of any client; any other is refused before memory is looked at.
+    /// NoMemory comes only where a match is to be copied.
     pub fn peek<A: Allocator>(&self, op: &Op<A>) -> Result<Answer<Global>, PeekFault>
-        ensures answer { Answers result self.now (operation_of op.now) }
+        ensures answer { AnswersAnyone result self.now (operation_of op.now) }
         ensures not_read_only { RefusesChanges result (operation_of op.now) }
         ensures memory { LacksMemory result → WantsMemory self.now (operation_of op.now) }
         ensures valid { IsState self.now }
@@ -511,7 +540,7 @@ impl Space {
         if !op.is_read() {
             return Err(PeekFault::NotReadOnly);
         }
-        if self.is_refused(op) {
+        if self.is_unknown(op) {
             return Ok(Answer::Refused);
         }
         self.serve_read(op)
@@ -526,7 +555,7 @@ impl Space {
         match op {
             Op::Rdp(template) => Ok(self.read(template)?),
             Op::RdAll(max, template) => Ok(self.read_all(*max, template)?),
-            Op::Out(_) | Op::Inp(_) | Op::Cas(_, _) | Op::InAll(_, _) => {
+            Op::Out(_) | Op::Inp(_) | Op::Cas(_, _) | Op::InAll(_, _) | Op::Upgrade => {
                 Err(PeekFault::NotReadOnly)
             }
         }
@@ -541,12 +570,41 @@ fn add_page(pages: &mut [bool; PAGES], page: usize)
     pages[page] = true;
 }
 
+// Adds all pages to a set of pages.
+fn add_all_pages(pages: &mut [bool; PAGES])
+    ensures { pages.new ≡ with_pages pages.old (range_with_len 0 256) }
+{
+    for page in 0..PAGES {
+        add_page(pages, page);
+    }
+}
+
 // Adds the pages of these births to a set of pages.
 fn add_pages(pages: &mut [bool; PAGES], births: &[u64])
     ensures { pages.new ≡ with_pages pages.old births.now }
 {
     for birth in births {
         add_page(pages, (*birth % PAGES as u64) as usize);
+    }
+}
+
+// How many tuples a version allows.
+fn limit_of(version: Version) -> usize
+    ensures { result ≡ most_tuples version }
+{
+    match version {
+        Version::One => MAX_TUPLES,
+        Version::Two => MAX_TUPLES_V2,
+    }
+}
+
+// Whether the client may not do the operation.
+fn forbids<A: Allocator>(client: u16, op: &Op<A>) -> bool
+    ensures { result ≡ is_forbidden client (operation_of op.now) }
+{
+    match op {
+        Op::Upgrade => client != 0,
+        _ => false,
     }
 }
 

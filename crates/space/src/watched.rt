@@ -49,20 +49,24 @@ impl Watched {
         &self.space
     }
 
-    /// Applies an operation as [`Space::apply`] does. Each page whose text changes is touched afterwards. One that the
+    /// Applies an operation of a client as [`Space::apply`] does. Each page whose text changes is touched afterwards. One that the
     /// operation can't change is touched only if it was before. An `Err` leaves the space as it was.
-    pub fn apply<A: Allocator>(&mut self, op: &Op<A>) -> Result<Answer<Global>, NoMemory>
+    pub fn apply<A: Allocator>(
+        &mut self,
+        client: u16,
+        op: &Op<A>,
+    ) -> Result<Answer<Global>, NoMemory>
         requires { self.old.state.next < 2 ^ 62 }
-        ensures answer { Answers result self.old.state (operation_of op.now) }
-        ensures state { OnOk result (Follows self.old.state self.new.state (operation_of op.now)) }
+        ensures answer { Answers result self.old.state client (operation_of op.now) }
+        ensures state { OnOk result (Follows self.old.state self.new.state client (operation_of op.now)) }
         ensures valid { IsState self.new.state }
         ensures memory { OnErr result (WantsMemory self.old.state (operation_of op.now)) }
         ensures err { OnErr result (self.new.state ≡ self.old.state) }
         ensures touches { TouchesChanges self.old self.new }
-        ensures only { TouchesOnly self.old self.new (operation_of op.now) }
+        ensures only { TouchesOnly self.old self.new client (operation_of op.now) }
     {
-        self.space.mark_changed(op, &mut self.touched);
-        self.space.apply(op)
+        self.space.mark_changed(client, op, &mut self.touched);
+        self.space.apply(client, op)
     }
 
     /// Whether the text of page `page`, 0 to 255, may differ from that at the last [`Watched::untouch`]. Takes no

@@ -55,7 +55,7 @@ module _ (A : RattleType) (g : Ghosts A.Denot) (s : IsSend A) (f : Frees g g.dea
           (template_in, (tuple_in, tt)),
           (
             (search sendable, (template_in, tt)),
-            ((search sendable, (template_in, tt)), tt),
+            ((search sendable, (template_in, tt)), (tt, tt)),
           ),
         ),
       ),

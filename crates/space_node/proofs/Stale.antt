@@ -25,11 +25,11 @@ if_some (Err e) o P Q is f p = subst (λ o. IfSome o Q) (sym is) tt
 module _ (m : Membership) (me : ℕ) (bytes : List ℕ) (shelf : Shelf) (request : ReadRequest) (reply : Reply)
     (hears : HearsRead m me bytes request.client.number request.timestamp.0 request.op.now) (answers : AnswersRead shelf request reply)
     (empty : shelf.space.now ≡ empty_state) (number : shelf.number.0 ≡ 0) where
-  says : reply_data reply ≡ read_reply request.client.number request.timestamp.0 0 (outcome no_tuples hears.op)
+  says : reply_data reply ≡ read_reply request.client.number request.timestamp.0 0 (outcome no_tuples request.client.number hears.op)
   says =
       (answers hears.op hears.spelled).says
-      ∙ (ap (λ (n : ℕ). read_reply request.client.number request.timestamp.0 n (outcome (tuples_of shelf.space.now) hears.op)) number
-      ∙ ap (λ (s : SpaceState). read_reply request.client.number request.timestamp.0 0 (outcome (tuples_of s) hears.op)) empty)
+      ∙ (ap (λ (n : ℕ). read_reply request.client.number request.timestamp.0 n (outcome (tuples_of shelf.space.now) request.client.number hears.op)) number
+      ∙ ap (λ (s : SpaceState). read_reply request.client.number request.timestamp.0 0 (outcome (tuples_of s) request.client.number hears.op)) empty)
 
   pub stale : (message : MessageData) (receiver : Party) (output : Output) → message ≡ reply_data reply → party_number receiver ≡ 256 + request.client.number
       → SealsForOne m me message receiver output → IsStale m me bytes output

@@ -46,4 +46,4 @@ pub record IsStale (m : Membership) (me : ℕ) (bytes : List ℕ) (output : Outp
   pub op : Operation
   pub hears : heard m me bytes ≡ Some (read_only_request (256 + client) timestamp op)
   pub read : is_read_only op ≡ true
-  pub answers : IsSealedPost m me (read_reply client timestamp 0 (outcome no_tuples op)) ((256 + client) ∷ []) output
+  pub answers : IsSealedPost m me (read_reply client timestamp 0 (outcome no_tuples client op)) ((256 + client) ∷ []) output

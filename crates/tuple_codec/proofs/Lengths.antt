@@ -2,7 +2,7 @@
 use Rattle.std.proofs.Common.{◌≡◌, ◌*◌, ◌≤◌, List, [], ◌∷◌, length, length-append, arith}
 use Rattle.tuple_tree.specs.Items.{whole_length}
 use Rattle.tuple_tree.specs.Values.{IsDatum, IsSlot, datum_length, slot_length, TupleTree, TemplateTree, IsTuple, IsTemplate}
-use Rattle.tuple_codec.specs.Operations.{Operation, out, rdp, inp, cas, rd_all, in_all, IsOperation, Outcome, done, found, absent, swapped, all, full, refused, IsOutcome, AreTuples}
+use Rattle.tuple_codec.specs.Operations.{Operation, out, rdp, inp, cas, rd_all, in_all, upgrade, IsOperation, Outcome, done, found, absent, swapped, all, full, refused, IsOutcome, AreTuples}
 use Rattle.tuple_codec.specs.Reading.{datum_at, slot_at}
 use Rattle.tuple_codec.specs.Spelling.{datum_spelling, slot_spelling, tuple_spelling, template_spelling, tuples_spelling, operation_spelling, outcome_spelling}
 use Rattle.tuple_codec.proofs.Leaves.{datum_leaves, slot_leaves}
@@ -31,6 +31,7 @@ operation_short (cas p t) is =
     omega (arith, l, k, e)
 operation_short (rd_all n p) is = let l = template_short p is.2 in omega (arith, l)
 operation_short (in_all n p) is = let l = template_short p is.2 in omega (arith, l)
+operation_short upgrade is = omega arith
 
 pub tuples_short : (ts : List TupleTree) → AreTuples ts → length (tuples_spelling ts) ≤ 1024 * length ts
 tuples_short [] are = omega arith

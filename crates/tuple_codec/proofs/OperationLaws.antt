@@ -3,7 +3,7 @@ use Rattle.std.proofs.Common.{◌≡◌, ℕ, suc, ◌≤◌, false, ◌&&◌, c
 use Rattle.std.proofs.lemmas.Bool.{leb-true, le-leb, and_parts, and_from, ltb-false, le-ltb}
 use lib.Dec.{leb, ltb}
 use Rattle.tuple_tree.specs.Values.{TupleTree, TemplateTree, IsTuple, IsTemplate}
-use Rattle.tuple_codec.specs.Operations.{Operation, out, rdp, inp, cas, rd_all, in_all, IsCounted, IsOperation, AreTuples, Outcome, done, found, absent, swapped, all, full, refused, IsOutcome}
+use Rattle.tuple_codec.specs.Operations.{Operation, out, rdp, inp, cas, rd_all, in_all, upgrade, IsCounted, IsOperation, AreTuples, Outcome, done, found, absent, swapped, all, full, refused, IsOutcome}
 use Rattle.tuple_codec.specs.Reading.{◌>>=◌, read_as, unknown, more, byte_at, flag_at, tuple_at, template_at, cas_at, counted_at, operation_rows, operation_behind, operation_at, with_tuple, tuples_at, outcome_rows, outcome_behind, outcome_at}
 use Rattle.tuple_codec.specs.Spelling.{flag, tuple_spelling, template_spelling, counted_spelling, operation_spelling, tuples_spelling, outcome_spelling}
 use Rattle.tuple_codec.proofs.Readers.{Found, FoundBehind, bind_some, parts, guard_holds, guard_fails, moved, byte_found, as_found, as_again, tag_found, behind_found, RowsFound, ◌⨾◌, found_by_table, unknown_found, Grows, more_found}
@@ -54,6 +54,7 @@ operation_rows_found =
     ⨾ cas_found
     ⨾ as_found (λ x. IsCounted x.0 x.1) IsOperation counted_spelling operation_spelling 0x25 (λ x. rd_all x.0 x.1) counted_at counted_found (λ x p. (refl, p))
     ⨾ as_found (λ x. IsCounted x.0 x.1) IsOperation counted_spelling operation_spelling 0x26 (λ x. in_all x.0 x.1) counted_at counted_found (λ x p. (refl, p))
+    ⨾ tag_found IsOperation operation_spelling 0x27 upgrade refl tt
     ⨾ tt
 
 behind : (tag : ℕ) → FoundBehind tag IsOperation operation_spelling (operation_behind tag)
@@ -72,6 +73,7 @@ operation_again (inp p) rest h = as_again inp template_at _ rest p (template_rea
 operation_again (cas p t) rest h = cas_again p t rest h.0 h.1
 operation_again (rd_all n p) rest h = as_again (λ x. rd_all x.0 x.1) counted_at _ rest (n, p) (counted_again n p rest h)
 operation_again (in_all n p) rest h = as_again (λ x. in_all x.0 x.1) counted_at _ rest (n, p) (counted_again n p rest h)
+operation_again upgrade rest h = refl
 
 pub operation_reads : Reads IsOperation operation_spelling operation_at
 operation_reads = record { found = operation_found; again = operation_again }

@@ -10,7 +10,7 @@ use Rattle.tuple_tree.specs.Limits.{IsItem, AreItems}
 use Rattle.tuple_tree.specs.Values.{Datum, number, text, bytes, truth, wide, Slot, actual, any, formal, AreBytes, IsDatum, IsSlot, TupleTree, TemplateTree, IsTuple, IsTemplate}
 use Rattle.tuple_tree.specs.declared.atoms.Kind.{Kind}
 use Rattle.tuple_tree.specs.declared.atoms.Kind.TheVariants as kinds
-use Rattle.tuple_codec.specs.Operations.{Operation, out, rdp, inp, cas, rd_all, in_all, IsOperation, AreTuples, Outcome, done, found, absent, swapped, all, full, refused, IsOutcome}
+use Rattle.tuple_codec.specs.Operations.{Operation, out, rdp, inp, cas, rd_all, in_all, upgrade, IsOperation, AreTuples, Outcome, done, found, absent, swapped, all, full, refused, IsOutcome}
 use Rattle.tuple_codec.specs.Spelling.{string, flag, wide_bytes, datum_spelling, formal_tag, slot_spelling, item_spelling, items_spelling, whole_spelling, tuple_spelling, template_spelling, operation_spelling, tuples_spelling, outcome_spelling}
 use Rattle.tuple_codec.proofs.Readers.{bytes_append}
 
@@ -146,6 +146,7 @@ operation_bytes (cas p t) h =
     bytes_more 0x24 (template_spelling p ++ tuple_spelling t) (omega arith) (bytes_append (template_spelling p) (tuple_spelling t) (template_bytes p h.0) (tuple_bytes t h.1))
 operation_bytes (rd_all n p) h = bytes_more 0x25 (n ∷ template_spelling p) (omega arith) (bytes_more n (template_spelling p) (omega (arith, h.1)) (template_bytes p h.2))
 operation_bytes (in_all n p) h = bytes_more 0x26 (n ∷ template_spelling p) (omega arith) (bytes_more n (template_spelling p) (omega (arith, h.1)) (template_bytes p h.2))
+operation_bytes upgrade h = bytes_more 0x27 [] (omega arith) no_bytes
 
 tuples_bytes : (ts : List TupleTree) → AreTuples ts → AreBytes (tuples_spelling ts)
 tuples_bytes [] h = no_bytes

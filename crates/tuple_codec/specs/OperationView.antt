@@ -1,6 +1,6 @@
 -- What the operations and answers of the program stand for, and how they are spelled.
 use Rattle.std.specs.Prelude.{ℕ, List}
-use Rattle.tuple_codec.specs.Operations.{Operation, out, rdp, inp, cas, rd_all, in_all, Outcome, done, found, absent, swapped, all, full, refused}
+use Rattle.tuple_codec.specs.Operations.{Operation, out, rdp, inp, cas, rd_all, in_all, upgrade, Outcome, done, found, absent, swapped, all, full, refused}
 use Rattle.tuple_codec.specs.Spelling.{operation_spelling, outcome_spelling}
 use Rattle.tuple_codec.specs.declared.operations.Op.{Op}
 use Rattle.tuple_codec.specs.declared.operations.Op.TheVariants as ops
@@ -15,6 +15,7 @@ module _ {A : Type 0} where
   operation_of (ops.Cas p t) = cas p t
   operation_of (ops.RdAll max p) = rd_all max.count p
   operation_of (ops.InAll max p) = in_all max.count p
+  operation_of ops.Upgrade = upgrade
 
   abbrev pub outcome_of : Answer A → Outcome
   outcome_of answers.Done = done

@@ -11,6 +11,7 @@ pub data Operation : Type 0 where
   cas : TemplateTree → TupleTree → Operation
   rd_all : ℕ → TemplateTree → Operation
   in_all : ℕ → TemplateTree → Operation
+  upgrade : Operation
 
 pub data Outcome : Type 0 where
   done : Outcome
@@ -32,6 +33,7 @@ IsOperation (inp p) = IsTemplate p
 IsOperation (cas p t) = IsTemplate p × IsTuple t
 IsOperation (rd_all n p) = IsCounted n p
 IsOperation (in_all n p) = IsCounted n p
+IsOperation upgrade = Unit {0}
 
 -- the operations that leave each space as it is
 abbrev pub is_read_only : Operation → Bool
@@ -41,6 +43,7 @@ is_read_only (inp p) = false
 is_read_only (cas p t) = false
 is_read_only (rd_all n p) = true
 is_read_only (in_all n p) = false
+is_read_only upgrade = false
 
 -- The operations of version 2: inAll, and those whose tuple or template has a wide number or asks for one, at any level.
 abbrev pub is_version_2 : Operation → Bool
@@ -50,6 +53,7 @@ is_version_2 (inp p) = has_leaf is_wide_slot p
 is_version_2 (cas p t) = has_leaf is_wide_slot p || has_leaf is_wide t
 is_version_2 (rd_all n p) = has_leaf is_wide_slot p
 is_version_2 (in_all n p) = true
+is_version_2 upgrade = false
 
 abbrev pub AreTuples : List TupleTree → Type 0
 AreTuples [] = Unit {0}

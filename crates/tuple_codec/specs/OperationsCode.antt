@@ -4,10 +4,10 @@ use Rattle.std.specs.Coded.{Coded, code_by, coded_list, coded⊎, coded×, coded
 use Rattle.std.proofs.Common.{inl, inr}
 use Rattle.tuple_tree.specs.Values.{TupleTree, TemplateTree}
 use Rattle.tuple_tree.specs.ValuesCode.{tuple_code, template_code}
-use Rattle.tuple_codec.specs.Operations.{Operation, out, rdp, inp, cas, rd_all, in_all, Outcome, done, found, absent, swapped, all, full, refused}
+use Rattle.tuple_codec.specs.Operations.{Operation, out, rdp, inp, cas, rd_all, in_all, upgrade, Outcome, done, found, absent, swapped, all, full, refused}
 
 abbrev pub OperationParts : Type 0
-OperationParts = TupleTree ⊎ (TemplateTree ⊎ (TemplateTree ⊎ ((TemplateTree × TupleTree) ⊎ ((ℕ × TemplateTree) ⊎ (ℕ × TemplateTree)))))
+OperationParts = TupleTree ⊎ (TemplateTree ⊎ (TemplateTree ⊎ ((TemplateTree × TupleTree) ⊎ ((ℕ × TemplateTree) ⊎ ((ℕ × TemplateTree) ⊎ ℕ)))))
 
 abbrev pub operation_parts : Operation → OperationParts
 operation_parts (out t) = inl t
@@ -15,7 +15,8 @@ operation_parts (rdp p) = inr (inl p)
 operation_parts (inp p) = inr (inr (inl p))
 operation_parts (cas p t) = inr (inr (inr (inl (p, t))))
 operation_parts (rd_all n p) = inr (inr (inr (inr (inl (n, p)))))
-operation_parts (in_all n p) = inr (inr (inr (inr (inr (n, p)))))
+operation_parts (in_all n p) = inr (inr (inr (inr (inr (inl (n, p))))))
+operation_parts upgrade = inr (inr (inr (inr (inr (inr 0)))))
 
 abbrev pub operation_from : OperationParts → Operation
 operation_from (inl t) = out t
@@ -23,7 +24,8 @@ operation_from (inr (inl p)) = rdp p
 operation_from (inr (inr (inl p))) = inp p
 operation_from (inr (inr (inr (inl x)))) = cas x.0 x.1
 operation_from (inr (inr (inr (inr (inl x))))) = rd_all x.0 x.1
-operation_from (inr (inr (inr (inr (inr x))))) = in_all x.0 x.1
+operation_from (inr (inr (inr (inr (inr (inl x)))))) = in_all x.0 x.1
+operation_from (inr (inr (inr (inr (inr (inr n)))))) = upgrade
 
 pub operation_from-parts : (o : Operation) → operation_from (operation_parts o) ≡ o
 operation_from-parts (out t) = refl
@@ -32,10 +34,11 @@ operation_from-parts (inp p) = refl
 operation_from-parts (cas p t) = refl
 operation_from-parts (rd_all n p) = refl
 operation_from-parts (in_all n p) = refl
+operation_from-parts upgrade = refl
 
 abbrev pub operation_code : Coded Operation
 operation_code =
-    code_by OperationParts (coded⊎ tuple_code (coded⊎ template_code (coded⊎ template_code (coded⊎ (coded× template_code tuple_code) (coded⊎ (coded× coded_ℕ template_code) (coded× coded_ℕ template_code))))))
+    code_by OperationParts (coded⊎ tuple_code (coded⊎ template_code (coded⊎ template_code (coded⊎ (coded× template_code tuple_code) (coded⊎ (coded× coded_ℕ template_code) (coded⊎ (coded× coded_ℕ template_code) coded_ℕ))))))
     operation_parts operation_from operation_from-parts
 
 abbrev pub OutcomeParts : Type 0

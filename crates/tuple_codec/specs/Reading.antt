@@ -7,7 +7,7 @@ use Rattle.byteorder.specs.Endian.{big_number}
 use Rattle.tuple_tree.specs.Items.{Item, leaf, inner, Items, none, with_last}
 use Rattle.tuple_tree.specs.Values.{Datum, number, text, bytes, truth, wide, Slot, actual, any, formal, TupleTree, TemplateTree}
 use Rattle.tuple_tree.specs.declared.atoms.Kind.TheVariants as kinds
-use Rattle.tuple_codec.specs.Operations.{Operation, out, rdp, inp, cas, rd_all, in_all, Outcome, done, found, absent, swapped, all, full, refused}
+use Rattle.tuple_codec.specs.Operations.{Operation, out, rdp, inp, cas, rd_all, in_all, upgrade, Outcome, done, found, absent, swapped, all, full, refused}
 
 infixl 10 ◌>>=◌
 abbrev pub ◌>>=◌ : {A B : Type 0} → Option A → (A → Option B) → Option B
@@ -162,6 +162,7 @@ operation_rows =
     ∷ (0x24, cas_at)
     ∷ (0x25, read_as (λ x. rd_all x.0 x.1) counted_at)
     ∷ (0x26, read_as (λ x. in_all x.0 x.1) counted_at)
+    ∷ (0x27, alone upgrade)
     ∷ []
 
 unfoldable pub operation_behind : ℕ → Reader Operation

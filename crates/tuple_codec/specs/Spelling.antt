@@ -6,7 +6,7 @@ use Rattle.tuple_tree.specs.Items.{Item, leaf, inner, Items, none, item, how_man
 use Rattle.tuple_tree.specs.Values.{Datum, number, text, bytes, truth, wide, Slot, actual, any, formal, TupleTree, TemplateTree, IsTuple, IsTemplate}
 use Rattle.tuple_tree.specs.declared.atoms.Kind.{Kind}
 use Rattle.tuple_tree.specs.declared.atoms.Kind.TheVariants as kinds
-use Rattle.tuple_codec.specs.Operations.{Operation, out, rdp, inp, cas, rd_all, in_all, IsOperation, Outcome, done, found, absent, swapped, all, full, refused, IsOutcome}
+use Rattle.tuple_codec.specs.Operations.{Operation, out, rdp, inp, cas, rd_all, in_all, upgrade, IsOperation, Outcome, done, found, absent, swapped, all, full, refused, IsOutcome}
 
 -- two bytes of length, and that many bytes
 abbrev pub string : List ℕ → List ℕ
@@ -84,6 +84,7 @@ operation_spelling (inp p) = 0x23 ∷ template_spelling p
 operation_spelling (cas p t) = cas_spelling p t
 operation_spelling (rd_all n p) = 0x25 ∷ counted_spelling (n, p)
 operation_spelling (in_all n p) = 0x26 ∷ counted_spelling (n, p)
+operation_spelling upgrade = 0x27 ∷ []
 
 abbrev pub tuples_spelling : List TupleTree → List ℕ
 tuples_spelling [] = []

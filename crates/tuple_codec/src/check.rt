@@ -50,6 +50,7 @@ fn skip_op_behind(tag: u8, bytes: &[u8]) -> Option<&[u8]>
         0x24 => skip_cas(bytes),
         0x25 => skip_counted(bytes),
         0x26 => skip_counted(bytes),
+        0x27 => Some(bytes),
         _ => None,
     }
 }

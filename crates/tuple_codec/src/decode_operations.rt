@@ -91,6 +91,7 @@ fn read_op_behind<'b, A: Allocator + Clone>(
         0x24 => read_cas(alloc, bytes),
         0x25 => read_rd_all(alloc, bytes),
         0x26 => read_in_all(alloc, bytes),
+        0x27 => Ok((Op::Upgrade, bytes)),
         _ => Err(Bad::Malformed),
     }
 }

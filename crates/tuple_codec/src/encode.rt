@@ -54,7 +54,7 @@ pub fn encode_template<A: Allocator, B: Allocator>(
     }
 }
 
-/// Appends the spelling of the operation: a tag, and then its tuple or template. An `Err` leaves the bytes as they
+/// Appends the spelling of the operation: a tag, and then what it holds. An `Err` leaves the bytes as they
 /// were.
 pub fn encode_op<A: Allocator, B: Allocator>(
     op: &Op<A>,
@@ -101,6 +101,7 @@ fn put_op<A: Allocator, B: Allocator>(op: &Op<A>, out: &mut Vec<u8, B>) -> Resul
         Op::Cas(template, tuple) => put_cas(template, tuple, out),
         Op::RdAll(max, template) => put_counted(0x25, *max, template, out),
         Op::InAll(max, template) => put_counted(0x26, *max, template, out),
+        Op::Upgrade => put_byte(0x27, out),
     }
 }
 

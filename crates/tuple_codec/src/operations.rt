@@ -151,6 +151,8 @@ pub enum Op<A: Allocator> {
     RdAll(Max, Template<A>),
     /// Takes the oldest matches, so many at the most.
     InAll(Max, Template<A>),
+    /// Makes the space one of version 2.
+    Upgrade,
 }
 
 impl<A: Allocator> Op<A> {
@@ -173,6 +175,7 @@ impl<A: Allocator> Op<A> {
             }
             Op::RdAll(max, template) => Ok(Op::RdAll(*max, template.copy_in(alloc)?)),
             Op::InAll(max, template) => Ok(Op::InAll(*max, template.copy_in(alloc)?)),
+            Op::Upgrade => Ok(Op::Upgrade),
         }
     }
 
@@ -187,11 +190,12 @@ impl<A: Allocator> Op<A> {
             (Op::Cas(a, x), Op::Cas(b, y)) => a.same(b) && x.same(y),
             (Op::RdAll(max, a), Op::RdAll(most, b)) => max.count == most.count && a.same(b),
             (Op::InAll(max, a), Op::InAll(most, b)) => max.count == most.count && a.same(b),
+            (Op::Upgrade, Op::Upgrade) => true,
             _ => false,
         }
     }
 
-    /// The length of the spelling in bytes, 2 to 2,049. Constant time.
+    /// The length of the spelling in bytes, 1 to 2,049. Constant time.
     pub fn encoded_len(&self) -> usize
         ensures value { result ≡ length (operation_spelling (operation_of self.now)) }
         ensures bound { result ≤ 2049 }
@@ -201,6 +205,7 @@ impl<A: Allocator> Op<A> {
             Op::Rdp(template) | Op::Inp(template) => 1 + template_len(template),
             Op::Cas(template, tuple) => 1 + template_len(template) + tuple_len(tuple),
             Op::RdAll(_, template) | Op::InAll(_, template) => 2 + template_len(template),
+            Op::Upgrade => 1,
         }
     }
 
@@ -210,7 +215,7 @@ impl<A: Allocator> Op<A> {
     {
         match self {
             Op::Rdp(_) | Op::RdAll(_, _) => true,
-            Op::Out(_) | Op::Inp(_) | Op::Cas(_, _) | Op::InAll(_, _) => false,
+            Op::Out(_) | Op::Inp(_) | Op::Cas(_, _) | Op::InAll(_, _) | Op::Upgrade => false,
         }
     }
 
@@ -225,6 +230,7 @@ impl<A: Allocator> Op<A> {
             Op::Cas(template, tuple) => template.has_wide() || tuple.has_wide(),
             Op::RdAll(_, template) => template.has_wide(),
             Op::InAll(_, _) => true,
+            Op::Upgrade => false,
         }
     }
 
@@ -245,6 +251,7 @@ impl<A: Allocator> Op<A> {
                 let _max = *max;
                 note_template(template);
             }
+            Op::Upgrade => {}
         }
     }
 }

@@ -21,7 +21,7 @@ fn is_applied(space: &mut Space, op: &Op<Global>) -> bool {
         if !space.births_left() {
             return false;
         }
-        if space.apply(op).is_ok() {
+        if space.apply(0, op).is_ok() {
             return true;
         }
         if space.count() != count {
@@ -96,7 +96,7 @@ fn is_watched(watched: &mut Watched, op: &Op<Global>) -> bool {
         if !watched.space().births_left() {
             return false;
         }
-        if watched.apply(op).is_ok() {
+        if watched.apply(0, op).is_ok() {
             return true;
         }
     }

@@ -4,7 +4,7 @@ use std::alloc::Global;
 use std::test::Fail;
 use tuple_codec::{Bad, decode_op, decode_result, encode_op, encode_result, is_op, is_result};
 
-static ROWS: [&[u8]; 9] = [
+static ROWS: [&[u8]; 10] = [
     // out (1 "a")
     b"\x21\x02\x01\x00\x00\x00\x00\x00\x00\x00\x01\x02\x00\x01a",
     // out (("x") true)
@@ -21,6 +21,8 @@ static ROWS: [&[u8]; 9] = [
     // inAll 2 (?wide), inAll 64 (*)
     b"\x26\x02\x01\x16",
     b"\x26\x40\x01\x10",
+    // upgrade
+    b"\x27",
 ];
 
 // All of () and (true)

@@ -3,7 +3,7 @@
 //! In a plain run nothing is refused here. `tools/growths` refuses the growth of number N: each test
 //! passes at each N.
 
-use space::{PeekFault, Space};
+use space::{PeekFault, Space, Version};
 use std::alloc::Global;
 use test_bytes::read_op;
 use tuple_codec::{Answer, Op, encode_result};
@@ -26,7 +26,7 @@ fn applied_once(space: &mut Space, op: &Op<Global>) -> Option<Answer<Global>> {
     if !space.births_left() {
         return None;
     }
-    space.apply(op).ok()
+    space.apply(0, op).ok()
 }
 
 fn applied(space: &mut Space, op: &Op<Global>) -> Option<Answer<Global>> {
@@ -115,6 +115,38 @@ fn looks_only(space: &Space, alloc: Global, op: &[u8]) -> bool {
         Some(op) => matches!(space.peek(&op), Err(PeekFault::NotReadOnly)),
         None => false,
     }
+}
+
+// Whether the client's upgrade is answered so, and leaves this version.
+fn upgrades(
+    space: &mut Space,
+    alloc: Global,
+    client: u16,
+    expected: &[u8],
+    version: Version,
+) -> bool {
+    let Some(op) = read_op(alloc, b"\x27") else {
+        return false;
+    };
+    if !space.births_left() {
+        return false;
+    }
+    match space.apply(client, &op) {
+        Ok(answer) => is_spelled(alloc, &answer, expected) && space.version() == version,
+        Err(_) => false,
+    }
+}
+
+// Done for client 0, and refused to all others.
+#[test]
+fn client_0_upgrades(rt: HostRuntime) {
+    let mut space = Space::new(rt.alloc());
+    assert!(rt; upgrades(&mut space, rt.alloc(), 1, b"\x37", Version::One));
+    assert!(rt; upgrades(&mut space, rt.alloc(), 0, b"\x31", Version::Two));
+    assert!(rt; upgrades(&mut space, rt.alloc(), 255, b"\x37", Version::Two));
+    assert!(rt; upgrades(&mut space, rt.alloc(), 0, b"\x31", Version::Two));
+    // An upgrade is no read.
+    assert!(rt; looks_only(&space, rt.alloc(), b"\x27"));
 }
 
 #[test]

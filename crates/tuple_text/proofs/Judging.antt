@@ -5,14 +5,14 @@ use Rattle.std.proofs.lemmas.Bool.{cases_lt}
 use Rattle.tuple_tree.specs.Items.{Items, levels_of}
 use Rattle.tuple_tree.specs.Limits.{IsWithin}
 use Rattle.tuple_tree.specs.Values.{IsDatum, IsSlot, datum_length, slot_length, TupleTree, TemplateTree}
-use Rattle.tuple_codec.specs.Operations.{Operation, out, rdp, inp, cas, rd_all, in_all, IsOperation}
+use Rattle.tuple_codec.specs.Operations.{Operation, out, rdp, inp, cas, rd_all, in_all, upgrade, IsOperation}
 use Rattle.tuple_text.specs.declared.reader.Verb.{Verb}
 use Rattle.tuple_text.specs.declared.reader.Verb.TheVariants.{Rd, In}
 use Rattle.tuple_text.specs.Texts.{AreBlanks}
 use Rattle.tuple_text.specs.Lines.{LineText, IsLine, IsSkipped, IsComment, name}
 use Rattle.tuple_text.specs.Faults.{AnyOperation, KeepsCount, KeepsBoth, EndsTooLong, Passes, StopsAt, IsBadAt, Faults}
 use Rattle.tuple_text.specs.Faults.{Begins as BeginsLine}
-use Rattle.tuple_text.specs.Reading.{Read, got, stop, Reading, ◌>>=◌, nothing, look, blanks, word, finish, ending, ended, positive, argument, tuple, template, out_line, cas_line, letters, one_of, all_of, one_line, all_line, verb_line, operation, line, fault_at, Stops}
+use Rattle.tuple_text.specs.Reading.{Read, got, stop, Reading, ◌>>=◌, nothing, look, blanks, word, finish, ending, ended, positive, argument, tuple, template, out_line, cas_line, upgrade_line, letters, one_of, all_of, one_line, all_line, verb_line, operation, line, fault_at, Stops}
 use Rattle.tuple_text.specs.declared.reader.Stop.{Stop}
 use Rattle.tuple_text.specs.declared.reader.Stop.TheVariants.{BadByte, TooDeep, TooManyFields, TooLong, NoMemory}
 use Rattle.tuple_text.specs.declared.faults.LineFault.TheVariants as faults
@@ -220,6 +220,10 @@ cas_end bs =
     then_end (word (codes "cas") bs) (λ _ behind. argument template behind >>= λ p middle. argument tuple middle >>= λ t rest. ended (cas p t) rest)
     (λ _ behind. then_end (argument template behind) (λ p middle. argument tuple middle >>= λ t rest. ended (cas p t) rest) (λ p middle. tuple_end (cas p) middle))
 
+upgrade_end : (bs : List ℕ) → AtEnd (upgrade_line bs)
+unfolding upgrade_line
+upgrade_end bs = then_end (word (codes "upgrade") bs) (λ _ rest. ended upgrade rest) (λ _ rest. ended_end upgrade rest)
+
 one_end : (verb : Verb) (bs : List ℕ) → AtEnd (one_line verb bs)
 unfolding one_line
 one_end verb bs = then_end (word (codes "p") bs) (λ _ behind. argument template behind >>= λ p rest. ended (one_of verb p) rest) (λ _ behind. template_end (one_of verb) behind)
@@ -243,9 +247,10 @@ verb_end verb bs =
 operation_end : (bs : List ℕ) → AtEnd (operation bs)
 unfolding operation
 operation_end bs =
-    look_end 111 out_line (look 114 (verb_line Rd) (look 105 (verb_line In) (look 99 cas_line nothing))) out_end
-    (look_end 114 (verb_line Rd) (look 105 (verb_line In) (look 99 cas_line nothing)) (verb_end Rd)
-    (look_end 105 (verb_line In) (look 99 cas_line nothing) (verb_end In) (look_end 99 cas_line nothing cas_end (λ bs. tt)))) bs
+    look_end 111 out_line (look 114 (verb_line Rd) (look 105 (verb_line In) (look 99 cas_line (look 117 upgrade_line nothing)))) out_end
+    (look_end 114 (verb_line Rd) (look 105 (verb_line In) (look 99 cas_line (look 117 upgrade_line nothing))) (verb_end Rd)
+    (look_end 105 (verb_line In) (look 99 cas_line (look 117 upgrade_line nothing)) (verb_end In)
+    (look_end 99 cas_line (look 117 upgrade_line nothing) cas_end (look_end 117 upgrade_line nothing upgrade_end (λ bs. tt))))) bs
 
 line_end : (bs : List ℕ) → AtEnd (line bs)
 unfolding line
@@ -273,6 +278,7 @@ keeps_both (inp p) w = keeps_tree IsSlot slot_length p w
 keeps_both (cas p t) w = let k = keeps_tree IsSlot slot_length p w.0 in let l = keeps_tree IsDatum datum_length t w.1 in ((k.0, l.0), (k.1, l.1))
 keeps_both (rd_all n p) w = keeps_tree IsSlot slot_length p w.2
 keeps_both (in_all n p) w = keeps_tree IsSlot slot_length p w.2
+keeps_both upgrade w = (tt, tt)
 
 -- A longer line is bad at its byte 65,536 at the latest.
 pub too_big : (bs : List ℕ) (o : Operation) (rest : List ℕ) → 65536 < length bs → line (front bs) ≡ got o rest → IsBadAt bs 65536
@@ -309,6 +315,7 @@ name_head (inp p) = (105, codes "np", refl, omega arith)
 name_head (cas p t) = (99, codes "as", refl, omega arith)
 name_head (rd_all n p) = (114, codes "dAll", refl, omega arith)
 name_head (in_all n p) = (105, codes "nAll", refl, omega arith)
+name_head upgrade = (117, codes "pgrade", refl, omega arith)
 
 no_blanks : (lead : List ℕ) (b : ℕ) (t : List ℕ) → 97 ≤ b → AreBlanks (lead ++ b ∷ t) → ⊥
 no_blanks [] b t h k = omega (arith, k.0)

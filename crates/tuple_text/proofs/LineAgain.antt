@@ -5,11 +5,11 @@ use Rattle.std.proofs.lemmas.Bool.{leb-true, leb-false, ne_eqb}
 use Rattle.tuple_tree.specs.Items.{Items, levels_of, whole_length}
 use Rattle.tuple_tree.specs.Limits.{IsWithin}
 use Rattle.tuple_tree.specs.Values.{datum_length, slot_length, IsDatum, IsSlot, TupleTree, TemplateTree}
-use Rattle.tuple_codec.specs.Operations.{Operation, out, rdp, inp, cas, rd_all, in_all, IsOperation}
+use Rattle.tuple_codec.specs.Operations.{Operation, out, rdp, inp, cas, rd_all, in_all, upgrade, IsOperation}
 use Rattle.tuple_text.specs.Texts.{AreBlanks, IsGap, WholeText, datum_text, slot_text}
 use Rattle.tuple_text.specs.Lines.{EachLeaf, LineText, TupleArgument, TemplateArgument, CountArgument, ArgumentsText, arguments, name}
 use Rattle.tuple_text.specs.Faults.{KeepsCount, KeepsLevels, KeepsCounts, EndsTooLong, ArgumentsClosed, argument_lengths}
-use Rattle.tuple_text.specs.Reading.{Read, got, stop, Reading, ◌>>=◌, positive, kept, no_room, datum, slot, begins_datum, begins_slot, close, tuple, template, argument, ended, out_line, cas_line, one_line, all_line, verb_line, operation, line}
+use Rattle.tuple_text.specs.Reading.{Read, got, stop, Reading, ◌>>=◌, positive, kept, no_room, datum, slot, begins_datum, begins_slot, close, tuple, template, argument, ended, out_line, cas_line, upgrade_line, one_line, all_line, verb_line, operation, line}
 use Rattle.tuple_text.specs.declared.reader.Stop.{Stop}
 use Rattle.tuple_text.specs.declared.reader.Stop.TheVariants.{BadByte, TooDeep, TooManyFields, TooLong, NoMemory}
 use Rattle.tuple_text.proofs.Blanks.{NoBlank, blanks_again, gap_again, ending_again}
@@ -121,6 +121,7 @@ Exceeds (inp p) s = TreeExceeds slot_length p s
 Exceeds (cas p t) s = TreeExceeds slot_length p s ⊎ TreeExceeds datum_length t s
 Exceeds (rd_all n p) s = TreeExceeds slot_length p s
 Exceeds (in_all n p) s = TreeExceeds slot_length p s
+Exceeds upgrade s = ⊥
 
 either : {A B : Type 0} → (A → ⊥) → (B → ⊥) → A ⊎ B → ⊥
 either f g (inl a) = f a
@@ -133,6 +134,7 @@ never_bad (inp p) h = h
 never_bad (cas p t) h = either (λ e. e) (λ e. e) h
 never_bad (rd_all n p) h = h
 never_bad (in_all n p) h = h
+never_bad upgrade h = h
 
 pub keeps_counts : (o : Operation) → KeepsCounts o → Exceeds o TooManyFields → ⊥
 keeps_counts (out t) k h = h k
@@ -141,6 +143,7 @@ keeps_counts (inp p) k h = h k
 keeps_counts (cas p t) k h = either (λ e. e k.0) (λ e. e k.1) h
 keeps_counts (rd_all n p) k h = h k
 keeps_counts (in_all n p) k h = h k
+keeps_counts upgrade k h = h
 
 deep_no : {L : Type 0} → (t : Items L) → levels_of t ≤ 8 → 8 < levels_of t → ⊥
 deep_no t k h = omega (arith, k, h)
@@ -152,6 +155,7 @@ keeps_levels (inp p) k h = deep_no p k h
 keeps_levels (cas p t) k h = either (deep_no p k.0) (deep_no t k.1) h
 keeps_levels (rd_all n p) k h = deep_no p k h
 keeps_levels (in_all n p) k h = deep_no p k h
+keeps_levels upgrade k h = h
 
 within_tree : {L : Type 0} → (IsLeaf : L → Type 0) (length_of : L → ℕ) (t : Items L) (s : Stop) → IsWithin IsLeaf length_of t → TreeExceeds length_of t s → ⊥
 within_tree IsLeaf length_of t BadByte w h = h
@@ -167,6 +171,7 @@ within_exceeds (inp p) s w h = within_tree IsSlot slot_length p s w h
 within_exceeds (cas p t) s w h = either (within_tree IsSlot slot_length p s w.0) (within_tree IsDatum datum_length t s w.1) h
 within_exceeds (rd_all n p) s w h = within_tree IsSlot slot_length p s w.2 h
 within_exceeds (in_all n p) s w h = within_tree IsSlot slot_length p s w.2 h
+within_exceeds upgrade s w h = h
 
 -- what is read behind a name
 abbrev out_rest : Reading Operation
@@ -188,15 +193,17 @@ rest_of (inp p) = takes_rest inp
 rest_of (cas p t) = cas_rest
 rest_of (rd_all n p) = all_rest rd_all
 rest_of (in_all n p) = all_rest in_all
+rest_of upgrade = ended upgrade
 
 named_front : (o : Operation) (behind : List ℕ) → operation (name o ++ behind) ≡ rest_of o behind
-unfolding operation out_line verb_line one_line all_line cas_line
+unfolding operation out_line verb_line one_line all_line cas_line upgrade_line
 named_front (out t) behind = refl
 named_front (rdp p) behind = refl
 named_front (inp p) behind = refl
 named_front (cas p t) behind = refl
 named_front (rd_all n p) behind = refl
 named_front (in_all n p) behind = refl
+named_front upgrade behind = refl
 
 no_blank_name : (o : Operation) (behind : List ℕ) → NoBlank (name o ++ behind)
 no_blank_name (out t) behind = refl
@@ -205,6 +212,7 @@ no_blank_name (inp p) behind = refl
 no_blank_name (cas p t) behind = refl
 no_blank_name (rd_all n p) behind = refl
 no_blank_name (in_all n p) behind = refl
+no_blank_name upgrade behind = refl
 
 line_front : (o : Operation) (lead behind : List ℕ) → AreBlanks lead → line (lead ++ (name o ++ behind)) ≡ rest_of o behind
 unfolding line
@@ -247,6 +255,7 @@ rest_again (inp p) w a = takes_again p inp w a
 rest_again (cas p t) w a = cas_again p t w a
 rest_again (rd_all n p) w a = all_again n p rd_all w a
 rest_again (in_all n p) w a = all_again n p in_all w a
+rest_again upgrade w a = again_got (Exceeds upgrade) upgrade [] (ended upgrade w) (ended_again upgrade w a)
 
 pub line_again : (o : Operation) (bs : List ℕ) → LineText o bs → AgainAs (Exceeds o) o [] (line bs)
 line_again o bs h = subst (AgainAs (Exceeds o) o []) (sym (ap line h.2 ∙ line_front o h.0 h.1 h.3)) (rest_again o h.1 h.4)
@@ -300,6 +309,7 @@ rest_stops (rd_all m p) (suc (suc k)) w u n h l = absurd (omega (arith, n))
 rest_stops (in_all m p) zero w u n h l = absurd (omega (arith, l))
 rest_stops (in_all m p) (suc zero) w u n h l = all_closes m p in_all w u h l
 rest_stops (in_all m p) (suc (suc k)) w u n h l = absurd (omega (arith, n))
+rest_stops upgrade k w u n h l = absurd (omega (arith, n))
 
 pub too_long_stops : (bs u : List ℕ) → EndsTooLong bs → StopsBefore u (line (bs ++ u))
 too_long_stops bs u h =

@@ -5,11 +5,11 @@ use Rattle.std.specs.Fmt.{decimal}
 use Rattle.tuple_tree.specs.Items.{Items, none, levels_of, whole_length}
 use Rattle.tuple_tree.specs.Limits.{IsWithin}
 use Rattle.tuple_tree.specs.Values.{datum_length, slot_length, IsDatum, IsSlot, TupleTree, TemplateTree}
-use Rattle.tuple_codec.specs.Operations.{Operation, out, rdp, inp, cas, rd_all, in_all, IsOperation}
+use Rattle.tuple_codec.specs.Operations.{Operation, out, rdp, inp, cas, rd_all, in_all, upgrade, IsOperation}
 use Rattle.tuple_text.specs.Texts.{AreBlanks, WholeText, datum_text, slot_text}
 use Rattle.tuple_text.specs.Lines.{EachLeaf, LineText, name, arguments, ArgumentsText}
 use Rattle.tuple_text.specs.Faults.{KeepsCount, KeepsLevels, KeepsBoth, EndsTooLong, ArgumentsClosed, argument_lengths}
-use Rattle.tuple_text.specs.Reading.{◌>>=◌, nothing, look, blanks, positive, datum, slot, begins_datum, begins_slot, tuple, template, argument, ended, out_line, cas_line, letters, one_of, all_of, one_line, all_line, verb_line, operation, line}
+use Rattle.tuple_text.specs.Reading.{◌>>=◌, nothing, look, blanks, positive, datum, slot, begins_datum, begins_slot, tuple, template, argument, ended, out_line, cas_line, upgrade_line, letters, one_of, all_of, one_line, all_line, verb_line, operation, line}
 use Rattle.tuple_text.specs.declared.reader.Verb.{Verb}
 use Rattle.tuple_text.specs.declared.reader.Verb.TheVariants.{Rd, In}
 use Rattle.tuple_text.proofs.Right.{Limits, both, levels, no_limits, RightTo, Never, then_to, look_right, nothing_right}
@@ -374,6 +374,28 @@ cas_right bs =
     (λ behind. argument_then KeptTemplate TemplateIs LongTemplate (some_tree slot_text IsSlot slot_length) (tree_weaker slot_text IsSlot slot_length) (λ p. Then KeptTuple (λ t. IsDone (cas p t))) (λ p c. Then (TupleIs c) (λ t. IsDone (cas p t)))
     (λ p. LongThen KeptTuple LongTuple (λ t. Never)) template (λ p middle. argument tuple middle >>= λ t rest. ended (cas p t) rest) behind (λ p c. some_last (cas p) c) template_right (λ p rest. tuple_last (cas p) rest)) bs
 
+-- upgrade: no argument
+keeps_upgrade : (c : Limits) → Keeps c upgrade
+keeps_upgrade both = (tt, tt)
+keeps_upgrade levels = tt
+keeps_upgrade no_limits = tt
+
+upgrade_limited : (c : Limits) (o : Operation) (w : List ℕ) → IsDone upgrade o w → Limited c o (codes "upgrade" ++ w)
+upgrade_limited c o w h =
+    let l : Limited c upgrade (codes "upgrade" ++ w) = ((w, refl, h.1), keeps_upgrade c) in
+    subst (λ x. Limited c x (codes "upgrade" ++ w)) (sym h.0) l
+
+upgrade_good : (o : Operation) (w : List ℕ) → IsDone upgrade o w → Good o (codes "upgrade" ++ w)
+upgrade_good o w h =
+    let l : Good upgrade (codes "upgrade" ++ w) = ((w, refl, h.1), tt) in
+    subst (λ x. Good x (codes "upgrade" ++ w)) (sym h.0) l
+
+upgrade_right : (bs : List ℕ) → RightTo Good (Begins Limited) TooLongBehind bs (upgrade_line bs)
+unfolding upgrade_line
+upgrade_right bs =
+    named_to Good Limited TooLongBehind [] (codes "upgrade") (IsDone upgrade) (λ c. IsDone upgrade) Never upgrade_good upgrade_limited (λ w d. absurd d) (λ c. (upgrade, [], (refl, tt)))
+    (λ behind. ended upgrade behind) (λ rest. done_right upgrade rest) bs
+
 -- the operations
 some_verb : (verb : Verb) (c : Limits) → (o : Operation) × (w : List ℕ) × Limited c o (letters verb ++ w)
 some_verb verb c = let s = some_takes (one_of verb) c in (s.0, codes "p" ++ s.1, one_limited verb c s.0 s.1 s.2)
@@ -395,10 +417,11 @@ some_line c = let s = some_out c in (s.0, codes "out" ++ s.1, out_limited c s.0 
 operation_right : (bs : List ℕ) → RightTo Good (Begins Limited) TooLongBehind bs (operation bs)
 unfolding operation
 operation_right bs =
-    look_right Good (Begins Limited) TooLongBehind 111 out_line (look 114 (verb_line Rd) (look 105 (verb_line In) (look 99 cas_line nothing))) (some_line both) out_right
-    (look_right Good (Begins Limited) TooLongBehind 114 (verb_line Rd) (look 105 (verb_line In) (look 99 cas_line nothing)) (some_line both) (verb_right Rd)
-    (look_right Good (Begins Limited) TooLongBehind 105 (verb_line In) (look 99 cas_line nothing) (some_line both) (verb_right In)
-    (look_right Good (Begins Limited) TooLongBehind 99 cas_line nothing (some_line both) cas_right (nothing_right Good (Begins Limited) TooLongBehind (some_line both))))) bs
+    look_right Good (Begins Limited) TooLongBehind 111 out_line (look 114 (verb_line Rd) (look 105 (verb_line In) (look 99 cas_line (look 117 upgrade_line nothing)))) (some_line both) out_right
+    (look_right Good (Begins Limited) TooLongBehind 114 (verb_line Rd) (look 105 (verb_line In) (look 99 cas_line (look 117 upgrade_line nothing))) (some_line both) (verb_right Rd)
+    (look_right Good (Begins Limited) TooLongBehind 105 (verb_line In) (look 99 cas_line (look 117 upgrade_line nothing)) (some_line both) (verb_right In)
+    (look_right Good (Begins Limited) TooLongBehind 99 cas_line (look 117 upgrade_line nothing) (some_line both) cas_right
+    (look_right Good (Begins Limited) TooLongBehind 117 upgrade_line nothing (some_line both) upgrade_right (nothing_right Good (Begins Limited) TooLongBehind (some_line both)))))) bs
 
 -- the line of an operation, and one that keeps the limits c
 abbrev pub GoodLine : Operation → List ℕ → Type 0

@@ -5,10 +5,10 @@ use Rattle.tuple_tree.specs.Items.{Item, leaf, inner, Items, none}
 use Rattle.tuple_tree.specs.Values.{number, text, bytes, truth, wide, actual, any, formal, datum_length, slot_length}
 use Rattle.tuple_tree.specs.declared.atoms.Kind.{Kind}
 use Rattle.tuple_tree.specs.declared.atoms.Kind.TheVariants as kinds
-use Rattle.tuple_codec.specs.Operations.{Operation, out, cas}
+use Rattle.tuple_codec.specs.Operations.{Operation, out, cas, upgrade}
 use Rattle.tuple_text.specs.declared.reader.Verb.{Verb}
 use Rattle.tuple_text.specs.declared.reader.Verb.TheVariants.{Rd, In}
-use Rattle.tuple_text.specs.Reading.{got, stop, Reading, ◌>>=◌, nothing, look, blanks, word, named, gap, finish, digits, positive, MOST, MOST_WIDE, signed, numeral, wide_numeral, quoted, byte_string, truth_or_number, datum, kind_b, kind_t, kind, formal_slot, actual_slot, slot, begins_datum, begins_slot, full, follows, turn, items, no_room, kept_with, leaf_item, list, item_at, items_at, close, whole, tuple, template, argument, ending, ended, out_line, cas_line, letters, one_of, all_of, one_line, all_line, verb_line, operation, line}
+use Rattle.tuple_text.specs.Reading.{got, stop, Reading, ◌>>=◌, nothing, look, blanks, word, named, gap, finish, digits, positive, MOST, MOST_WIDE, signed, numeral, wide_numeral, quoted, byte_string, truth_or_number, datum, kind_b, kind_t, kind, formal_slot, actual_slot, slot, begins_datum, begins_slot, full, follows, turn, items, no_room, kept_with, leaf_item, list, item_at, items_at, close, whole, tuple, template, argument, ending, ended, out_line, cas_line, upgrade_line, letters, one_of, all_of, one_line, all_line, verb_line, operation, line}
 use Rattle.tuple_text.specs.declared.reader.Stop.{Stop}
 use Rattle.tuple_text.specs.Literals.{text_literal, bytes_literal}
 use Rattle.tuple_text.proofs.LiteralTexts.{text_local}
@@ -217,6 +217,10 @@ cas_local =
     (λ _. local_then (argument template) (λ p middle. argument tuple middle >>= λ t rest. ended (cas p t) rest) template_argument_local
     (λ p. local_then (argument tuple) (λ t rest. ended (cas p t) rest) tuple_argument_local (λ t. ended_local (cas p t))))
 
+upgrade_local : IsLocal upgrade_line
+unfolding upgrade_line
+upgrade_local = local_then (word (codes "upgrade")) (λ _ rest. ended upgrade rest) (word_local (codes "upgrade")) (λ _. ended_local upgrade)
+
 one_local : (verb : Verb) → IsLocal (one_line verb)
 unfolding one_line
 one_local verb =
@@ -239,9 +243,10 @@ verb_local verb =
 operation_local : IsLocal operation
 unfolding operation
 operation_local =
-    local_choice 111 out_line (look 114 (verb_line Rd) (look 105 (verb_line In) (look 99 cas_line nothing))) out_local
-    (local_choice 114 (verb_line Rd) (look 105 (verb_line In) (look 99 cas_line nothing)) (verb_local Rd)
-    (local_choice 105 (verb_line In) (look 99 cas_line nothing) (verb_local In) (local_choice 99 cas_line nothing cas_local nothing_local)))
+    local_choice 111 out_line (look 114 (verb_line Rd) (look 105 (verb_line In) (look 99 cas_line (look 117 upgrade_line nothing)))) out_local
+    (local_choice 114 (verb_line Rd) (look 105 (verb_line In) (look 99 cas_line (look 117 upgrade_line nothing))) (verb_local Rd)
+    (local_choice 105 (verb_line In) (look 99 cas_line (look 117 upgrade_line nothing)) (verb_local In)
+    (local_choice 99 cas_line (look 117 upgrade_line nothing) cas_local (local_choice 117 upgrade_line nothing upgrade_local nothing_local))))
 
 pub line_local : IsLocal line
 unfolding line

@@ -6,7 +6,7 @@ use Rattle.std.specs.Prelude.{◌≡◌, ℕ, ◌+◌, ◌<◌, ◌≤◌, List,
 use Rattle.tuple_tree.specs.Items.{Items, how_many, levels_of, whole_length}
 use Rattle.tuple_tree.specs.Limits.{AreItems}
 use Rattle.tuple_tree.specs.Values.{datum_length, slot_length}
-use Rattle.tuple_codec.specs.Operations.{Operation, out, rdp, inp, cas, rd_all, in_all}
+use Rattle.tuple_codec.specs.Operations.{Operation, out, rdp, inp, cas, rd_all, in_all, upgrade}
 use Rattle.tuple_text.specs.Texts.{AreBlanks, IsGap}
 use Rattle.tuple_text.specs.Lines.{name, arguments, LineText, IsSkipped}
 use Rattle.tuple_text.specs.declared.faults.LineFault.{LineFault}
@@ -26,6 +26,7 @@ KeepsLevels (inp p) = levels_of p ≤ 8
 KeepsLevels (cas p t) = (levels_of p ≤ 8) × (levels_of t ≤ 8)
 KeepsLevels (rd_all n p) = levels_of p ≤ 8
 KeepsLevels (in_all n p) = levels_of p ≤ 8
+KeepsLevels upgrade = Unit {0}
 
 abbrev pub KeepsCounts : Operation → Type 0
 KeepsCounts (out t) = KeepsCount t
@@ -34,6 +35,7 @@ KeepsCounts (inp p) = KeepsCount p
 KeepsCounts (cas p t) = KeepsCount p × KeepsCount t
 KeepsCounts (rd_all n p) = KeepsCount p
 KeepsCounts (in_all n p) = KeepsCount p
+KeepsCounts upgrade = Unit {0}
 
 abbrev pub KeepsBoth : Operation → Type 0
 KeepsBoth o = KeepsLevels o × KeepsCounts o
@@ -56,6 +58,7 @@ argument_lengths (inp p) = whole_length slot_length p ∷ []
 argument_lengths (cas p t) = whole_length slot_length p ∷ whole_length datum_length t ∷ []
 argument_lengths (rd_all n p) = 1 ∷ whole_length slot_length p ∷ []
 argument_lengths (in_all n p) = 1 ∷ whole_length slot_length p ∷ []
+argument_lengths upgrade = []
 
 -- The text ends where an argument of more than 1,024 bytes is closed: the first k + 1 arguments of o stand there.
 pub record EndsTooLong (bs : List ℕ) : Type 0 where

@@ -4,7 +4,7 @@ use Rattle.std.specs.Prelude.{◌≡◌, ◌⊎◌, ℕ, ◌≤◌, List, [], �
 use Rattle.std.specs.Fmt.{decimal}
 use Rattle.tuple_tree.specs.Items.{Item, leaf, inner, Items, none, item}
 use Rattle.tuple_tree.specs.Values.{IsDatum, IsSlot, TupleTree, TemplateTree}
-use Rattle.tuple_codec.specs.Operations.{Operation, out, rdp, inp, cas, rd_all, in_all, IsOperation}
+use Rattle.tuple_codec.specs.Operations.{Operation, out, rdp, inp, cas, rd_all, in_all, upgrade, IsOperation}
 use Rattle.tuple_text.specs.Texts.{AreBlanks, IsGap, TupleText, TemplateText}
 
 -- each leaf is a right one
@@ -34,6 +34,7 @@ name (inp p) = codes "inp"
 name (cas p t) = codes "cas"
 name (rd_all n p) = codes "rdAll"
 name (in_all n p) = codes "inAll"
+name upgrade = codes "upgrade"
 
 -- what the texts of the arguments have to be, in order
 abbrev pub arguments : Operation → List (List ℕ → Type 0)
@@ -43,6 +44,7 @@ arguments (inp p) = TemplateArgument p ∷ []
 arguments (cas p t) = TemplateArgument p ∷ TupleArgument t ∷ []
 arguments (rd_all n p) = CountArgument n ∷ TemplateArgument p ∷ []
 arguments (in_all n p) = CountArgument n ∷ TemplateArgument p ∷ []
+arguments upgrade = []
 
 -- each argument behind a gap
 abbrev pub ArgumentsText : List (List ℕ → Type 0) → List ℕ → Type 0

@@ -5,7 +5,7 @@ use Rattle.tuple_tree.specs.Items.{Item, leaf, inner, Items, none, with_last, wh
 use Rattle.tuple_tree.specs.Values.{Datum, number, text, bytes, truth, wide, Slot, actual, any, formal, TupleTree, TemplateTree, datum_length, slot_length}
 use Rattle.tuple_tree.specs.declared.atoms.Kind.{Kind}
 use Rattle.tuple_tree.specs.declared.atoms.Kind.TheVariants as kinds
-use Rattle.tuple_codec.specs.Operations.{Operation, out, rdp, inp, cas, rd_all, in_all}
+use Rattle.tuple_codec.specs.Operations.{Operation, out, rdp, inp, cas, rd_all, in_all, upgrade}
 use Rattle.tuple_text.specs.declared.reader.Verb.{Verb}
 use Rattle.tuple_text.specs.declared.reader.Verb.TheVariants.{Rd, In}
 use Rattle.tuple_text.specs.declared.reader.Stop.{Stop}
@@ -247,6 +247,10 @@ cas_line bs =
     word (codes "cas") bs >>= λ _ behind. argument template behind
     >>= λ p middle. argument tuple middle >>= λ t rest. ended (cas p t) rest
 
+-- no argument
+unfoldable pub upgrade_line : Reading Operation
+upgrade_line bs = word (codes "upgrade") bs >>= λ _ rest. ended upgrade rest
+
 -- the letters of a verb, with which the names of its operations begin
 abbrev pub letters : Verb → List ℕ
 letters Rd = codes "rd"
@@ -275,7 +279,9 @@ unfoldable pub verb_line : Verb → Reading Operation
 verb_line verb bs = word (letters verb) bs >>= λ _ rest. look 112 (one_line verb) (all_line verb) rest
 
 unfoldable pub operation : Reading Operation
-operation bs = look 111 out_line (look 114 (verb_line Rd) (look 105 (verb_line In) (look 99 cas_line nothing))) bs
+operation bs =
+    look 111 out_line
+    (look 114 (verb_line Rd) (look 105 (verb_line In) (look 99 cas_line (look 117 upgrade_line nothing)))) bs
 
 unfoldable pub line : Reading Operation
 line bs = blanks true bs >>= λ _ rest. operation rest

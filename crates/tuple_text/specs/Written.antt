@@ -3,7 +3,7 @@ use Rattle.std.specs.Prelude.{◌≡◌, ℕ, List, [], ◌∷◌, ◌++◌, len
 use Rattle.std.specs.Fmt.{decimal}
 use Rattle.tuple_tree.specs.Items.{Item, leaf, inner, Items, none, item}
 use Rattle.tuple_tree.specs.Values.{Datum, Slot, TupleTree, TemplateTree}
-use Rattle.tuple_codec.specs.Operations.{Operation, out, rdp, inp, cas, rd_all, in_all, Outcome, done, found, absent, swapped, all, full, refused}
+use Rattle.tuple_codec.specs.Operations.{Operation, out, rdp, inp, cas, rd_all, in_all, upgrade, Outcome, done, found, absent, swapped, all, full, refused}
 use Rattle.tuple_codec.specs.OperationView.{outcome_of}
 use Rattle.tuple_codec.specs.declared.operations.Answer.{Answer}
 use Rattle.tuple_text.specs.Texts.{datum_text, slot_text, truth_text}
@@ -74,6 +74,7 @@ operation_written (inp p) = codes "inp " ++ template_written p
 operation_written (cas p t) = codes "cas " ++ template_written p ++ 32 ∷ tuple_written t
 operation_written (rd_all n p) = codes "rdAll " ++ decimal n ++ 32 ∷ template_written p
 operation_written (in_all n p) = codes "inAll " ++ decimal n ++ 32 ∷ template_written p
+operation_written upgrade = codes "upgrade"
 
 -- of an answer of the program
 abbrev pub answer_text : {A : Type 0} → Answer A → List ℕ

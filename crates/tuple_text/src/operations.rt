@@ -62,6 +62,7 @@ fn put_op<A: Allocator, B: Allocator>(op: &Op<A>, out: &mut Vec<u8, B>) -> Resul
             append(b"inAll ", out)?;
             put_counted(*max, template, out)
         }
+        Op::Upgrade => append(b"upgrade", out),
     }
 }
 

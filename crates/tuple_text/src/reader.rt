@@ -7,7 +7,7 @@ ghost use Rattle.tuple_tree.specs.TupleView.{value_of};
 ghost use Rattle.tuple_tree.specs.TemplateView.{field_of};
 ghost use Rattle.tuple_codec.specs.OperationView.{operation_of};
 ghost use Rattle.tuple_text.specs.Texts.{AreBlanks};
-ghost use Rattle.tuple_text.specs.Reading.{fault_at, blanks, word, gap, finish, digits, positive, signed, numeral, wide_numeral, datum, kind, named, behind_b, behind_t, slot_item, turn, follows, got, opens, tuple, template, argument, ending, last, letters, one_of, all_of, operation, line, out_line, cas_line, one_line, all_line, verb_line, lone_template};
+ghost use Rattle.tuple_text.specs.Reading.{fault_at, blanks, word, gap, finish, digits, positive, signed, numeral, wide_numeral, datum, kind, named, behind_b, behind_t, slot_item, turn, follows, got, opens, tuple, template, argument, ending, last, letters, one_of, all_of, operation, line, out_line, cas_line, upgrade_line, one_line, all_line, verb_line, lone_template};
 ghost use Rattle.tuple_text.specs.Parts.{HasNoValueRoom, HasNoFieldRoom, plain_value, plain_slot, closed, value_at, field_at, value_follows, field_follows, values_at, fields_at, close_tuple, close_template, tuple_with, template_with, Reads};
 
 use crate::faults::LineFault;
@@ -673,6 +673,15 @@ impl<'a> Reader<'a> {
         Ok(Op::Cas(template, tuple))
     }
 
+    #[tactic(auto, unfolding(crate::specs::Reading::upgrade_line, crate::specs::Reading::ended))]
+    fn upgrade_line(&mut self) -> Result<Op<Global>, Stop>
+        ensures { Reads operation_of result upgrade_line self.old self.new }
+    {
+        self.word(b"upgrade")?;
+        self.ending()?;
+        Ok(Op::Upgrade)
+    }
+
     // The line of an `rdp` or `inp` behind its first two letters.
     #[tactic(auto, unfolding(crate::specs::Reading::one_line, crate::specs::Reading::ended))]
     fn one_line(&mut self, alloc: Global, verb: Verb) -> Result<Op<Global>, Stop>
@@ -715,6 +724,7 @@ impl<'a> Reader<'a> {
             [b'r', ..] => self.verb_line(alloc, Verb::Rd),
             [b'i', ..] => self.verb_line(alloc, Verb::In),
             [b'c', ..] => self.cas_line(alloc),
+            [b'u', ..] => self.upgrade_line(),
             _ => Err(Stop::BadByte),
         }
     }

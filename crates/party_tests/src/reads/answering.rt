@@ -25,7 +25,7 @@ pub fn new_space(alloc: Global) -> Result<Space, Bad> {
 fn put(alloc: Global, space: &mut Space, bytes: &[u8]) -> Result<(), Bad> {
     let (op, _) = decode_op(alloc, bytes)?;
     if space.births_left() {
-        space.apply(&op)?;
+        space.apply(0, &op)?;
     }
     Ok(())
 }

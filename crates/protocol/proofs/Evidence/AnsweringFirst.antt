@@ -1,5 +1,5 @@
 -- The definitions accept a replica that answers in the beginning.
-use Rattle.std.proofs.Common.{◌≡◌, ℕ, ◌+◌, true, false, inl, inr, List, [], ◌∷◌, refl, sym, ap, ◌∙◌, subst, arith, Option, Some}
+use Rattle.std.proofs.Common.{◌≡◌, ℕ, ◌+◌, ◌-◌, true, false, inl, inr, List, [], ◌∷◌, refl, sym, ap, ◌∙◌, subst, arith, Option, Some}
 use Rattle.std.specs.Prelude.{option_and_then}
 use Rattle.std.specs.Option.{option_map_or}
 use Rattle.tuple_codec.specs.Operations.{Operation}
@@ -36,7 +36,7 @@ module _ (clients : ℕ) (seed : List ℕ) (me client timestamp : ℕ) (op : Ope
   asked = record { sender = client; message = Request timestamp modes.ReadOnly op }
 
   abbrev answer : Body
-  answer = record { sender = me; message = Reply client timestamp modes.ReadOnly 0 (outcome no_tuples op) }
+  answer = record { sender = me; message = Reply client timestamp modes.ReadOnly 0 (outcome no_tuples (client - 256) op) }
 
   abbrev now : List Entry
   now = Sent me reply ∷ Got me read ∷ []
@@ -46,7 +46,7 @@ module _ (clients : ℕ) (seed : List ℕ) (me client timestamp : ℕ) (op : Ope
     behind = stage_request clients seed [] me [] (Got me read) client timestamp modes.ReadOnly op false none none (first_stage clients seed [] me) (got clients seed [] me [] read asked tt hears tt)
 
     stage : Stage clients seed [] me now false none none
-    stage = stage_reply clients seed [] me (Got me read ∷ []) (Sent me reply) me client timestamp 0 modes.ReadOnly (outcome no_tuples op) false none none behind (sent clients seed [] me (Got me read ∷ []) reply answer a.says tt)
+    stage = stage_reply clients seed [] me (Got me read ∷ []) (Sent me reply) me client timestamp 0 modes.ReadOnly (outcome no_tuples (client - 256) op) false none none behind (sent clients seed [] me (Got me read ∷ []) reply answer a.says tt)
 
     heard_is : (other : Body) → heard (members c) me read ≡ Some other → asked ≡ other
     heard_is other h = some_injective asked other (sym hears ∙ h)
@@ -73,7 +73,7 @@ module _ (clients : ℕ) (seed : List ℕ) (me client timestamp : ℕ) (op : Ope
 
     -- the message that a read brings about
     abbrev answered : Body → Message
-    answered body = elim body.message [ Request t mode o ↦ Reply body.sender t modes.ReadOnly 0 (outcome no_tuples o) | _ ↦ body.message ]
+    answered body = elim body.message [ Request t mode o ↦ Reply body.sender t modes.ReadOnly 0 (outcome no_tuples (body.sender - 256) o) | _ ↦ body.message ]
 
     owes : Owes c me [] (Got me read) (Sent me reply ∷ []) now first_point first_point
     owes = record {

@@ -1,16 +1,16 @@
 -- There are frames of the first operation.
 use Rattle.std.proofs.Common.{◌≡◌, ℕ, zero, suc, ◌+◌, ◌^◌, ◌<◌, ◌≤◌, inl, inr, Bool, true, false, cond, filter, List, [], ◌∷◌, length, refl, sym, subst, arith, length-append}
-use Rattle.std.specs.Prelude.{not, ◌==◌, nat_lt, slice_index}
+use Rattle.std.specs.Prelude.{not, ◌||◌, ◌==◌, nat_lt, slice_index}
 use Rattle.std.specs.List.{range_with_len}
 use Rattle.std.proofs.lemmas.Bool.{lt-ltb, eqb-false}
 use Rattle.sha2.specs.Sha256.{sha256, digest_bytes}
 use Rattle.sha2.proofs.Facts256.{length-sha256}
 use Rattle.std.proofs.Math.Seq.{take-nil}
 use Rattle.tuple_tree.specs.Values.{TupleTree, AreBytes}
-use Rattle.tuple_codec.specs.Operations.{Operation, out, rdp, inp, cas, rd_all, in_all, IsOperation, Outcome, all, refused, IsOutcome, is_version_2}
+use Rattle.tuple_codec.specs.Operations.{Operation, out, rdp, inp, cas, rd_all, in_all, upgrade, IsOperation, Outcome, all, refused, IsOutcome, is_version_2}
 use Rattle.tuple_codec.specs.Spelling.{outcome_spelling}
 use Rattle.tuple_codec.proofs.Readers.{bytes_append}
-use Rattle.space.specs.Applying.{is_read_only, no_tuples, served_outcome}
+use Rattle.space.specs.Applying.{is_read_only, is_forbidden, no_tuples, served_outcome}
 use Rattle.terms.specs.declared.order.Mode.TheVariants as modes
 use Rattle.wire.specs.Lists.{Each, ascends}
 use Rattle.wire.specs.Messages.{BodyData as Body, MessageData as Message, request as Request, pre_prepare as PrePrepare, prepare as Prepare, commit as Commit, reply as Reply}
@@ -40,9 +40,10 @@ served_right (inp p) h = (tt, omega arith)
 served_right (cas p t) h = (tt, omega arith)
 served_right (rd_all n p) h = absurd (let g : ⊥ = cc in g)
 served_right (in_all n p) h = subst (λ (ts : List TupleTree). IsShort (all ts)) (sym (take-nil n)) ((omega arith, tt), omega arith)
+served_right upgrade h = (tt, omega arith)
 
 answer_right : (op : Operation) → is_read_only op ≡ false → IsShort (first_answer op)
-answer_right op h = go (is_version_2 op)
+answer_right op h = go (is_version_2 op || is_forbidden 0 op)
   where
     go : (b : Bool) → IsShort (cond b refused (served_outcome no_tuples op))
     go true = (tt, omega arith)

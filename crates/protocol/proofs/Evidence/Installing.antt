@@ -111,7 +111,7 @@ module _ (clients : ℕ) (seed : List ℕ) (w : InstallFrames) (differ : IsHeade
   -- ---- the state
 
   is_state : IsState later_state
-  is_state = record { space = record { state = opening_is.space.state; version = opening_is.space.version; births = omega arith; few = omega arith }; replies = opening_is.replies }
+  is_state = record { space = record { state = opening_is.space.state; births = omega arith; few = omega arith }; replies = opening_is.replies }
 
   -- the header was taken, and no other page
   none_at_3 : (i : ℕ) → took c 0 (Some 16) h3 i ≡ None

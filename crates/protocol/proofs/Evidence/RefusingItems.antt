@@ -1,14 +1,14 @@
 -- What is refused of a list of items, clause by clause.
 use Rattle.std.proofs.Common.{◌≡◌, ℕ, zero, suc, ◌+◌, ◌≤◌, ◌<◌, inl, inr, List, [], ◌∷◌, ◌++◌, length, slice_get, refl, sym, subst, arith, Some}
 use Rattle.tuple_codec.specs.Operations.{Operation, Outcome}
-use Rattle.space.specs.Applying.{Contents, no_tuples, outcome, tuples_after}
+use Rattle.space.specs.Applying.{Contents, no_tuples}
 use Rattle.terms.specs.declared.order.Mode.TheVariants as modes
 use Rattle.wire.specs.Messages.{request as Request}
 use Rattle.protocol.specs.System.Configuration.{Configuration, members}
 use Rattle.signing.specs.Heard.{heard}
 use Rattle.protocol.specs.System.Trace.{Entry, Once, Always, Has, frames_in}
 use Rattle.protocol.specs.System.Trace.Entry.{Invoke, Got, Tick, Executed, Installed, Sent, Accepted}
-use Rattle.protocol.specs.Space.Linear.{Item, LegalFrom, Invokes, Accepts, Asks, NoneTwice, NeverFall}
+use Rattle.protocol.specs.Space.Linear.{Item, item_outcome, item_after, LegalFrom, Invokes, Accepts, Asks, NoneTwice, NeverFall}
 use Rattle.protocol.specs.Evidence.RefusedItems.{left_by, AnswersAsOneSpace, ListsWhatIsAccepted, ListsWhatIsCalled, IsAskedAt, ListsWhatIsAsked, ListsNoneTwice, PlacesInOrder, PlacesBehindCalls, PlacesBeforeAcceptances, LinearIsAllThree}
 use Rattle.protocol.proofs.Words.Temporal.{once_weaker}
 use Rattle.protocol.proofs.Words.Elements.{has_some, has_weaker}
@@ -29,9 +29,9 @@ always_at P (x ∷ later) past e h = always_at P later past e h.1
 
 -- ---- legal
 
-answers : (ts : Contents) (before after : List Item) (item : Item) → LegalFrom ts (before ++ item ∷ after) → item.answer ≡ outcome (left_by ts before) item.op
+answers : (ts : Contents) (before after : List Item) (item : Item) → LegalFrom ts (before ++ item ∷ after) → item.answer ≡ item_outcome (left_by ts before) item
 answers ts [] after item h = h.0
-answers ts (x ∷ before) after item h = answers (tuples_after ts x.op) before after item h.1
+answers ts (x ∷ before) after item h = answers (item_after ts x) before after item h.1
 
 pub answers_as_one_space : AnswersAsOneSpace
 answers_as_one_space before after item h = answers no_tuples before after item h

@@ -1,5 +1,5 @@
 -- What an acceptance says: of a read the space at its number, of an ordered call a request that ran.
-use Rattle.std.proofs.Common.{◌≡◌, ℕ, zero, suc, ◌+◌, ◌*◌, ◌≤◌, ◌<◌, inl, inr, Bool, true, false, cond, List, [], ◌∷◌, ◌++◌, length, refl, sym, ap, ◌∙◌, subst, arith, ◌&&◌, ◌||◌, Option, Some, None, eqb-true, eq-eqb, bytes_eq}
+use Rattle.std.proofs.Common.{◌≡◌, ℕ, zero, suc, ◌+◌, ◌-◌, ◌*◌, ◌≤◌, ◌<◌, inl, inr, Bool, true, false, cond, List, [], ◌∷◌, ◌++◌, length, refl, sym, ap, ◌∙◌, subst, arith, ◌&&◌, ◌||◌, Option, Some, None, eqb-true, eq-eqb, bytes_eq}
 use Rattle.std.specs.Prelude.{◌==◌}
 use Rattle.std.proofs.lemmas.Bool.{and_parts, leb-true, ltb-true}
 use Rattle.std.proofs.lemmas.Slice.Eq.{bytes_eq-Decides}
@@ -244,7 +244,7 @@ pub record IsSpaceAnswer (c : Configuration) (trace : List Entry) (p t number : 
   pub op : Operation
   pub is_read : is_read_only op ≡ true
   pub invoked : Once (Invokes p t op) (history_of p trace)
-  pub answer_is : answer ≡ outcome (tuples (state_by c trace opening 1 number)) op
+  pub answer_is : answer ≡ outcome (tuples (state_by c trace opening 1 number)) (p - 256) op
 
 pub read_replied : (c : Configuration) (trace : List Entry) (s p t number : ℕ) (answer : Outcome) → Run c trace → is_correct_replica c s ≡ true → is_correct_client c p ≡ true
     → Replied c trace s p t modes.ReadOnly number answer → IsSpaceAnswer c trace p t number answer
@@ -259,7 +259,7 @@ read_replied c trace s p t number answer run correct client r =
       op = m.op;
       is_read = m.is_read;
       invoked = asked_op c p t modes.ReadOnly m.op (history_of p trace) (run.runs.clients p client) said';
-      answer_is = m.answer_is ∙ ap (λ (st : State). outcome (tuples st) m.op) state;
+      answer_is = m.answer_is ∙ ap (λ (st : State). outcome (tuples st) (p - 256) m.op) state;
     }
 
 -- an ordered reply is of a request that ran

@@ -1,7 +1,7 @@
 -- The requests that run in the batches are legal, one after another.
-use Rattle.std.proofs.Common.{◌≡◌, ℕ, zero, suc, ◌≤◌, Bool, true, false, cond, List, [], ◌∷◌, ◌++◌, length, map, fold, refl, sym, ap, ◌∙◌, subst, arith, Option, Some, None}
+use Rattle.std.proofs.Common.{◌≡◌, ℕ, zero, suc, ◌+◌, ◌-◌, ◌≤◌, Bool, true, false, cond, List, [], ◌∷◌, ◌++◌, length, map, fold, refl, sym, ap, ◌∙◌, subst, arith, Option, Some, None}
 use Rattle.std.specs.Option.{option_map_or}
-use Rattle.space.specs.Applying.{Contents}
+use Rattle.space.specs.Applying.{Contents, outcome, tuples_after}
 use Rattle.protocol.specs.System.Configuration.{Configuration}
 use Rattle.wire.specs.Words.{requests_of}
 use Rattle.protocol.specs.System.Trace.{Entry}
@@ -30,7 +30,12 @@ legal_ran c position k st (frame ∷ frames) rest h = go (call_of c frame) refl 
     step : (call : Call) → (b : Bool)
         → LegalFrom (tuples (cond b (ran_call st k call) st)) (map (item_of position k) (ran_in c k (cond b (ran_call st k call) st) frames) ++ rest)
         → LegalFrom (tuples st) (map (item_of position k) (cond b (record { call = call; kept = kept_by st k call } ∷ []) [] ++ ran_in c k (cond b (ran_call st k call) st) frames) ++ rest)
-    step call true below = (refl, subst (λ (t : Contents). LegalFrom t (map (item_of position k) (ran_in c k (ran_call st k call) frames) ++ rest)) (tuples_of-state_after st.space call.op) below)
+    step call true below =
+        let client : call.client ≡ 256 + call.client - 256 = omega arith in (
+          ap (λ (i : ℕ). outcome (tuples st) i call.op) client,
+          subst (λ (t : Contents). LegalFrom t (map (item_of position k) (ran_in c k (ran_call st k call) frames) ++ rest))
+              (tuples_of-state_after st.space call.client call.op ∙ ap (λ (i : ℕ). tuples_after (tuples st) i call.op) client) below,
+        )
     step call false below = below
 
     go : (o : Option Call) → call_of c frame ≡ o

@@ -1,5 +1,5 @@
 -- The requests that ran, by number: where they come from, where they stand, and what they leave.
-use Rattle.std.proofs.Common.{◌≡◌, ℕ, zero, suc, ◌+◌, ◌≤◌, ◌<◌, inl, inr, Bool, true, false, cond, List, [], ◌∷◌, ◌++◌, length, map, fold, refl, sym, ap, ◌∙◌, subst, arith, Option, Some, None}
+use Rattle.std.proofs.Common.{◌≡◌, ℕ, zero, suc, ◌+◌, ◌-◌, ◌≤◌, ◌<◌, inl, inr, Bool, true, false, cond, List, [], ◌∷◌, ◌++◌, length, map, fold, refl, sym, ap, ◌∙◌, subst, arith, Option, Some, None}
 use Rattle.std.specs.Prelude.{nat_le}
 use Rattle.std.specs.Option.{option_map_or}
 use Rattle.std.proofs.lemmas.Bool.{le-leb}
@@ -8,14 +8,14 @@ use Rattle.wire.specs.Words.{requests_of}
 use Rattle.protocol.specs.System.Trace.{Entry, Has}
 use Rattle.space.specs.Applying.{Contents, tuples_after}
 use Rattle.protocol.specs.Replica.State.{State, Call, Ran, tuples, runs, run_call, call_of, run_frame, execute, ran_by, ran_in, kept_by}
-use Rattle.protocol.specs.Space.Linear.{Placing, ordered_point, ordered_points, first_position, batch_of, is_level}
+use Rattle.protocol.specs.Space.Linear.{Placing, item_after, ordered_point, ordered_points, first_position, batch_of, is_level}
 use Rattle.std.specs.Bool.{then_some}
 use Rattle.quorum.specs.Votes.{or_else}
 use Rattle.protocol.proofs.Words.Options.{some_injective}
 use Rattle.protocol.proofs.Points.Levels.{level_below}
 use Rattle.protocol.proofs.Points.Legality.{executed_tuples}
 use Rattle.protocol.proofs.Points.Running.{state_by}
-use Rattle.protocol.proofs.Points.Sorting.{AllOf, all_weaker, all_append, Ascends, IsOrdered, after_item, tuples_at, early}
+use Rattle.protocol.proofs.Points.Sorting.{AllOf, all_weaker, all_append, Ascends, IsOrdered, tuples_at, early}
 use Rattle.space.proofs.Keeping.{tuples_of-state_after}
 use Rattle.protocol.specs.Replica.State.{ran_call}
 use Rattle.protocol.proofs.Words.Leaving.{executed_number}
@@ -140,7 +140,7 @@ points_ascend c trace st k (suc more) = go (first_position c trace k) (points_as
 
 tuples_append : (r : ℕ) (t : Contents) (xs ys : List Placing) → tuples_at r t (xs ++ ys) ≡ tuples_at r (tuples_at r t xs) ys
 tuples_append r t [] ys = refl
-tuples_append r t (x ∷ xs) ys = tuples_append r (cond (nat_le x.number r) (after_item t x.item) t) xs ys
+tuples_append r t (x ∷ xs) ys = tuples_append r (cond (nat_le x.number r) (item_after t x.item) t) xs ys
 
 ran_tuples : (c : Configuration) (position k r : ℕ) (st : State) (frames : List (List ℕ)) → k ≤ r → tuples_at r (tuples st) (map (ordered_point position k) (ran_in c k st frames)) ≡ tuples (fold (run_frame c k) st frames)
 ran_tuples c position k r st [] l = refl
@@ -151,9 +151,10 @@ ran_tuples c position k r st (frame ∷ frames) l = go (call_of c frame) refl (r
         → tuples_at r (tuples st) (map (ordered_point position k) (cond b (record { call = call; kept = kept_by st k call } ∷ []) [] ++ ran_in c k (cond b (ran_call st k call) st) frames)) ≡ tuples (fold (run_frame c k) (cond b (ran_call st k call) st) frames)
     step call false below = below
     step call true below =
-        let e1 : cond (nat_le k r) (after_item (tuples st) (ordered_point position k (record { call = call; kept = kept_by st k call })).item) (tuples st) ≡ tuples_after (tuples st) call.op =
-        ap (λ (b : Bool). cond b (tuples_after (tuples st) call.op) (tuples st)) (le-leb k r l) in
-        let e2 : tuples_after (tuples st) call.op ≡ tuples (ran_call st k call) = sym (tuples_of-state_after st.space call.op) in
+        let client : 256 + call.client - 256 ≡ call.client = omega arith in
+        let e1 : cond (nat_le k r) (item_after (tuples st) (ordered_point position k (record { call = call; kept = kept_by st k call })).item) (tuples st) ≡ tuples_after (tuples st) call.client call.op =
+        ap (λ (b : Bool). cond b (tuples_after (tuples st) (256 + call.client - 256) call.op) (tuples st)) (le-leb k r l) ∙ ap (λ (i : ℕ). tuples_after (tuples st) i call.op) client in
+        let e2 : tuples_after (tuples st) call.client call.op ≡ tuples (ran_call st k call) = sym (tuples_of-state_after st.space call.client call.op) in
         ap (λ (t : Contents). tuples_at r t (map (ordered_point position k) (ran_in c k (ran_call st k call) frames))) (e1 ∙ e2) ∙ below
 
     go : (o : Option Call) → call_of c frame ≡ o

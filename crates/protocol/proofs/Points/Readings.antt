@@ -1,5 +1,5 @@
 -- The points of accepted reads.
-use Rattle.std.proofs.Common.{◌≡◌, ℕ, zero, suc, ◌+◌, ◌≤◌, ◌<◌, ◌⊎◌, inl, inr, Bool, true, false, cond, max, List, [], ◌∷◌, ◌++◌, length, refl, sym, ap, ◌∙◌, subst, arith, Option, Some, None, eq-eqb, append_assoc}
+use Rattle.std.proofs.Common.{◌≡◌, ℕ, zero, suc, ◌+◌, ◌-◌, ◌≤◌, ◌<◌, ◌⊎◌, inl, inr, Bool, true, false, cond, max, List, [], ◌∷◌, ◌++◌, length, refl, sym, ap, ◌∙◌, subst, arith, Option, Some, None, eq-eqb, append_assoc}
 use Rattle.std.specs.Prelude.{◌==◌, option_and_then}
 use Rattle.std.specs.Option.{option_map_or}
 use Rattle.std.proofs.lemmas.Bool.{cases_order}
@@ -346,7 +346,7 @@ module _ (c : Configuration) (trace : List Entry) (run : Run c trace) (later pas
             (once_append (λ past' e'. Invokes p x.call.timestamp x.call.op past' e' × (length past' ≤ (read_of c trace p x.call a past x.vote).item.position)) later (e ∷ past) (inr near));
         right = record {
           is_read = subst (λ (o : Operation). is_read_only o ≡ true) same reply.is_read;
-          answer = sym x.answer ∙ reply.answer_is ∙ ap (λ (ts : Contents). outcome ts reply.op) (sym state) ∙ ap (outcome (tuples_at x.vote.number no_tuples (all_ordered c trace))) same;
+          answer = sym x.answer ∙ reply.answer_is ∙ ap (λ (ts : Contents). outcome ts (p - 256) reply.op) (sym state) ∙ ap (outcome (tuples_at x.vote.number no_tuples (all_ordered c trace)) (p - 256)) same;
         };
       }
 

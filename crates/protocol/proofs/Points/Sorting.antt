@@ -1,14 +1,14 @@
 -- The points in order: the ordered requests as they ran, each read behind the requests of its number.
-use Rattle.std.proofs.Common.{◌≡◌, ℕ, ◌≤◌, ◌<◌, ◌⊎◌, inl, inr, Bool, true, false, cond, List, [], ◌∷◌, ◌++◌, map, filter, refl, sym, ap, ◌∙◌, subst, arith, ◌&&◌, ◌||◌, Option, Some, eqb-true}
+use Rattle.std.proofs.Common.{◌≡◌, ℕ, ◌-◌, ◌≤◌, ◌<◌, ◌⊎◌, inl, inr, Bool, true, false, cond, List, [], ◌∷◌, ◌++◌, map, filter, refl, sym, ap, ◌∙◌, subst, arith, ◌&&◌, ◌||◌, Option, Some, eqb-true}
 use Rattle.std.specs.Prelude.{◌==◌, nat_lt, nat_le, ⊤}
 use Rattle.std.proofs.lemmas.Bool.{ltb-true, ltb-false, leb-true, leb-false, eqb-false, le-leb, cases_order}
-use Rattle.space.specs.Applying.{Contents, is_read_only, outcome, tuples_after}
+use Rattle.space.specs.Applying.{Contents, is_read_only}
 use Rattle.space.proofs.Keeping.{read_same}
 use Rattle.terms.specs.declared.order.Mode.{Mode}
 use Rattle.terms.specs.declared.order.Mode.TheVariants as modes
 use Rattle.protocol.specs.System.Frames.{same_mode}
 use Rattle.protocol.specs.System.Trace.{Has}
-use Rattle.protocol.specs.Space.Linear.{Item, LegalFrom, Placing, NeverFall, comes_before, insert_point, sorted}
+use Rattle.protocol.specs.Space.Linear.{Item, item_outcome, item_after, LegalFrom, Placing, NeverFall, comes_before, insert_point, sorted}
 use Rattle.protocol.proofs.Words.Options.{some_injective}
 
 -- ---- lists
@@ -252,23 +252,20 @@ each_behind (o ∷ os) rs x a = ap (insert_point o) (each_behind os rs x a.1) �
 
 -- ---- legal
 
-abbrev pub after_item : Contents → Item → Contents
-after_item tuples item = tuples_after tuples item.op
-
 -- the tuples behind the points of the numbers up to the given one
 abbrev pub tuples_at : ℕ → Contents → List Placing → Contents
 tuples_at r tuples [] = tuples
-tuples_at r tuples (o ∷ os) = tuples_at r (cond (nat_le o.number r) (after_item tuples o.item) tuples) os
+tuples_at r tuples (o ∷ os) = tuples_at r (cond (nat_le o.number r) (item_after tuples o.item) tuples) os
 
 pub record IsReadAt (tuples : Contents) (item : Item) : Type 0 where
   pub is_read : is_read_only item.op ≡ true
-  pub answer : item.answer ≡ outcome tuples item.op
+  pub answer : item.answer ≡ item_outcome tuples item
 
 abbrev items : List Placing → List Item
 items xs = map (λ (x : Placing). x.item) xs
 
 read_legal : (tuples : Contents) (item : Item) (rest : List Item) → IsReadAt tuples item → LegalFrom tuples rest → LegalFrom tuples (item ∷ rest)
-read_legal tuples item rest r h = (r.answer, subst (λ t. LegalFrom t rest) (sym (read_same tuples item.op r.is_read)) h)
+read_legal tuples item rest r h = (r.answer, subst (λ t. LegalFrom t rest) (sym (read_same tuples (item.client - 256) item.op r.is_read)) h)
 
 reads_legal : (tuples : Contents) (rs : List Placing) → AllOf (λ x. IsReadAt tuples x.item) rs → LegalFrom tuples (items rs)
 reads_legal tuples [] a = tt
@@ -278,7 +275,7 @@ pub early : (r : ℕ) (tuples : Contents) (os : List Placing) → AllOf (λ o. r
 early r tuples [] a = refl
 early r tuples (o ∷ os) a = go (nat_le o.number r) refl (early r tuples os a.1)
   where
-    go : (b : Bool) → nat_le o.number r ≡ b → tuples_at r tuples os ≡ tuples → tuples_at r (cond b (after_item tuples o.item) tuples) os ≡ tuples
+    go : (b : Bool) → nat_le o.number r ≡ b → tuples_at r tuples os ≡ tuples → tuples_at r (cond b (item_after tuples o.item) tuples) os ≡ tuples
     go true e below = let l : o.number ≤ r = leb-true o.number r e in let m = a.0 in absurd (omega arith)
     go false e below = below
 
@@ -286,7 +283,7 @@ abbrev pub IsRight : Contents → List Placing → Placing → Type 0
 IsRight tuples os x = IsReadAt (tuples_at x.number tuples os) x.item
 
 abbrev pub Changes : Placing → Type 0
-Changes o = (tuples : Contents) → after_item tuples o.item ≡ tuples
+Changes o = (tuples : Contents) → item_after tuples o.item ≡ tuples
 
 module _ (place : ℕ → Option ℕ) (keep : Placing → Bool) where
   abbrev Below : List Placing → Type 0
@@ -301,7 +298,7 @@ module _ (place : ℕ → Option ℕ) (keep : Placing → Bool) where
       each_all (λ y. comes_before o y ≡ true) (filter keep os) [] (all_filter (λ y. comes_before o y ≡ true) keep os
       (all_weaker (λ y. IsOrdered place y × (o.number ≤ y.number)) (λ y. comes_before o y ≡ true) (λ y t. ordered_first place o y io t.0.stands t.1) os (all_both (IsOrdered place) (λ y. o.number ≤ y.number) os ios low))) tt in
       subst (λ (t : List Placing). LegalFrom tuples (items t)) (sym (insert_front o (insert_each (filter keep os) []) all))
-      (legal.0, below [] (tuples_after tuples o.item.op) tt tt legal.1 tt)
+      (legal.0, below [] (item_after tuples o.item) tt tt legal.1 tt)
   kept_step o os (x ∷ rs) tuples io ios low stands asc legal right below = go (nat_le o.number x.number) refl (kept_step o os rs tuples io ios low stands.1 asc.1 legal right.1 below)
     where
       go : (b : Bool) → nat_le o.number x.number ≡ b → LegalFrom tuples (items (insert_point o (insert_each (filter keep os) rs))) → LegalFrom tuples (items (insert_point o (insert_each (filter keep os) (x ∷ rs))))
@@ -326,15 +323,15 @@ module _ (place : ℕ → Option ℕ) (keep : Placing → Bool) where
           let all : AllOf (λ y. comes_before o y ≡ true) (insert_each (filter keep os) (x ∷ rs)) =
           each_all (λ y. comes_before o y ≡ true) (filter keep os) (x ∷ rs) (all_filter (λ y. comes_before o y ≡ true) keep os
           (all_weaker (λ y. IsOrdered place y × (o.number ≤ y.number)) (λ y. comes_before o y ≡ true) (λ y t. ordered_first place o y io t.0.stands t.1) os (all_both (IsOrdered place) (λ y. o.number ≤ y.number) os ios low))) firsts in
-          let after : after_item tuples o.item ≡ tuples_after tuples o.item.op = refl in
-          let moved : AllOf (IsRight (tuples_after tuples o.item.op) os) (x ∷ rs) =
-          all_weaker (λ y. IsRight tuples (o ∷ os) y × (o.number ≤ y.number)) (IsRight (tuples_after tuples o.item.op) os)
+          let after : item_after tuples o.item ≡ item_after tuples o.item = refl in
+          let moved : AllOf (IsRight (item_after tuples o.item) os) (x ∷ rs) =
+          all_weaker (λ y. IsRight tuples (o ∷ os) y × (o.number ≤ y.number)) (IsRight (item_after tuples o.item) os)
           (λ y t. subst (λ u. IsReadAt (tuples_at y.number u os) y.item) after (at y (nat_le o.number y.number) (le-leb o.number y.number t.1) t.0)) (x ∷ rs)
           (all_both (IsRight tuples (o ∷ os)) (λ y. o.number ≤ y.number) (x ∷ rs) right high) in
           subst (λ (t : List Placing). LegalFrom tuples (items t)) (sym (insert_front o (insert_each (filter keep os) (x ∷ rs)) all))
-          (legal.0, below (x ∷ rs) (tuples_after tuples o.item.op) stands asc legal.1 moved)
+          (legal.0, below (x ∷ rs) (item_after tuples o.item) stands asc legal.1 moved)
         where
-          at : (y : Placing) (b : Bool) → b ≡ true → IsReadAt (tuples_at y.number (cond b (after_item tuples o.item) tuples) os) y.item → IsReadAt (tuples_at y.number (after_item tuples o.item) os) y.item
+          at : (y : Placing) (b : Bool) → b ≡ true → IsReadAt (tuples_at y.number (cond b (item_after tuples o.item) tuples) os) y.item → IsReadAt (tuples_at y.number (item_after tuples o.item) os) y.item
           at y true e h = h
           at y false e h = absurd cc
 
@@ -353,12 +350,12 @@ module _ (place : ℕ → Option ℕ) (keep : Placing → Bool) where
       go : (b : Bool) → keep o ≡ b → Below os → LegalFrom tuples (items (insert_each (cond b (o ∷ filter keep os) (filter keep os)) rs))
       go true e below = subst (λ (t : List Placing). LegalFrom tuples (items t)) (sym (each_more o (filter keep os) rs)) (kept_step o os rs tuples io.0 io.1 asc.0 stands ascs legal right below)
       go false e below =
-          let same : after_item tuples o.item ≡ tuples = drops.0 e tuples in
-          let after : after_item tuples o.item ≡ tuples_after tuples o.item.op = refl in
+          let same : item_after tuples o.item ≡ tuples = drops.0 e tuples in
+          let after : item_after tuples o.item ≡ item_after tuples o.item = refl in
           let rest : LegalFrom tuples (items os) = subst (λ t. LegalFrom t (items os)) (sym after ∙ same) legal.1 in
           below rs tuples stands ascs rest (all_weaker (IsRight tuples (o ∷ os)) (IsRight tuples os) (λ x h. either x same (nat_le o.number x.number) h) rs right)
         where
-          either : (x : Placing) → after_item tuples o.item ≡ tuples → (b : Bool) → IsReadAt (tuples_at x.number (cond b (after_item tuples o.item) tuples) os) x.item → IsReadAt (tuples_at x.number tuples os) x.item
+          either : (x : Placing) → item_after tuples o.item ≡ tuples → (b : Bool) → IsReadAt (tuples_at x.number (cond b (item_after tuples o.item) tuples) os) x.item → IsReadAt (tuples_at x.number tuples os) x.item
           either x same true h = subst (λ t. IsReadAt (tuples_at x.number t os) x.item) same h
           either x same false h = h
 

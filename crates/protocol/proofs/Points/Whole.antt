@@ -1,5 +1,5 @@
 -- The points of a run are those of one sequential tuple space.
-use Rattle.std.proofs.Common.{◌≡◌, ℕ, ◌+◌, ◌≤◌, ◌⊎◌, inl, inr, Bool, true, false, not, cond, List, [], ◌∷◌, ◌++◌, length, map, filter, refl, sym, ap, ◌∙◌, subst, arith, ◌&&◌, ◌||◌, eqb-true, eq-eqb}
+use Rattle.std.proofs.Common.{◌≡◌, ℕ, ◌+◌, ◌-◌, ◌≤◌, ◌⊎◌, inl, inr, Bool, true, false, not, cond, List, [], ◌∷◌, ◌++◌, length, map, filter, refl, sym, ap, ◌∙◌, subst, arith, ◌&&◌, ◌||◌, eqb-true, eq-eqb}
 use Rattle.std.specs.Prelude.{◌==◌}
 use Rattle.std.proofs.lemmas.Bool.{and_parts}
 use Rattle.protocol.proofs.Words.Options
@@ -188,7 +188,7 @@ module _ (c : Configuration) (trace : List Entry) (run : Run c trace) where
           let same : o.item.op ≡ d.0.item.op =
           one_invocation c o.item.client o.item.timestamp o.item.op d.0.item.op (history_of o.item.client trace) (run.runs.clients o.item.client client)
           (invoked_in_history o.item.client o.item.timestamp o.item.op trace own) (invoked_in_history o.item.client o.item.timestamp d.0.item.op trace moved) in
-          ap (tuples_after ts) same ∙ read_same ts d.0.item.op y.right.is_read
+          ap (tuples_after ts (o.item.client - 256)) same ∙ read_same ts (o.item.client - 256) d.0.item.op y.right.is_read
         where
           double : (b : Bool) → not b ≡ false → b ≡ true
           double true e = refl

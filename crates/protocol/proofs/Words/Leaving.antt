@@ -6,10 +6,10 @@ use Rattle.std.proofs.lemmas.Bool.{ltb-true}
 use Rattle.std.proofs.lemmas.List.{length-set}
 use Rattle.tuple_codec.specs.Operations.{IsOperation}
 use Rattle.space.specs.Births.{IsState as IsSpace}
+use Rattle.space.specs.declared.version.Version.TheVariants as versions
 use Rattle.space.proofs.Answering.{answers_are_valid}
 use Rattle.space.proofs.Keeping.{IsState-state_after, IsState-empty}
-use Rattle.space.proofs.Batches.{next_after, version_after}
-use Rattle.space.specs.declared.version.Version.TheVariants as versions
+use Rattle.space.proofs.Batches.{next_after}
 use Rattle.protocol.specs.System.Configuration.{Configuration, is_client}
 use Rattle.wire.specs.Messages.{MessageData as Message, request as Request}
 use Rattle.wire.specs.Words.{requests_of, said}
@@ -61,7 +61,6 @@ none_kept client = go 256 client
 -- what holds between the requests of a batch
 record Running (st : State) (most : ℕ) : Type 0 where
   space : IsSpace st.space
-  version : st.space.version ≡ versions.One
   births : st.space.next ≤ most
   replies : AreReplies st.replies
 
@@ -86,22 +85,21 @@ call_leaves number small st most call fits r = go (runs st call) refl
     kept : runs st call ≡ true → IsKept (kept_by st number call)
     kept e =
         let l = ltb-true (last_time st call.client) call.timestamp e in
-        record { first = omega arith; timestamp_fits = fits.0; number_fits = small; answer = answers_are_valid st.space call.op r.space fits.1 }
+        record { first = omega arith; timestamp_fits = fits.0; number_fits = small; answer = answers_are_valid st.space call.client call.op r.space fits.1 }
 
     go : (b : Bool) → runs st call ≡ b → Running (cond b (ran_call st number call) st) (most + 256)
     go true e =
-        let n = next_after st.space call.op in
+        let n = next_after st.space call.client call.op in
         let was = r.births in
         record {
-          space = IsState-state_after st.space call.op r.space fits.1;
-          version = version_after st.space call.op ∙ r.version;
+          space = IsState-state_after st.space call.client call.op r.space fits.1;
           births = omega arith;
           replies = put_replies st.replies call.client (kept_by st number call) (kept e) r.replies;
         }
-    go false e = let was = r.births in record { space = r.space; version = r.version; births = omega arith; replies = r.replies }
+    go false e = let was = r.births in record { space = r.space; births = omega arith; replies = r.replies }
 
 more_room : (st : State) (a b : ℕ) → a ≤ b → Running st a → Running st b
-more_room st a b l r = let was = r.births in record { space = r.space; version = r.version; births = omega arith; replies = r.replies }
+more_room st a b l r = let was = r.births in record { space = r.space; births = omega arith; replies = r.replies }
 
 frames_leave : (c : Configuration) (number : ℕ) → number < 2 ^ 64 → (frames : List (List ℕ)) (st : State) (most : ℕ) → Running st most → Running (fold (run_frame c number) st frames) (most + 256 * length frames)
 frames_leave c number small [] st most r = let l : most ≤ most + 256 * 0 = omega arith in more_room st most (most + 256 * 0) l r
@@ -119,18 +117,18 @@ pub execute_leaves : (c : Configuration) (st : State) (batch : List ℕ) → st.
 unfolding execute
 execute_leaves c st batch below is =
     let small : suc st.number < 2 ^ 64 = omega arith in
-    let first : Running st (4096 * st.number) = record { space = is.space.state; version = is.space.version; births = is.space.births; replies = is.replies } in
+    let first : Running st (4096 * st.number) = record { space = is.space.state; births = is.space.births; replies = is.replies } in
     let r = frames_leave c (suc st.number) small (requests_of batch) st (4096 * st.number) first in
     let few = requests_few batch in
     let births = r.births in
     record {
-      space = record { state = r.space; version = r.version; births = omega arith; few = omega arith };
+      space = record { state = r.space; births = omega arith; few = omega arith };
       replies = r.replies;
     }
 
 pub opening_is : IsState opening
 opening_is = record {
-  space = record { state = IsState-empty versions.One; version = refl; births = omega arith; few = omega arith };
+  space = record { state = IsState-empty versions.One; births = omega arith; few = omega arith };
   replies = AreReplies-none;
 }
 

@@ -46,7 +46,7 @@ pub record IsFrom (c : Configuration) (sender : ℕ) (message : Message) (receiv
 
 -- client 0's answer
 abbrev pub first_answer : Operation → Outcome
-first_answer op = outcome (tuples opening) op
+first_answer op = outcome (tuples opening) 0 op
 
 -- They are the frames of client 0's first operation, in a batch of its own.
 pub record AreFirstFrames (c : Configuration) (op : Operation) (batch : List ℕ) (w : FirstFrames) : Type 0 where

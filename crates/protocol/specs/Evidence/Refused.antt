@@ -183,7 +183,7 @@ ReadsWhatWasAsked =
     → SafeReplica c me (Sent me bytes ∷ past)
     → (op : Operation) × (is_read_only op ≡ true)
     × Once (Hears c me (record { sender = client; message = Request timestamp modes.ReadOnly op })) past
-    × (point : Point) × Leaves c me past point × (answer ≡ outcome (tuples point.state) op)
+    × (point : Point) × Leaves c me past point × (answer ≡ outcome (tuples point.state) (client - 256) op)
 
 -- An execution that skips a number, or goes back.
 abbrev pub ExecutesNext : Type 0
@@ -472,7 +472,7 @@ AnswersReads =
     (outputs past : List Entry)
     → heard (members c) me bytes ≡ Some (record { sender = client; message = Request timestamp modes.ReadOnly op })
     → is_read_only op ≡ true
-    → AtEachPoint c me past (λ point. outcome (tuples point.state) op ≡ answer)
+    → AtEachPoint c me past (λ point. outcome (tuples point.state) (client - 256) op ≡ answer)
     → GoesOn c me outputs (Got me bytes) past
     → Gives me (Reply client timestamp modes.ReadOnly (newest_number past) answer) outputs
 

@@ -3,27 +3,27 @@ use Rattle.std.specs.Prelude.{◌≡◌, ◌≢◌, ℕ, ◌+◌, ◌≤◌, ◌
 use Rattle.tuple_tree.specs.Values.{TupleTree, TemplateTree}
 use Rattle.tuple_codec.specs.Operations.{out, rdp, Outcome, done, found, absent}
 use Rattle.template_match.specs.Tests.{is_match}
-use Rattle.space.specs.Applying.{Contents, no_tuples, outcome, tuples_after}
+use Rattle.space.specs.Applying.{Contents, no_tuples}
 use Rattle.terms.specs.declared.order.Mode.TheVariants as modes
 use Rattle.wire.specs.Messages.{request as Request}
 use Rattle.protocol.specs.System.Configuration.{Configuration, is_correct_replica, is_correct_client, members}
 use Rattle.signing.specs.Heard.{heard}
 use Rattle.protocol.specs.System.Trace.{Entry, Once, Has, frames_in}
 use Rattle.protocol.specs.System.Trace.Entry.{Invoke, Got, Accepted}
-use Rattle.protocol.specs.Space.Linear.{Item, Legal, Covers, Placed, IsLinear, Linear}
+use Rattle.protocol.specs.Space.Linear.{Item, item_outcome, item_after, Legal, Covers, Placed, IsLinear, Linear}
 
 -- ---- legal
 
 -- the tuples that these items leave, one after another
 abbrev pub left_by : Contents → List Item → Contents
 left_by ts [] = ts
-left_by ts (item ∷ items) = left_by (tuples_after ts item.op) items
+left_by ts (item ∷ items) = left_by (item_after ts item) items
 
 -- An item whose answer is not that of the space which the items before it leave.
 abbrev pub AnswersAsOneSpace : Type 0
 AnswersAsOneSpace =
     (before after : List Item) (item : Item) → Legal (before ++ item ∷ after)
-    → item.answer ≡ outcome (left_by no_tuples before) item.op
+    → item.answer ≡ item_outcome (left_by no_tuples before) item
 
 -- ---- covers
 

@@ -1,7 +1,7 @@
 -- What a correct replica owes in an event: all that the event's input brings about, until nothing more is due, and
 -- nothing where the input is dropped (Castro and Liskov, TOCS 2002, on normal-case operation, garbage collection, view
 -- changes and state transfer). No law of agreement uses it. It speaks of the same states as what the replica may do.
-use Rattle.std.specs.Prelude.{◌≡◌, ◌≢◌, ℕ, suc, ◌+◌, ◌/◌, ◌%◌, ◌≤◌, ◌<◌, ◌⊎◌, Bool, true, false, List, [], ◌∷◌, ◌++◌, length, reverse, ◌==◌, Option, Some, None, slice_get, AllPairs, ⊤}
+use Rattle.std.specs.Prelude.{◌≡◌, ◌≢◌, ℕ, suc, ◌+◌, ◌-◌, ◌/◌, ◌%◌, ◌≤◌, ◌<◌, ◌⊎◌, Bool, true, false, List, [], ◌∷◌, ◌++◌, length, reverse, ◌==◌, Option, Some, None, slice_get, AllPairs, ⊤}
 use Rattle.std.specs.List.{list_any}
 use Rattle.std.specs.Option.{option_map_or}
 use Rattle.sha2.specs.Sha256.{sha256}
@@ -317,7 +317,7 @@ pub record Owes (c : Configuration) (me : ℕ) (before : List Entry) (input : En
   pub reads : (client timestamp : ℕ) (op : Operation)
       → Hears c me (record { sender = client; message = Request timestamp modes.ReadOnly op }) before input
       → is_read_only op ≡ true
-      → Gives me (Reply client timestamp modes.ReadOnly old.state.number (outcome (tuples old.state) op)) outputs
+      → Gives me (Reply client timestamp modes.ReadOnly old.state.number (outcome (tuples old.state) (client - 256) op)) outputs
   pub fetched_digests : (s k index : ℕ) (level : Level) → has_children level ≡ true
       → Hears c me (record { sender = s; message = Fetch k level index }) before input
       → (st : State) → KeptState c me before old k (λ x. x ≡ st)

@@ -1,7 +1,7 @@
 -- What a correct replica may do: what each entry of its history must be, given its past (Castro and Liskov, TOCS 2002,
 -- on normal-case operation, garbage collection, view changes and state transfer). What it owes, and the
 -- whole of what its history is (IsReplica), stands in Owed.
-use Rattle.std.specs.Prelude.{◌≡◌, ◌≢◌, ℕ, suc, ◌+◌, ◌%◌, ◌≤◌, ◌<◌, ◌⊎◌, Bool, true, ◌&&◌, ◌||◌, not, List, [], ◌∷◌, ◌++◌, map, reverse, filter, nat_le, nat_lt, ◌==◌, if◌then◌else◌, Some, None, option_and_then, is_some, AllPairs, ⊤, max, Option}
+use Rattle.std.specs.Prelude.{◌≡◌, ◌≢◌, ℕ, suc, ◌+◌, ◌-◌, ◌%◌, ◌≤◌, ◌<◌, ◌⊎◌, Bool, true, ◌&&◌, ◌||◌, not, List, [], ◌∷◌, ◌++◌, map, reverse, filter, nat_le, nat_lt, ◌==◌, if◌then◌else◌, Some, None, option_and_then, is_some, AllPairs, ⊤, max, Option}
 use Rattle.std.specs.List.{list_all, range_with_len}
 use Rattle.std.specs.Option.{option_map_or}
 use Rattle.sha2.specs.Sha256.{sha256}
@@ -331,7 +331,7 @@ pub record MayReplyRead (c : Configuration) (me : ℕ) (past : List Entry) (poin
   pub op : Operation
   pub is_read : is_read_only op ≡ true
   pub heard : Once (Hears c me (record { sender = client; message = Request timestamp modes.ReadOnly op })) past
-  pub answer_is : answer ≡ outcome (tuples point.state) op
+  pub answer_is : answer ≡ outcome (tuples point.state) (client - 256) op
   pub number_is : number ≡ point.state.number
 
 -- an ordered reply and a read-only one each have their rule

@@ -64,13 +64,13 @@ runs st call = nat_lt (last_time st call.client) call.timestamp
 
 -- what a request that runs keeps for its client
 abbrev pub kept_by : State → ℕ → Call → Kept
-kept_by st number call = record { timestamp = call.timestamp; number = number; outcome = outcome (tuples st) call.op }
+kept_by st number call = record { timestamp = call.timestamp; number = number; outcome = outcome (tuples st) call.client call.op }
 
 -- the state after a request that runs
 abbrev pub ran_call : State → ℕ → Call → State
 ran_call st number call =
     record {
-      space = state_after st.space call.op;
+      space = state_after st.space call.client call.op;
       number = st.number;
       replies = with_reply st.replies call.client (kept_by st number call);
     }

@@ -1,5 +1,5 @@
 -- What one sequential tuple space would do, and where; and the points of a trace.
-use Rattle.std.specs.Prelude.{◌≡◌, ℕ, zero, suc, ◌+◌, ◌≤◌, Bool, true, false, ◌&&◌, ◌||◌, not, List, [], ◌∷◌, ◌++◌, length, map, max, filter, nat_lt, nat_le, ◌==◌, if◌then◌else◌, Option, Some, None, option_and_then, ⊤}
+use Rattle.std.specs.Prelude.{◌≡◌, ℕ, zero, suc, ◌+◌, ◌-◌, ◌≤◌, Bool, true, false, ◌&&◌, ◌||◌, not, List, [], ◌∷◌, ◌++◌, length, map, max, filter, nat_lt, nat_le, ◌==◌, if◌then◌else◌, Option, Some, None, option_and_then, ⊤}
 use Rattle.std.specs.Bool.{then_some}
 use Rattle.std.specs.Option.{option_map_or}
 use Rattle.tuple_codec.specs.Operations.{Operation, Outcome}
@@ -29,10 +29,17 @@ pub record Item : Type 0 where
 
 -- ---- legal
 
+-- what an item is answered, and what it leaves
+abbrev pub item_outcome : Contents → Item → Outcome
+item_outcome ts item = outcome ts (item.client - 256) item.op
+
+abbrev pub item_after : Contents → Item → Contents
+item_after ts item = tuples_after ts (item.client - 256) item.op
+
 -- each answer is that of one space, which begins with these tuples
 abbrev pub LegalFrom : Contents → List Item → Type 0
 LegalFrom ts [] = ⊤
-LegalFrom ts (item ∷ items) = (item.answer ≡ outcome ts item.op) × LegalFrom (tuples_after ts item.op) items
+LegalFrom ts (item ∷ items) = (item.answer ≡ item_outcome ts item) × LegalFrom (item_after ts item) items
 
 -- Legal: a sequential history of an empty space (Herlihy and Wing, Linearizability, TOPLAS 1990, section 2).
 abbrev pub Legal : List Item → Type 0

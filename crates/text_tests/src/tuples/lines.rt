@@ -6,7 +6,7 @@ use tuple_codec::{Op, encode_op};
 use tuple_text::{LineFault, read_line, read_template, write_op, write_tuple};
 
 // Lines and the bytes of their operations.
-static LINES: [(&[u8], &[u8]); 26] = [
+static LINES: [(&[u8], &[u8]); 28] = [
     (b"out (1)", b"\x21\x01\x01\0\0\0\0\0\0\0\x01"),
     (
         b"  out   ( 1  -2 )  ",
@@ -72,10 +72,12 @@ static LINES: [(&[u8], &[u8]); 26] = [
         b"  inAll   10  ( \"a\"  (?int) )  ",
         b"\x26\x0a\x02\x02\0\x01a\x05\x01\x11",
     ),
+    (b"upgrade", b"\x27"),
+    (b"  upgrade  ", b"\x27"),
 ];
 
 // Lines with the byte that no line goes on with.
-static BAD_BYTES: [(&[u8], usize); 75] = [
+static BAD_BYTES: [(&[u8], usize); 81] = [
     (b"rdp (1)(2)", 7),
     (b"out (01)", 6),
     (b"out (-0)", 6),
@@ -153,6 +155,12 @@ static BAD_BYTES: [(&[u8], usize); 75] = [
     (b"inAll 640 (*)", 8),
     (b"inAll 1 (*", 10),
     (b"inAll 6 (*) (1)", 12),
+    (b"Upgrade", 0),
+    (b"up", 2),
+    (b"upgrad", 6),
+    (b"upgrade1", 7),
+    (b"upgrade 1", 8),
+    (b"upgrade (1)", 8),
 ];
 
 // Whether the line is read as the operation of these bytes.
@@ -354,7 +362,7 @@ fn reads_what_is_written(rt: HostRuntime) -> Result<(), Fail> {
 }
 
 // Lines as they are written.
-static WRITTEN: [&[u8]; 9] = [
+static WRITTEN: [&[u8]; 10] = [
     b"out (-1 \"\xc3\xa9\\x00\" (x0a ()) false)",
     b"rdp (* ?int (?text ?bytes) ?bool ?tuple 2)",
     b"inp ()",
@@ -363,6 +371,7 @@ static WRITTEN: [&[u8]; 9] = [
     b"rdAll 1 ((((((((?tuple))))))))",
     b"inAll 64 (* ())",
     b"inAll 2 (?wide (?wide))",
+    b"upgrade",
     b"cas (?wide w-170141183460469231731687303715884105728) (w0 w170141183460469231731687303715884105727)",
 ];
 

@@ -1,4 +1,4 @@
-use Rattle.std.proofs.Common.{ℕ, List, Bor, ◌∙◌, arith}
+use Rattle.std.proofs.Common.{ℕ, List, Bor, arith}
 use Rattle.std.proofs.lemmas.List.{drop_all}
 use Rattle.wire.specs.Headers.{IsFrame}
 use Rattle.wire.proofs.Appending.{each_at}
@@ -13,7 +13,6 @@ pub loop-frame-preserved : goal.loop-frame-preserved
 loop-frame-preserved c = record {
   left = goes_on c.args.clients c.args.number.0 c.args.frames.now _ _ _ c.loop-frame.frame-index _ c.loop-frame-test.true c.loop-frame.invariant.left c.in_ok-run_frame.ensures.runs;
   births = omega (arith, c.loop-frame.invariant.births, c.in_ok-run_frame.ensures.births);
-  version = c.in_ok-run_frame.ensures.version ∙ c.loop-frame.invariant.version;
   changes = changes_on _ _ _ _ _ _ c.loop-frame.invariant.changes c.in_ok-run_frame.ensures.changes;
 }
 

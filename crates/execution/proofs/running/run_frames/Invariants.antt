@@ -1,4 +1,4 @@
-use Rattle.std.proofs.Common.{◌≡◌, ◌≤◌, ◌+◌, ◌*◌}
+use Rattle.std.proofs.Common.{◌≤◌, ◌+◌, ◌*◌}
 use Rattle.execution.specs.Running.{so_far}
 use Rattle.execution.specs.Touching.{Changes}
 use Rattle.execution.proofs.Leading.{Left}
@@ -8,6 +8,5 @@ abbrev pub invariant-loop-frame : goal.invariant-loop-frame
 invariant-loop-frame l = record {
   left : Left l.clients l.number.0 l.frames (so_far l.initial.space l.initial.replies l.initial.ran.items) (so_far l.space l.replies l.ran.items) l.frame-index;
   births : l.space.state.next ≤ l.initial.space.state.next + 256 * l.frame-index;
-  version : l.space.state.version ≡ l.initial.space.state.version;
   changes : Changes l.initial.space l.initial.replies l.space l.replies;
 }

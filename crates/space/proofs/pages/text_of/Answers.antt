@@ -14,9 +14,9 @@ loop-birth-preserved c =
     let is = get_or_default births i 0 b c.loop-birth-test.true in
     elim c.match-get.branch [
       | in-Some+in_ok-put_entry w ↦
-          ap (λ t. t.items) w.text-is ∙ w.in_ok-put_entry.ensures {u = tt} ∙ ap (λ bs. bs ++ entry_text (b, w.in-Some.tuple.now)) c.loop-birth.invariant
-          ∙ text_here c.args.tuples.now.entries births i b c.loop-birth-test.true is w.in-Some.tuple.now w.in-Some.ensures.value
+          ap (λ t. t.items) w.text-is ∙ w.in_ok-put_entry.ensures {u = tt} ∙ ap (λ bs. bs ++ entry_text c.args.version (b, w.in-Some.tuple.now)) c.loop-birth.invariant
+          ∙ text_here c.args.tuples.now.entries births i b c.loop-birth-test.true is c.args.version w.in-Some.tuple.now w.in-Some.ensures.value
       | in_default w ↦
           ap (λ t. t.items) w.text-is ∙ c.loop-birth.invariant
-          ∙ text_gone c.args.tuples.now.entries births i b c.loop-birth-test.true is w.in_default.ensures.value
+          ∙ text_gone c.args.tuples.now.entries births i b c.loop-birth-test.true is c.args.version w.in_default.ensures.value
     ]
