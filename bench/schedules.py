@@ -1,4 +1,4 @@
-"""Runs schedules by `btspace schedule`, and tells what they take: for bench/views and bench/world.
+"""Runs schedules by `btspace schedule`, and tells what they take: for bench/upgrade, bench/views and bench/world.
 
 How long a compression of SHA-256 takes is told by three signed frames with wrong signatures, of different replicas: for
 each the public key of its sender is made.
@@ -46,6 +46,10 @@ class Bench:
 
     def trace(self, name):
         words = self.words("--trace", self.folder / "config", self.folder / name)
+        return subprocess.run(words, capture_output=True, text=True, check=True).stdout.splitlines()
+
+    def report(self, name):
+        words = self.words(self.folder / "config", self.folder / name)
         return subprocess.run(words, capture_output=True, text=True, check=True).stdout.splitlines()
 
     def seconds(self, name):

@@ -265,15 +265,80 @@ found ("count" w3)
 all 2 ("count" 3) ("count" w3)
 "#;
 
-static ROWS: [(&str, &str); 5] = [
+const UPGRADE_SCRIPT: &str =
+    r#"# A counter outgrows 64 bits: the space is upgraded while it runs, and goes on with wide numbers.
+
+# A counter gives out serial numbers. It has come to the last one of 64 bits.
+out ("serial" 9223372036854775805 "ann")
+out ("serial" 9223372036854775806 "ben")
+out ("next" 9223372036854775807)
+
+# Cal takes the counter, and has its number. The next one is a wide number, which a space of version 1 refuses.
+inp ("next" ?int)
+out ("serial" 9223372036854775807 "cal")
+out ("next" w9223372036854775808)
+
+# It refuses all that is of version 2: to ask for a wide number, and to take several tuples at once.
+rdp ("next" ?wide)
+inAll 2 ("serial" * ?text)
+
+# Client 0 upgrades the space. From any other client this would be refused.
+upgrade
+
+# The tuples are those from before.
+rdAll 64 (?text * *)
+
+# The counter goes on. Its number is of another kind now, which ?int doesn't ask for.
+out ("next" w9223372036854775808)
+rdp ("next" ?int)
+
+# Dan takes the counter, has its number, and puts it back with the next one.
+inp ("next" ?wide)
+out ("serial" w9223372036854775808 "dan")
+out ("next" w9223372036854775809)
+
+# An upgrade that comes again changes nothing.
+upgrade
+
+# The oldest two serial numbers are taken at once, and then all that are left, of either kind.
+inAll 2 ("serial" * ?text)
+inAll 64 ("serial" * ?text)
+
+# The counter is there still.
+rdAll 64 (?text *)
+"#;
+
+const UPGRADE_RESULTS: &str = r#"done
+done
+done
+found ("next" 9223372036854775807)
+done
+refused
+refused
+refused
+done
+all 3 ("serial" 9223372036854775805 "ann") ("serial" 9223372036854775806 "ben") ("serial" 9223372036854775807 "cal")
+done
+absent
+found ("next" w9223372036854775808)
+done
+done
+done
+all 2 ("serial" 9223372036854775805 "ann") ("serial" 9223372036854775806 "ben")
+all 2 ("serial" 9223372036854775807 "cal") ("serial" w9223372036854775808 "dan")
+all 1 ("next" w9223372036854775809)
+"#;
+
+static ROWS: [(&str, &str); 6] = [
     (LOCK_SCRIPT, LOCK_RESULTS),
     (BARRIER_SCRIPT, BARRIER_RESULTS),
     (ELECTION_SCRIPT, ELECTION_RESULTS),
     (CONFIGURATION_SCRIPT, CONFIGURATION_RESULTS),
     (QUEUE_SCRIPT, QUEUE_RESULTS),
+    (UPGRADE_SCRIPT, UPGRADE_RESULTS),
 ];
 
-// A cluster's space is of version 1, so these run on a space of its own alone.
+// A cluster's space begins as one of version 1, so these run on a space of its own alone.
 static WIDE_ROWS: [(&str, &str); 1] = [(EVENTS_SCRIPT, EVENTS_RESULTS)];
 
 fn is_run(alloc: Global, version: Version, row: &(&str, &str)) -> bool {

@@ -7,5 +7,6 @@ mod forged;
 mod held;
 mod schedules;
 mod stopped;
+mod upgrades;
 mod views;
 mod words;

@@ -60,7 +60,7 @@ fn a_write_has_51_entries_and_a_read_15(rt: HostRuntime) {
 type Case<'a> = (&'a [&'a str], &'a [Row<'a>], &'a [PointRow<'a>]);
 
 // Those of two clients.
-static CASES: [Case<'static>; 5] = [
+static CASES: [Case<'static>; 6] = [
     (&[], &[], &[]),
     (&["invoke 0 out (1)", "tick c0", "tick r0"], &[], &[]),
     (
@@ -113,6 +113,35 @@ static CASES: [Case<'static>; 5] = [
             (38, 0, 1, "out (w1)", "refused"),
             (89, 0, 2, "inAll 2 (*)", "refused"),
             (102, 1, 1, "rdp (?wide)", "refused"),
+        ],
+    ),
+    // Client 0 alone upgrades it, and for all clients.
+    (
+        &[
+            "invoke 1 upgrade",
+            "flush",
+            "invoke 1 out (w1)",
+            "flush",
+            "invoke 0 upgrade",
+            "flush",
+            "invoke 1 out (w1)",
+            "flush",
+            "invoke 1 rdp (?wide)",
+            "flush",
+        ],
+        &[
+            (1, 1, "refused"),
+            (1, 2, "refused"),
+            (0, 1, "done"),
+            (1, 3, "done"),
+            (1, 4, "found (w1)"),
+        ],
+        &[
+            (38, 1, 1, "upgrade", "refused"),
+            (89, 1, 2, "out (w1)", "refused"),
+            (140, 0, 1, "upgrade", "done"),
+            (191, 1, 3, "out (w1)", "done"),
+            (204, 1, 4, "rdp (?wide)", "found (w1)"),
         ],
     ),
 ];

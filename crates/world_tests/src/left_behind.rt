@@ -3,147 +3,32 @@
 
 use crate::checkpoints::{Place, fetches, installs};
 use crate::reports::{REPLY, Row, accepts, executes_one, kind_of, sent};
-use crate::worlds::{put_steps, report_of, world_of_period};
-use schedule_text::Step;
+use crate::walks::{Walk, report_of_walk};
+use crate::worlds::put_steps;
 use schedule_world::Report;
 use std::alloc::Global;
-use terms::{ClientId, NoMemory, Party, ReplicaId};
+use terms::{NoMemory, Party, ReplicaId};
 
-// What comes of a call that replicas 0, 1 and 2 carry: how many frames were made behind the request, and which replica
-// gets the frame. These are the request, the pre-prepare, the prepares of 1 and 2, and the commits of 2, 0 and 1.
-static CARRIED: [(u64, u8); 13] = [
-    (0, 0),
-    (1, 1),
-    (1, 2),
-    (2, 0),
-    (2, 2),
-    (3, 0),
-    (3, 1),
-    (4, 0),
-    (4, 1),
-    (5, 1),
-    (5, 2),
-    (6, 0),
-    (6, 2),
-];
-
-// The replies of 1, 0 and 2, of a number without a checkpoint and of one with it, where each reply is followed by one.
-static REPLIES: [u64; 3] = [7, 8, 9];
-
-static REPLIES_BEFORE: [u64; 3] = [7, 9, 11];
-
-static CHECKPOINTS: [u64; 3] = [8, 10, 12];
-
-static CARRIED_CHECKPOINTS: [(u64, u8); 6] = [(8, 0), (8, 2), (10, 1), (10, 2), (12, 0), (12, 1)];
-
-// Steps, how many frames they make, and how many of these the last request has in front of it.
-#[derive(Drop)]
-struct Walk {
-    steps: Vec<Step>,
-    made: u64,
-    called: u64,
+// Client 0 puts the tuple of this number, which has a checkpoint where it is even.
+fn carry(alloc: Global, number: u8, walk: &mut Walk) -> Result<bool, NoMemory> {
+    let Ok(line) = format!(in alloc; "invoke 0 out ({number})") else {
+        return Err(NoMemory);
+    };
+    if number & 1 == 1 {
+        walk.carry(alloc, line.as_str())
+    } else {
+        walk.carry_to_checkpoint(alloc, line.as_str())
+    }
 }
 
-impl Walk {
-    fn new(alloc: Global) -> Walk {
-        Walk {
-            steps: Vec::new(alloc),
-            made: 0,
-            called: 0,
-        }
-    }
-
-    fn put(&mut self, frame: u64, party: Party) -> Result<(), NoMemory> {
-        self.steps.push(Step::Deliver { frame, party })?;
-        Ok(())
-    }
-
-    fn put_behind(&mut self, behind: u64, party: Party) -> Result<(), NoMemory> {
-        self.put(self.called.saturating_add(behind), party)
-    }
-
-    fn put_all(&mut self, rows: &[(u64, u8)]) -> Result<(), NoMemory> {
-        for (behind, replica) in rows {
-            self.put_behind(*behind, Party::Replica(ReplicaId(*replica)))?;
-        }
-        Ok(())
-    }
-
-    fn put_replies(&mut self, replies: &[u64]) -> Result<(), NoMemory> {
-        for behind in replies {
-            self.put_behind(*behind, Party::Client(ClientId { number: 0 }))?;
-        }
-        Ok(())
-    }
-
-    // Client 0 puts the tuple of this number.
-    fn call(&mut self, alloc: Global, number: u8) -> Result<bool, NoMemory> {
-        self.called = self.made;
-        match format!(in alloc; "invoke 0 out ({number})") {
-            Ok(line) => put_steps(alloc, &[line.as_str()], &mut self.steps),
-            Err(_) => Err(NoMemory),
-        }
-    }
-
-    // A call, which has this number, and what comes of it. Replica 3 gets nothing.
-    fn carry(&mut self, alloc: Global, number: u8) -> Result<bool, NoMemory> {
-        if !self.call(alloc, number)? {
+fn carry_six(alloc: Global, walk: &mut Walk) -> Result<bool, NoMemory> {
+    for number in 1..7 {
+        if !carry(alloc, number, walk)? {
             return Ok(false);
         }
-        self.put_all(&CARRIED)?;
-        if number & 1 == 1 {
-            self.put_replies(&REPLIES)?;
-            self.made = self.called.saturating_add(10);
-        } else {
-            self.put_replies(&REPLIES_BEFORE)?;
-            self.put_all(&CARRIED_CHECKPOINTS)?;
-            self.made = self.called.saturating_add(13);
-        }
-        Ok(true)
     }
-
-    // Replica 3 gets the checkpoints that the last call came to, and asks for the root's digests.
-    fn tell_checkpoints(&mut self) -> Result<(), NoMemory> {
-        for &behind in &CHECKPOINTS {
-            self.put_behind(behind, Party::Replica(ReplicaId(3)))?;
-        }
-        Ok(())
-    }
-
-    // Replica 0 gets what replica 3 asks for, and answers.
-    fn answer(&mut self) -> Result<(), NoMemory> {
-        self.put(self.made, Party::Replica(ReplicaId(0)))?;
-        self.made = self.made.saturating_add(2);
-        Ok(())
-    }
-
-    // So many answers, each of which comes to replica 3.
-    fn fetch(&mut self, parts: usize) -> Result<(), NoMemory> {
-        for _ in 0..parts {
-            self.answer()?;
-            self.put(self.made.saturating_sub(1), Party::Replica(ReplicaId(3)))?;
-        }
-        Ok(())
-    }
-
-    fn carry_six(&mut self, alloc: Global) -> Result<bool, NoMemory> {
-        for number in 1..7 {
-            if !self.carry(alloc, number)? {
-                return Ok(false);
-            }
-        }
-        self.tell_checkpoints()?;
-        Ok(true)
-    }
-}
-
-// The report of a walk that was put together, if it was.
-fn report_of_walk(alloc: Global, put: Result<bool, NoMemory>, walk: &Walk) -> Option<Report> {
-    let config = world_of_period(alloc, 1, 2, &[], &[])?;
-    match put {
-        Ok(true) => report_of(alloc, &config, walk.steps.as_slice()),
-        _ => None,
-    }
+    walk.tell_checkpoints()?;
+    Ok(true)
 }
 
 // What differs from the opening state: the root, and in three inner parts the pages of six tuples, of client 0 and of
@@ -176,7 +61,7 @@ static SIX_AND_READ: [Row<'static>; 8] = [
 
 // It fetches number 6, part by part, and is the first that gets a read.
 fn put_catching_up(alloc: Global, lines: &[&str], walk: &mut Walk) -> Result<bool, NoMemory> {
-    if !walk.carry_six(alloc)? {
+    if !carry_six(alloc, walk)? {
         return Ok(false);
     }
     walk.fetch(OF_SIX.len())?;
@@ -268,13 +153,13 @@ static NINTH_AND_READ: [&str; 4] = [
 // The answer with the header of number 6 is held back while two more calls are carried, whose checkpoints overtake.
 // It comes then, and is asked for no more.
 fn put_overtaken(alloc: Global, walk: &mut Walk) -> Result<bool, NoMemory> {
-    if !walk.carry_six(alloc)? {
+    if !carry_six(alloc, walk)? {
         return Ok(false);
     }
     walk.fetch(OF_SIX.len().saturating_sub(1))?;
     walk.answer()?;
     let held_back = walk.made.saturating_sub(1);
-    if !walk.carry(alloc, 7)? || !walk.carry(alloc, 8)? {
+    if !carry(alloc, 7, walk)? || !carry(alloc, 8, walk)? {
         return Ok(false);
     }
     walk.tell_checkpoints()?;

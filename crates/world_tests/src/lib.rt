@@ -1,6 +1,7 @@
 //! Tests of the world of schedules (`schedule_world`): worked runs of correct parties and of faulty ones, reads beside
-//! writes that are under way, replies that are kept, checkpoints, states that are fetched, frames that are forged or
-//! that faulty replicas sign, views that change, steps that may not come, and memory that runs out.
+//! writes that are under way, replies that are kept, checkpoints, states that are fetched, a space that is upgraded
+//! meanwhile, frames that are forged or that faulty replicas sign, views that change, steps that may not come, and
+//! memory that runs out.
 #![tactic(auto)]
 
 #[cfg(test)]
@@ -28,6 +29,10 @@ mod reports;
 #[cfg(test)]
 mod signatures;
 #[cfg(test)]
+mod upgrades;
+#[cfg(test)]
 mod views;
+#[cfg(test)]
+mod walks;
 #[cfg(test)]
 mod worlds;

@@ -11,6 +11,14 @@ seed = "000102030405060708090a0b0c0d0e0f101112131415161718191a1b1c1d1e1f"
 checkpoint = 1
 "#;
 
+const EVERY_SECOND_SETTINGS: &str =
+    r#"# Four correct replicas and two clients, with a checkpoint at each second number.
+f = 1
+clients = 2
+seed = "000102030405060708090a0b0c0d0e0f101112131415161718191a1b1c1d1e1f"
+checkpoint = 2
+"#;
+
 const FAULTY_REPLICA_SETTINGS: &str =
     r#"# Four replicas, the third of them faulty, and a client, with a checkpoint at each number.
 f = 1
@@ -407,8 +415,152 @@ point 124 client 0 time 2 found (1)
 trace 141
 "#;
 
+const UPGRADED_SCHEDULE: &str =
+    r#"# Client 0 puts two tuples. The checkpoints of number 2 come to all four replicas, and make it stable.
+invoke 0 out (1)
+flush
+invoke 0 out (2)
+flush
+
+# The space is of version 1. Client 1 asks for a wide number, and each replica refuses that, at number 2.
+invoke 1 rdp (?wide)
+flush
+
+# Replica 3 is cut off: the other three carry the upgrade of client 0. It has number 3 in the order, as a write would.
+invoke 0 upgrade
+deliver 35 r0
+deliver 36 r1
+deliver 36 r2
+deliver 37 r0
+deliver 37 r2
+deliver 38 r0
+deliver 38 r1
+deliver 39 r0
+deliver 39 r1
+deliver 40 r1
+deliver 40 r2
+deliver 41 r0
+deliver 41 r2
+deliver 42 c0
+deliver 43 c0
+deliver 44 c0
+
+# From number 3 on their space is of version 2. They carry number 4 too, a wide number, and its checkpoints.
+invoke 0 out (w7)
+deliver 45 r0
+deliver 46 r1
+deliver 46 r2
+deliver 47 r0
+deliver 47 r2
+deliver 48 r0
+deliver 48 r1
+deliver 49 r0
+deliver 49 r1
+deliver 50 r1
+deliver 50 r2
+deliver 51 r0
+deliver 51 r2
+deliver 52 c0
+deliver 54 c0
+deliver 56 c0
+deliver 53 r0
+deliver 53 r2
+deliver 55 r1
+deliver 55 r2
+deliver 57 r0
+deliver 57 r1
+
+# Client 1 asks again. Replica 3 is still at number 2, and refuses. The other three find it at number 4: three alike, so
+# their answer is accepted.
+invoke 1 rdp (?wide)
+deliver 58 r3
+deliver 58 r0
+deliver 58 r1
+deliver 58 r2
+deliver 59 c1
+deliver 60 c1
+deliver 61 c1
+deliver 62 c1
+
+# Replica 3 gets the checkpoints of number 4, and asks for the digests below the root of that state.
+deliver 53 r3
+deliver 55 r3
+deliver 57 r3
+
+# Replica 0 gets what it asks for, and answers: the digests below the root and below inner part 0, pages 0 and 1, which
+# the upgrade has rewritten, page 2 with the new tuple, inner part 8, page 256 with the last reply to client 0, inner
+# part 16, and page 512 with the version.
+deliver 63 r0
+deliver 64 r3
+deliver 65 r0
+deliver 66 r3
+deliver 67 r0
+deliver 68 r3
+deliver 69 r0
+deliver 70 r3
+deliver 71 r0
+deliver 72 r3
+deliver 73 r0
+deliver 74 r3
+deliver 75 r0
+deliver 76 r3
+deliver 77 r0
+deliver 78 r3
+deliver 79 r0
+deliver 80 r3
+
+# With page 512 it has the state, and installs it: its space is of version 2. With replica 1 cut off it is needed: a
+# read is accepted by its answer and those of replicas 0 and 2, at number 4.
+invoke 1 rdp (?wide)
+deliver 81 r0
+deliver 81 r2
+deliver 81 r3
+deliver 82 c1
+deliver 83 c1
+deliver 84 c1
+
+# It has its place in the order again too: the same three carry number 5, an operation of version 2. Client 1 takes the
+# two tuples that were put before the upgrade.
+invoke 1 inAll 2 (?int)
+deliver 85 r0
+deliver 86 r2
+deliver 86 r3
+deliver 87 r0
+deliver 87 r3
+deliver 88 r0
+deliver 88 r2
+deliver 89 r0
+deliver 89 r2
+deliver 90 r2
+deliver 90 r3
+deliver 91 r0
+deliver 91 r3
+deliver 92 c1
+deliver 93 c1
+deliver 94 c1
+"#;
+
+const UPGRADED_REPORT: &str = r#"accepted 49 client 0 time 1 done
+accepted 110 client 0 time 2 done
+accepted 131 client 1 time 1 refused
+accepted 163 client 0 time 3 done
+accepted 197 client 0 time 4 done
+accepted 218 client 1 time 2 found (w7)
+accepted 270 client 1 time 3 found (w7)
+accepted 301 client 1 time 4 all 2 (1) (2)
+point 38 client 0 time 1 done
+point 91 client 0 time 2 done
+point 118 client 1 time 1 refused
+point 158 client 0 time 3 done
+point 191 client 0 time 4 done
+point 204 client 1 time 2 found (w7)
+point 259 client 1 time 3 found (w7)
+point 296 client 1 time 4 all 2 (1) (2)
+trace 302
+"#;
+
 // Configurations, schedules, whether they are traced, and what is written.
-static ROWS: [(&str, &str, bool, &str); 5] = [
+static ROWS: [(&str, &str, bool, &str); 6] = [
     (
         EVERY_NUMBER_SETTINGS,
         MARKS_MOVE_SCHEDULE,
@@ -438,6 +590,12 @@ static ROWS: [(&str, &str, bool, &str); 5] = [
         WRONG_PARTS_SCHEDULE,
         false,
         WRONG_PARTS_REPORT,
+    ),
+    (
+        EVERY_SECOND_SETTINGS,
+        UPGRADED_SCHEDULE,
+        false,
+        UPGRADED_REPORT,
     ),
 ];
 

@@ -133,6 +133,17 @@ fn run_text<R: Threads + Wait + Clock + Copy + Send + 'static>(
     }
 }
 
+/// Whether a cluster runs the script to its end. What it prints is added.
+pub fn is_complete<R: Threads + Wait + Clock + Copy + Send + 'static>(
+    rt: &R,
+    alloc: Global,
+    settings: &str,
+    script: &str,
+    written: &mut Vec<u8>,
+) -> bool {
+    run_text(rt, alloc, settings, script, written) == Ending::Complete
+}
+
 /// Whether the script prints these results on a cluster.
 pub fn is_answered<R: Threads + Wait + Clock + Copy + Send + 'static>(
     rt: &R,
@@ -140,7 +151,7 @@ pub fn is_answered<R: Threads + Wait + Clock + Copy + Send + 'static>(
     (settings, script, results): (&str, &str, &str),
 ) -> bool {
     let mut written = Vec::new(alloc);
-    run_text(rt, alloc, settings, script, &mut written) == Ending::Complete
+    is_complete(rt, alloc, settings, script, &mut written)
         && written.as_slice() == results.as_bytes()
 }
 
