@@ -85,16 +85,33 @@ pub fn read_words<'a, R: Print + Eprint + AllocGlobal, S: AsStr>(
     }
 }
 
-// Help and the version come as an error, as `clap` has it.
 fn request_of<'a, S: AsStr>(alloc: Global, words: &'a [S]) -> Result<Request<'a>, Error> {
     let mut program = program(alloc)?;
+    request_by(&mut program, words)
+}
+
+// Help and the version come as an error, as `clap` has it.
+fn request_by<'a, S: AsStr>(
+    program: &mut Command<'a>,
+    words: &'a [S],
+) -> Result<Request<'a>, Error> {
     let matches = program.try_get_matches_from_mut(words)?;
-    if let Some((name, given)) = matches.subcommand() {
-        if let Some(request) = request_in(name, given) {
-            return Ok(request);
-        }
+    match request_among(&matches) {
+        Some(request) => Ok(request),
+        None => Err(missing_subcommand(program)),
     }
-    Err(program.error(ErrorKind::MissingSubcommand, "a subcommand is missing")?)
+}
+
+fn request_among<'a>(matches: &ArgMatches<'a>) -> Option<Request<'a>> {
+    let (name, given) = matches.subcommand()?;
+    request_in(name, given)
+}
+
+fn missing_subcommand(program: &mut Command<'_>) -> Error {
+    match program.error(ErrorKind::MissingSubcommand, "a subcommand is missing") {
+        Ok(error) => error,
+        Err(error) => Error::from(error),
+    }
 }
 
 // The request of a subcommand, whose arguments are required.
@@ -147,33 +164,46 @@ fn printed_of(given: &ArgMatches<'_>) -> Printed {
 }
 
 fn program<'a>(alloc: Global) -> Result<Command<'a>, AllocError> {
-    Command::new(alloc, "btspace")
+    let program = Command::new(alloc, "btspace")
         .version("0.1.0")
         .about("A tuple space")
         .subcommand_required(true)
-        .disable_help_subcommand(true)
-        .subcommand(local(alloc)?)?
-        .subcommand(run(alloc)?)?
-        .subcommand(schedule(alloc)?)?
-        .subcommand(show(alloc)?)
+        .disable_help_subcommand(true);
+    let program = with_subcommand(program, local(alloc))?;
+    let program = with_subcommand(program, run(alloc))?;
+    let program = with_subcommand(program, schedule(alloc))?;
+    with_subcommand(program, show(alloc))
+}
+
+// If memory runs out in a subcommand, the program is dropped here alone.
+fn with_subcommand<'a>(
+    program: Command<'a>,
+    subcommand: Result<Command<'a>, AllocError>,
+) -> Result<Command<'a>, AllocError> {
+    program.subcommand(subcommand?)
 }
 
 static SPACE_VERSIONS: [&str; 2] = ["1", "2"];
 
+// An argument is made right before the subcommand takes it, so a `?` has none to drop.
 fn local<'a>(alloc: Global) -> Result<Command<'a>, AllocError> {
-    let script = Arg::new(alloc, "SCRIPT")
-        .required(true)
-        .help("The file of the script, a line for each operation");
-    let space = Arg::new(alloc, "space")
+    Command::new(alloc, "local")
+        .about("Runs a script on a space of its own and prints a result line for each operation")
+        .arg(space_option(alloc))?
+        .arg(required(
+            alloc,
+            "SCRIPT",
+            "The file of the script, a line for each operation",
+        ))
+}
+
+fn space_option<'a>(alloc: Global) -> Arg<'a> {
+    Arg::new(alloc, "space")
         .long("space")
         .value_name("VERSION")
         .value_parser(SPACE_VERSIONS.as_slice())
         .default_value("1")
-        .help("The version of the space; one of version 2 also takes wide numbers and inAll");
-    Command::new(alloc, "local")
-        .about("Runs a script on a space of its own and prints a result line for each operation")
-        .arg(space)?
-        .arg(script)
+        .help("The version of the space; one of version 2 also takes wide numbers and inAll")
 }
 
 // What fits was measured; docs/formats.md has the table.
@@ -182,50 +212,63 @@ const ROOM: &str =
 about 1,250 at f = 1, 490 at f = 2, 260 at f = 3. Reads that fit: about 4,300, 2,700, 1,980.";
 
 fn run<'a>(alloc: Global) -> Result<Command<'a>, AllocError> {
-    let config = Arg::new(alloc, "CONFIG").required(true).help(
-        "The file of the configuration, in TOML, which names no faulty party",
-    );
-    let script = Arg::new(alloc, "SCRIPT").required(true).help(
-        "The file of the script, a line for each operation, which the clients take in turn",
-    );
     Command::new(alloc, "run")
         .about("Runs a script on a running cluster and prints a result line for each operation")
         .after_help(ROOM)
-        .arg(config)?
-        .arg(script)
+        .arg(required(
+            alloc,
+            "CONFIG",
+            "The file of the configuration, in TOML, which names no faulty party",
+        ))?
+        .arg(required(
+            alloc,
+            "SCRIPT",
+            "The file of the script, a line for each operation, which the clients take in turn",
+        ))
 }
 
 fn schedule<'a>(alloc: Global) -> Result<Command<'a>, AllocError> {
-    let config = Arg::new(alloc, "CONFIG")
-        .required(true)
-        .help("The file of the configuration, in TOML");
-    let file = Arg::new(alloc, "FILE")
-        .required(true)
-        .help("The file of the schedule, a line for each step");
-    let trace = Arg::new(alloc, "trace")
-        .long("trace")
-        .action(ArgAction::SetTrue)
-        .conflicts_with("picture")?
-        .help("Print the entries of the trace before the report, a line each");
-    let picture = Arg::new(alloc, "picture")
-        .long("picture")
-        .action(ArgAction::SetTrue)
-        .help("Print the run as an SVG message sequence chart in place of the report");
+    let trace = flag(
+        alloc,
+        "trace",
+        "Print the entries of the trace before the report, a line each",
+    )
+    .conflicts_with("picture")?;
     Command::new(alloc, "schedule")
         .about("Runs a schedule in a world of replicas and clients and prints what was accepted")
         .arg(trace)?
-        .arg(picture)?
-        .arg(config)?
-        .arg(file)
+        .arg(flag(
+            alloc,
+            "picture",
+            "Print the run as an SVG message sequence chart in place of the report",
+        ))?
+        .arg(required(alloc, "CONFIG", "The file of the configuration, in TOML"))?
+        .arg(required(
+            alloc,
+            "FILE",
+            "The file of the schedule, a line for each step",
+        ))
 }
 
 fn show<'a>(alloc: Global) -> Result<Command<'a>, AllocError> {
-    let digits = Arg::new(alloc, "HEX")
-        .required(true)
-        .help("The bytes of a tuple, two hexadecimal digits a byte");
     Command::new(alloc, "show")
         .about("Prints the tuple that is encoded by these bytes")
-        .arg(digits)
+        .arg(required(
+            alloc,
+            "HEX",
+            "The bytes of a tuple, two hexadecimal digits a byte",
+        ))
+}
+
+fn required<'a>(alloc: Global, name: &'a str, help: &'a str) -> Arg<'a> {
+    Arg::new(alloc, name).required(true).help(help)
+}
+
+fn flag<'a>(alloc: Global, name: &'a str, help: &'a str) -> Arg<'a> {
+    Arg::new(alloc, name)
+        .long(name)
+        .action(ArgAction::SetTrue)
+        .help(help)
 }
 
 // Help and the version go to standard output, and what is wrong to standard error.
