@@ -75,6 +75,11 @@ view_change_shown sender m = frames.view_change_text (name_text sender) (view_ch
 abbrev pub new_view_shown : Party → NewView → List ℕ
 new_view_shown sender m = frames.new_view_text (name_text sender) (new_view_data m)
 
+-- what stands before its root
+abbrev pub started_shown : Party → NewView → List ℕ
+started_shown sender m =
+    frames.opened (name_text sender) m.view.0 ++ senders_shown m.changes.items ++ codes " start " ++ decimal m.start.0 ++ codes " root "
+
 abbrev pub replied_shown : Party → Reply → List ℕ
 replied_shown sender m =
     frames.replied (name_text sender) (256 + m.client.number) m.timestamp.0 m.kind m.number.0

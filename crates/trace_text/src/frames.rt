@@ -6,8 +6,8 @@ ghost use Rattle.wire.specs.Views.{body_data};
 ghost use Rattle.trace_text.specs.Frames.{of_number, of_view, asked, changed, opened, part_text};
 ghost use Rattle.trace_text.specs.Frames.{body_text, frame_text, receivers_text};
 ghost use Rattle.trace_text.specs.Shown.{name_text, request_shown, pre_prepare_shown, vote_shown};
-ghost use Rattle.trace_text.specs.Shown.{checkpoint_shown, view_change_shown, new_view_shown, replied_shown};
-ghost use Rattle.trace_text.specs.Shown.{reply_shown, page_shown};
+ghost use Rattle.trace_text.specs.Shown.{checkpoint_shown, view_change_shown, new_view_shown};
+ghost use Rattle.trace_text.specs.Shown.{started_shown, replied_shown, reply_shown, page_shown};
 
 use crate::lists::{
     put_batch, put_batches, put_checkpoints, put_entries, put_receivers, put_senders,
@@ -236,13 +236,25 @@ fn put_new_view(
 ) -> Result<(), NoMemory>
     ensures { Appends result out.old.items (new_view_shown sender new.now) out.new.items }
 {
-    put_opened(alloc, sender, new.view.0, out)?;
-    put_senders(alloc, new.changes.as_slice(), out)?;
-    put_number(alloc, " start ", new.start.0, out)?;
-    append(b" root ", out)?;
+    put_started(alloc, sender, new, out)?;
     put_short(alloc, &new.root, out)?;
     append(b" batches ", out)?;
     put_batches(alloc, new.batches.as_slice(), out)
+}
+
+// What stands before the root, in a function of its own: one search over all seven parts takes three times as long.
+fn put_started(
+    alloc: Global,
+    sender: Party,
+    new: &NewView,
+    out: &mut Vec<u8>,
+) -> Result<(), NoMemory>
+    ensures { Appends result out.old.items (started_shown sender new.now) out.new.items }
+{
+    put_opened(alloc, sender, new.view.0, out)?;
+    put_senders(alloc, new.changes.as_slice(), out)?;
+    put_number(alloc, " start ", new.start.0, out)?;
+    append(b" root ", out)
 }
 
 fn put_opened(alloc: Global, sender: Party, view: u64, out: &mut Vec<u8>) -> Result<(), NoMemory>
