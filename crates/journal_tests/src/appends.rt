@@ -2,7 +2,7 @@
 
 ghost use Rattle.std.specs.Prelude.{◌≡◌};
 
-use crate::clusters::{call, new_config, take_share, tick};
+use crate::clusters::{begun, begun_tied, call, new_config, take_share, tick};
 use events::Config;
 use journal::{AppendFault, Journal, Naming, Opened, Share};
 use std::alloc::Global;
@@ -23,6 +23,14 @@ fn pair_of<N: Naming>(mut shares: Vec<Share<N>>) -> Option<Pair<N>> {
     Some(Pair { first, second })
 }
 
+fn is_taken<N: Naming>(
+    alloc: Global,
+    journal: &mut Journal<N>,
+    share: &mut Share<N>,
+) -> Result<bool, NoMemory> {
+    Ok(tick(alloc, journal, share)?.is_ok())
+}
+
 // What a journal of limit 3 does: it takes 2 entries, refuses 2 more and still holds 2. One more has room.
 fn takes_three<N: Naming>(
     alloc: Global,
@@ -33,19 +41,56 @@ fn takes_three<N: Naming>(
     requires config { config.now ≡ N.config }
     requires faults { config.now.faults ≡ 1 }
 {
-    let taken = call(alloc, config, journal, &mut pair.first)?;
-    let held = journal.len();
-    let refused = call(alloc, config, journal, &mut pair.second)?;
-    let still = journal.len();
-    let more = tick(alloc, journal, &mut pair.second)?;
     Ok(
-        taken.is_ok()
-            && held == 2
-            && refused.err() == Some(AppendFault::JournalFull)
-            && still == 2
-            && more.is_ok()
+        call(alloc, config, journal, &mut pair.first)?.is_ok()
+            && journal.len() == 2
+            && call(alloc, config, journal, &mut pair.second)?.err()
+                == Some(AppendFault::JournalFull)
+            && journal.len() == 2
+            && is_taken(alloc, journal, &mut pair.second)?
             && journal.len() == 3,
     )
+}
+
+fn takes_three_and_agrees<N: Naming>(
+    alloc: Global,
+    config: &Config,
+    journal: &mut Journal<N>,
+    pair: &mut Pair<N>,
+) -> Result<bool, Fail>
+    requires config { config.now ≡ N.config }
+    requires faults { config.now.faults ≡ 1 }
+{
+    Ok(
+        takes_three(alloc, config, journal, pair)?
+            && journal.agrees(&pair.first)
+            && journal.agrees(&pair.second),
+    )
+}
+
+fn is_filled<N: Naming>(
+    alloc: Global,
+    config: &Config,
+    journal: &mut Journal<N>,
+    shares: Vec<Share<N>>,
+) -> Result<bool, Fail>
+    requires config { config.now ≡ N.config }
+    requires faults { config.now.faults ≡ 1 }
+{
+    match pair_of(shares) {
+        Some(mut pair) => {
+            let is_right = takes_three_and_agrees(alloc, config, journal, &mut pair);
+            drop(pair);
+            is_right
+        }
+        None => Err(Fail::new("no shares")),
+    }
+}
+
+// Whether a trace of so many entries is taken away.
+fn gives_trace<N: Naming>(alloc: Global, journal: &mut Journal<N>, len: usize) -> bool {
+    let trace = journal.take(alloc);
+    trace.len() == len && journal.len() == 0
 }
 
 fn is_full<N: Naming>(alloc: Global, config: &Config) -> Result<bool, Fail>
@@ -54,11 +99,11 @@ fn is_full<N: Naming>(alloc: Global, config: &Config) -> Result<bool, Fail>
 {
     let (mut journal, shares, orders) = Journal::<N>::new(alloc, config, 3)?;
     let counts = (shares.len(), orders.len());
-    let mut pair = pair_of(shares).ok_or("no shares")?;
-    let took = takes_three(alloc, config, &mut journal, &mut pair)?;
-    let agrees = journal.agrees(&pair.first) && journal.agrees(&pair.second);
-    let trace = journal.take(alloc);
-    Ok(counts == (6, 4) && took && agrees && trace.len() == 3 && journal.len() == 0)
+    drop(orders);
+    let filled = is_filled(alloc, config, &mut journal, shares);
+    let gives = gives_trace(alloc, &mut journal, 3);
+    drop(journal);
+    Ok(filled? && gives && counts == (6, 4))
 }
 
 #[test]
@@ -74,10 +119,11 @@ fn is_full_tied<N: Naming>(alloc: Global, opened: Opened, config: &Config) -> Re
     requires book { opened ≡ N.book }
     requires faults { config.now.faults ≡ 1 }
 {
-    let (mut journal, shares, _orders) = Journal::<N>::tied(alloc, opened, config, 3)?;
-    let mut pair = pair_of(shares).ok_or("no shares")?;
-    let took = takes_three(alloc, config, &mut journal, &mut pair)?;
-    Ok(took && journal.agrees(&pair.first) && journal.agrees(&pair.second))
+    let (mut journal, shares, orders) = Journal::<N>::tied(alloc, opened, config, 3)?;
+    drop(orders);
+    let is_right = is_filled(alloc, config, &mut journal, shares);
+    drop(journal);
+    is_right
 }
 
 #[test]
@@ -89,6 +135,14 @@ fn a_tied_journal_is_full_too(rt: HostRuntime) -> Result<(), Fail> {
 
 static LIMITS: [u32; 5] = [0, 1, 2, 3, 10];
 
+fn is_full_for<N: Naming>(
+    alloc: Global,
+    journal: &mut Journal<N>,
+    share: &mut Share<N>,
+) -> Result<bool, NoMemory> {
+    Ok(tick(alloc, journal, share)?.err() == Some(AppendFault::JournalFull))
+}
+
 // A journal takes as many ticks as its limit says, and refuses each more.
 fn keeps_limit<N: Naming>(
     alloc: Global,
@@ -97,15 +151,13 @@ fn keeps_limit<N: Naming>(
     limit: u32,
 ) -> Result<bool, Fail> {
     for _ in 0..limit {
-        if tick(alloc, journal, share)?.is_err() {
+        if !is_taken(alloc, journal, share)? {
             return Ok(false);
         }
     }
-    let refused = tick(alloc, journal, share)?;
-    let next = tick(alloc, journal, share)?;
     Ok(
-        refused.err() == Some(AppendFault::JournalFull)
-            && next.err() == Some(AppendFault::JournalFull)
+        is_full_for(alloc, journal, share)?
+            && is_full_for(alloc, journal, share)?
             && journal.len() == u64::from(limit)
             && journal.agrees(share),
     )
@@ -114,9 +166,11 @@ fn keeps_limit<N: Naming>(
 fn is_limited<N: Naming>(alloc: Global, config: &Config, limit: u32) -> Result<bool, Fail>
     requires config { config.now ≡ N.config }
 {
-    let (mut journal, shares, _orders) = Journal::<N>::new(alloc, config, limit)?;
-    let mut share = take_share(shares, 257).ok_or("no share")?;
-    keeps_limit(alloc, &mut journal, &mut share, limit)
+    let (mut journal, mut share) = begun::<N>(alloc, config, limit, 257)?;
+    let is_right = keeps_limit(alloc, &mut journal, &mut share, limit);
+    drop(share);
+    drop(journal);
+    is_right
 }
 
 #[test]
@@ -128,42 +182,78 @@ fn journals_keep_their_limits(rt: HostRuntime) -> Result<(), Fail> {
     Ok(())
 }
 
-// A share that fell behind is out of step, and one that has nothing; the right one is taken again. Where the trace was
-// taken away, each share that has a history is ahead.
+fn is_out_of_step<N: Naming>(
+    alloc: Global,
+    journal: &mut Journal<N>,
+    share: &mut Share<N>,
+) -> Result<bool, NoMemory> {
+    Ok(tick(alloc, journal, share)?.err() == Some(AppendFault::NotInJournal))
+}
+
+// An empty share of the same party.
+fn is_empty_out_of_step<N: Naming>(
+    alloc: Global,
+    journal: &mut Journal<N>,
+    share: &Share<N>,
+) -> Result<bool, NoMemory> {
+    let mut empty = Share::empty(alloc, share.party());
+    is_out_of_step(alloc, journal, &mut empty)
+}
+
+// Where the trace was taken away, each share that has a history is ahead.
+fn is_ahead<N: Naming>(
+    alloc: Global,
+    journal: &mut Journal<N>,
+    share: &mut Share<N>,
+) -> Result<bool, NoMemory> {
+    Ok(
+        gives_trace(alloc, journal, 2)
+            && is_out_of_step(alloc, journal, share)?
+            && journal.len() == 0,
+    )
+}
+
+// A share that fell behind is out of step, and one that has nothing; the right one, which was kept, is taken again.
+fn goes_on_with<N: Naming>(
+    alloc: Global,
+    journal: &mut Journal<N>,
+    share: &mut Share<N>,
+    kept: &mut Share<N>,
+) -> Result<bool, Fail> {
+    Ok(
+        is_out_of_step(alloc, journal, share)?
+            && is_empty_out_of_step(alloc, journal, kept)?
+            && is_taken(alloc, journal, kept)?
+            && !journal.agrees(share)
+            && journal.agrees(kept)
+            && journal.len() == 2
+            && is_ahead(alloc, journal, kept)?,
+    )
+}
+
 fn is_refused_behind<N: Naming>(
     alloc: Global,
     journal: &mut Journal<N>,
     share: &mut Share<N>,
 ) -> Result<bool, Fail> {
-    let first = tick(alloc, journal, share)?;
-    let party = share.party();
+    if !is_taken(alloc, journal, share)? {
+        return Ok(false);
+    }
     let mut kept = share.take(alloc);
-    let behind = tick(alloc, journal, share)?;
-    let mut empty = Share::empty(alloc, party);
-    let nothing = tick(alloc, journal, &mut empty)?;
-    let again = tick(alloc, journal, &mut kept)?;
-    let compared = !journal.agrees(share) && journal.agrees(&kept) && journal.len() == 2;
-    let trace = journal.take(alloc);
-    let ahead = tick(alloc, journal, &mut kept)?;
-    Ok(
-        first.is_ok()
-            && behind.err() == Some(AppendFault::NotInJournal)
-            && nothing.err() == Some(AppendFault::NotInJournal)
-            && again.is_ok()
-            && compared
-            && trace.len() == 2
-            && ahead.err() == Some(AppendFault::NotInJournal)
-            && journal.len() == 0,
-    )
+    let is_right = goes_on_with(alloc, journal, share, &mut kept);
+    drop(kept);
+    is_right
 }
 
 fn is_compared<N: Naming>(alloc: Global, opened: Opened, config: &Config) -> Result<bool, Fail>
     requires config { config.now ≡ N.config }
     requires book { opened ≡ N.book }
 {
-    let (mut journal, shares, _orders) = Journal::<N>::tied(alloc, opened, config, 9)?;
-    let mut share = take_share(shares, 2).ok_or("no share")?;
-    is_refused_behind(alloc, &mut journal, &mut share)
+    let (mut journal, mut share) = begun_tied::<N>(alloc, opened, config, 9, 2)?;
+    let is_right = is_refused_behind(alloc, &mut journal, &mut share);
+    drop(share);
+    drop(journal);
+    is_right
 }
 
 #[test]
@@ -192,16 +282,34 @@ fn is_whole_or_unchanged<N: Naming>(
         }
 }
 
+fn is_safe_at<N: Naming>(
+    alloc: Global,
+    journal: &mut Journal<N>,
+    shares: Vec<Share<N>>,
+) -> Result<bool, Fail> {
+    match take_share(shares, 256) {
+        Some(mut share) => {
+            let is_right = is_whole_or_unchanged(alloc, journal, &mut share);
+            drop(share);
+            Ok(is_right)
+        }
+        None => Err(Fail::new("no share")),
+    }
+}
+
 fn is_safe<N: Naming>(alloc: Global, opened: Opened, config: &Config) -> Result<bool, Fail>
     requires config { config.now ≡ N.config }
     requires book { opened ≡ N.book }
 {
-    let (mut journal, shares, _orders) = match Journal::<N>::tied(alloc, opened, config, 9) {
-        Ok(opening) => opening,
-        Err(NoMemory) => return Ok(true),
-    };
-    let mut share = take_share(shares, 256).ok_or("no share")?;
-    Ok(is_whole_or_unchanged(alloc, &mut journal, &mut share))
+    match Journal::<N>::tied(alloc, opened, config, 9) {
+        Ok((mut journal, shares, orders)) => {
+            drop(orders);
+            let is_right = is_safe_at(alloc, &mut journal, shares);
+            drop(journal);
+            is_right
+        }
+        Err(NoMemory) => Ok(true),
+    }
 }
 
 // `tools/growths` refuses each growth in turn.

@@ -8,7 +8,7 @@ ghost use Rattle.journal_tests.specs.Calls.{AsksFirst, IsFirstCall, first_op};
 
 use authenticator::Ring;
 use events::{Config, Entry, EntryKind};
-use journal::{AppendFault, Journal, Naming, Share};
+use journal::{AppendFault, Journal, Naming, Opened, Share};
 use std::alloc::Global;
 use std::test::Fail;
 use terms::{ClientId, Mode, NoMemory, Party, ReplicaId, Timestamp};
@@ -33,6 +33,52 @@ pub fn take_share<N: Naming>(shares: Vec<Share<N>>, number: u16) -> Option<Share
         }
     }
     found
+}
+
+// What is owned is dropped by a call, here and where the two are used: at the end of a function it is taken apart.
+fn with_share<N: Naming>(
+    journal: Journal<N>,
+    shares: Vec<Share<N>>,
+    number: u16,
+) -> Result<(Journal<N>, Share<N>), Fail> {
+    match take_share(shares, number) {
+        Some(share) => Ok((journal, share)),
+        None => {
+            drop(journal);
+            Err(Fail::new("no share"))
+        }
+    }
+}
+
+/// A journal of this limit, and the share of the party of this number. Who owns both hands them on, since each further
+/// way out of a function drops both.
+pub fn begun<N: Naming>(
+    alloc: Global,
+    config: &Config,
+    limit: u32,
+    number: u16,
+) -> Result<(Journal<N>, Share<N>), Fail>
+    requires config { config.now ≡ N.config }
+{
+    let (journal, shares, orders) = Journal::<N>::new(alloc, config, limit)?;
+    drop(orders);
+    with_share(journal, shares, number)
+}
+
+/// The same of one that is tied.
+pub fn begun_tied<N: Naming>(
+    alloc: Global,
+    opened: Opened,
+    config: &Config,
+    limit: u32,
+    number: u16,
+) -> Result<(Journal<N>, Share<N>), Fail>
+    requires config { config.now ≡ N.config }
+    requires book { opened ≡ N.book }
+{
+    let (journal, shares, orders) = Journal::<N>::tied(alloc, opened, config, limit)?;
+    drop(orders);
+    with_share(journal, shares, number)
 }
 
 pub fn tick_entries(alloc: Global, party: Party) -> Result<Vec<Entry>, NoMemory>

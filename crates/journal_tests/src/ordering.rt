@@ -22,7 +22,7 @@ struct Seat<N: Naming> {
 }
 
 // The replica of the last number.
-fn last_seat<N: Naming>(shares: Vec<Share<N>>, mut orders: Vec<OrderShare<N>>) -> Option<Seat<N>> {
+fn last_seat<N: Naming>(shares: Vec<Share<N>>, orders: &mut Vec<OrderShare<N>>) -> Option<Seat<N>> {
     let order = orders.pop()?;
     let share = take_share(shares, order.party().number())?;
     Some(Seat { share, order })
@@ -55,38 +55,53 @@ fn orders_beside_reads<N: Naming>(
     journal: &mut Journal<N>,
     seat: &mut Seat<N>,
 ) -> Result<bool, Fail> {
-    let first = tick_order(alloc, journal, seat)?;
-    let read = get(alloc, journal, &mut seat.share, None, &READ)?;
-    let second = tick_order(alloc, journal, seat)?;
-    let lengths = (seat.share.history().len(), seat.order.history().len());
-    let other = tick(alloc, journal, &mut seat.share)?;
-    let behind = tick_order(alloc, journal, seat)?;
     Ok(
-        first.is_ok()
-            && read.is_ok()
-            && second.is_ok()
-            && lengths == (3, 2)
-            && other.is_ok()
-            && behind.err() == Some(AppendFault::NotInJournal)
+        tick_order(alloc, journal, seat)?.is_ok()
+            && get(alloc, journal, &mut seat.share, None, &READ)?.is_ok()
+            && tick_order(alloc, journal, seat)?.is_ok()
+            && seat.share.history().len() == 3
+            && seat.order.history().len() == 2
+            && tick(alloc, journal, &mut seat.share)?.is_ok()
+            && tick_order(alloc, journal, seat)?.err() == Some(AppendFault::NotInJournal)
             && journal.len() == 4,
     )
+}
+
+fn is_last_ordered<N: Naming>(
+    alloc: Global,
+    journal: &mut Journal<N>,
+    shares: Vec<Share<N>>,
+    orders: &mut Vec<OrderShare<N>>,
+) -> Result<bool, Fail> {
+    match last_seat(shares, orders) {
+        Some(mut seat) => {
+            let is_right = orders_beside_reads(alloc, journal, &mut seat);
+            drop(seat);
+            is_right
+        }
+        None => Err(Fail::new("no seat")),
+    }
 }
 
 fn is_ordered<N: Naming>(alloc: Global, config: &Config) -> Result<bool, Fail>
     requires config { config.now ≡ N.config }
 {
-    let (mut journal, shares, orders) = Journal::<N>::new(alloc, config, 9)?;
-    let mut seat = last_seat(shares, orders).ok_or("no seat")?;
-    orders_beside_reads(alloc, &mut journal, &mut seat)
+    let (mut journal, shares, mut orders) = Journal::<N>::new(alloc, config, 9)?;
+    let is_right = is_last_ordered(alloc, &mut journal, shares, &mut orders);
+    drop(orders);
+    drop(journal);
+    is_right
 }
 
 fn is_ordered_tied<N: Naming>(alloc: Global, opened: Opened, config: &Config) -> Result<bool, Fail>
     requires config { config.now ≡ N.config }
     requires book { opened ≡ N.book }
 {
-    let (mut journal, shares, orders) = Journal::<N>::tied(alloc, opened, config, 9)?;
-    let mut seat = last_seat(shares, orders).ok_or("no seat")?;
-    orders_beside_reads(alloc, &mut journal, &mut seat)
+    let (mut journal, shares, mut orders) = Journal::<N>::tied(alloc, opened, config, 9)?;
+    let is_right = is_last_ordered(alloc, &mut journal, shares, &mut orders);
+    drop(orders);
+    drop(journal);
+    is_right
 }
 
 #[test]
@@ -103,34 +118,93 @@ fn reads_stand_beside_where_tied(rt: HostRuntime) -> Result<(), Fail> {
     Ok(())
 }
 
-// The ordering of another replica, one that was taken away and an empty one differ from the share; the right one is
-// taken again.
+// Whether the ordering differs from the share, and has so many entries.
+fn is_apart<N: Naming>(
+    alloc: Global,
+    journal: &mut Journal<N>,
+    share: &mut Share<N>,
+    order: &mut OrderShare<N>,
+    len: usize,
+) -> Result<bool, NoMemory> {
+    let taken = tick_by(alloc, journal, share, order)?;
+    Ok(taken.err() == Some(AppendFault::NotInJournal) && order.history().len() == len)
+}
+
+// An empty ordering of the same replica.
+fn is_empty_apart<N: Naming>(
+    alloc: Global,
+    journal: &mut Journal<N>,
+    share: &mut Share<N>,
+    order: &OrderShare<N>,
+) -> Result<bool, NoMemory> {
+    let mut empty = OrderShare::empty(alloc, order.party());
+    is_apart(alloc, journal, share, &mut empty, 0)
+}
+
+// One that was taken away and an empty one differ from the share; the right one, which was kept, is taken again.
+fn goes_on_with<N: Naming>(
+    alloc: Global,
+    journal: &mut Journal<N>,
+    seat: &mut Seat<N>,
+    kept: &mut OrderShare<N>,
+) -> Result<bool, Fail> {
+    Ok(
+        tick_order(alloc, journal, seat)?.err() == Some(AppendFault::NotInJournal)
+            && is_empty_apart(alloc, journal, &mut seat.share, kept)?
+            && tick_by(alloc, journal, &mut seat.share, kept)?.is_ok()
+            && kept.history().len() == 2
+            && journal.len() == 2,
+    )
+}
+
+// And so does the ordering of another replica.
 fn is_refused_apart<N: Naming>(
     alloc: Global,
     journal: &mut Journal<N>,
     seat: &mut Seat<N>,
     other: &mut OrderShare<N>,
 ) -> Result<bool, Fail> {
-    let stranger = tick_by(alloc, journal, &mut seat.share, other)?;
-    let first = tick_order(alloc, journal, seat)?;
+    if !is_apart(alloc, journal, &mut seat.share, other, 0)?
+        || tick_order(alloc, journal, seat)?.is_err()
+    {
+        return Ok(false);
+    }
     let mut kept = seat.order.take(alloc);
-    let behind = tick_order(alloc, journal, seat)?;
-    let mut empty = OrderShare::empty(alloc, kept.party());
-    let nothing = tick_by(alloc, journal, &mut seat.share, &mut empty)?;
-    let again = tick_by(alloc, journal, &mut seat.share, &mut kept)?;
-    Ok(
-        stranger.err() == Some(AppendFault::NotInJournal)
-            && first.is_ok()
-            && behind.err() == Some(AppendFault::NotInJournal)
-            && nothing.err() == Some(AppendFault::NotInJournal)
-            && again.is_ok()
-            && (
-                kept.history().len(),
-                empty.history().len(),
-                other.history().len(),
-            ) == (2, 0, 0)
-            && journal.len() == 2,
-    )
+    let is_right = goes_on_with(alloc, journal, seat, &mut kept);
+    drop(kept);
+    is_right
+}
+
+fn is_other_refused<N: Naming>(
+    alloc: Global,
+    journal: &mut Journal<N>,
+    seat: &mut Seat<N>,
+    orders: &mut Vec<OrderShare<N>>,
+) -> Result<bool, Fail> {
+    match orders.pop() {
+        Some(mut other) => {
+            let is_right = is_refused_apart(alloc, journal, seat, &mut other);
+            drop(other);
+            is_right
+        }
+        None => Err(Fail::new("no other order")),
+    }
+}
+
+fn is_last_compared<N: Naming>(
+    alloc: Global,
+    journal: &mut Journal<N>,
+    shares: Vec<Share<N>>,
+    orders: &mut Vec<OrderShare<N>>,
+) -> Result<bool, Fail> {
+    match last_seat(shares, orders) {
+        Some(mut seat) => {
+            let is_right = is_other_refused(alloc, journal, &mut seat, orders);
+            drop(seat);
+            is_right
+        }
+        None => Err(Fail::new("no seat")),
+    }
 }
 
 fn is_compared<N: Naming>(alloc: Global, opened: Opened, config: &Config) -> Result<bool, Fail>
@@ -138,11 +212,10 @@ fn is_compared<N: Naming>(alloc: Global, opened: Opened, config: &Config) -> Res
     requires book { opened ≡ N.book }
 {
     let (mut journal, shares, mut orders) = Journal::<N>::tied(alloc, opened, config, 9)?;
-    let order = orders.pop().ok_or("no order")?;
-    let mut other = orders.pop().ok_or("no other order")?;
-    let share = take_share(shares, order.party().number()).ok_or("no share")?;
-    let mut seat = Seat { share, order };
-    is_refused_apart(alloc, &mut journal, &mut seat, &mut other)
+    let is_right = is_last_compared(alloc, &mut journal, shares, &mut orders);
+    drop(orders);
+    drop(journal);
+    is_right
 }
 
 #[test]
