@@ -1,14 +1,13 @@
 //! Frames with a MAC that was changed on the way count for nothing.
 
-use crate::reports::{PointRow, Row, accepts, execute, has_points};
-use crate::worlds::{put_steps, report_of_lines, report_of_put, world};
-use events::EntryKind;
+use crate::reports::sent;
+use crate::runs::{Check, Run, steps_come_out};
+use crate::worlds::{ONE_CLIENT, config_of, put_steps};
+use events::{Config, Entry, EntryKind};
 use schedule_text::Step;
-use schedule_world::Report;
+use schedule_world::{Report, run};
 use std::alloc::Global;
 use terms::{NoMemory, Party};
-
-static CALLS: [&str; 2] = ["invoke 0 out (1)", "invoke 0 rdp (*)"];
 
 // Where the MAC for the party ends in a frame, at whose end there are up to ten receivers, each in front of its MAC: 34
 // bytes each.
@@ -27,94 +26,146 @@ fn mac_end(frame: &[u8], party: Party) -> Option<usize> {
     None
 }
 
-// The frame with the last byte of the MAC for the party changed.
-fn forged(alloc: Global, frame: &[u8], party: Party) -> Result<Option<Vec<u8>>, NoMemory> {
-    let mut bytes = Vec::from_slice(alloc, frame)?;
+// Changes the last byte of the MAC for the party, and answers whether there is one.
+fn forge(frame: &mut [u8], party: Party) -> bool {
     let Some(end) = mac_end(frame, party) else {
-        return Ok(None);
+        return false;
     };
-    match bytes.get_mut(end.saturating_sub(1)) {
-        Some(last) => *last = last.wrapping_add(1),
-        None => return Ok(None),
+    match frame.get_mut(end.saturating_sub(1)) {
+        Some(last) => {
+            *last = last.wrapping_add(1);
+            true
+        }
+        None => false,
     }
-    Ok(Some(bytes))
 }
 
-// The party gets the frame, forged and then as it is, where it is one of those that were made.
+// The number of a frame that was sent.
+fn number_of(report: &Report, wanted: &[u8]) -> Option<u64> {
+    let mut number = 0u64;
+    for entry in report.trace.as_slice() {
+        if let Some((_, frame)) = sent(entry) {
+            if frame == wanted {
+                return Some(number);
+            }
+            number = number.saturating_add(1);
+        }
+    }
+    None
+}
+
+// The party gets the frame of this number, forged and then as it is.
 fn put_twice(
     alloc: Global,
-    made: &[&[u8]],
+    number: u64,
     frame: &[u8],
     party: Party,
     steps: &mut Vec<Step>,
 ) -> Result<bool, NoMemory> {
-    let Some(number) = made.iter().position(|other| *other == frame) else {
+    let mut bytes = Vec::from_slice(alloc, frame)?;
+    if !forge(bytes.as_mut_slice(), party) {
         return Ok(false);
-    };
-    let Some(bytes) = forged(alloc, frame, party)? else {
-        return Ok(false);
-    };
+    }
     steps.push(Step::Feed { party, bytes })?;
     steps.push(Step::Deliver {
-        frame: number as u64,
+        frame: number,
         party,
     })?;
     Ok(true)
 }
 
+fn put_got(
+    alloc: Global,
+    report: &Report,
+    frame: &[u8],
+    party: Party,
+    steps: &mut Vec<Step>,
+) -> Result<bool, NoMemory> {
+    match number_of(report, frame) {
+        Some(number) => put_twice(alloc, number, frame, party, steps),
+        None => Ok(false),
+    }
+}
+
+// The two calls of client 0.
+fn put_call(alloc: Global, timestamp: u64, steps: &mut Vec<Step>) -> Result<bool, NoMemory> {
+    if timestamp == 1 {
+        put_steps(alloc, &["invoke 0 out (1)"], steps)
+    } else {
+        put_steps(alloc, &["invoke 0 rdp (*)"], steps)
+    }
+}
+
+fn put_entry(
+    alloc: Global,
+    report: &Report,
+    entry: &Entry,
+    steps: &mut Vec<Step>,
+) -> Result<bool, NoMemory> {
+    match entry.kind() {
+        EntryKind::Invoke(_, timestamp, _) => put_call(alloc, timestamp.0, steps),
+        EntryKind::Got(party, frame) => { put_got(alloc, report, frame.as_slice(), *party, steps) }
+        _ => Ok(true),
+    }
+}
+
 // The calls of a run and its deliveries, in its order, with each frame forged in front of it.
 fn put_forged(alloc: Global, report: &Report, steps: &mut Vec<Step>) -> Result<bool, NoMemory> {
-    let mut made = Vec::new(alloc);
-    let mut calls = CALLS.iter();
     for entry in report.trace.as_slice() {
-        let is_put = match entry.kind() {
-            EntryKind::Invoke(..) => match calls.next() {
-                Some(line) => put_steps(alloc, &[*line], steps)?,
-                None => false,
-            },
-            EntryKind::Sent(_, frame) => {
-                made.push(frame.as_slice())?;
-                true
-            }
-            EntryKind::Got(party, frame) => {
-                put_twice(alloc, made.as_slice(), frame.as_slice(), *party, steps)?
-            }
-            _ => true,
-        };
-        if !is_put {
+        if !put_entry(alloc, report, entry, steps)? {
             return Ok(false);
         }
     }
     Ok(true)
 }
 
-fn report_of_forged(alloc: Global) -> Option<Report> {
-    let plain = report_of_lines(alloc, 1, &[CALLS[0], "flush", CALLS[1], "flush"])?;
-    let config = world(alloc, 1, &[], &[])?;
+// Without forged frames there are 66 entries, of which 40 are of frames that are got. The positions come from an
+// implementation in Python.
+static FORGED: Run<'static> = Run {
+    world: ONE_CLIENT,
+    parts: &[],
+    refused: None,
+    checks: &[
+        Check::Entries(66 + 40),
+        Check::Execute(&[0, 1, 2, 3], &[(1, 1)]),
+        Check::Accepts(&[(0, 1, "done"), (0, 2, "found (1)")]),
+        Check::Points(&[
+            (62, 0, 1, "out (1)", "done"),
+            (83, 0, 2, "rdp (*)", "found (1)"),
+        ]),
+    ],
+};
+
+fn are_dropped_in(alloc: Global, plain: &Report) -> bool {
     let mut steps = Vec::new(alloc);
-    let put = put_forged(alloc, &plain, &mut steps);
-    report_of_put(alloc, &config, put, steps.as_slice())
+    let is_right = put_forged(alloc, plain, &mut steps) == Ok(true)
+        && steps_come_out(alloc, &FORGED, steps.as_slice());
+    drop(steps);
+    is_right
 }
 
-static ACCEPTED: [Row<'static>; 2] = [(0, 1, "done"), (0, 2, "found (1)")];
+static LINES: [&str; 4] = ["invoke 0 out (1)", "flush", "invoke 0 rdp (*)", "flush"];
 
-// The positions come from an implementation in Python.
-static POINTS: [PointRow<'static>; 2] = [
-    (62, 0, 1, "out (1)", "done"),
-    (83, 0, 2, "rdp (*)", "found (1)"),
-];
+fn are_dropped_behind(alloc: Global, config: &Config, steps: &[Step]) -> bool {
+    match run(alloc, config, steps) {
+        Ok(plain) => are_dropped_in(alloc, &plain),
+        Err(_) => false,
+    }
+}
 
-// Without forged frames there are 66 entries, of which 40 are of frames that are got.
-fn are_dropped(alloc: Global) -> bool {
-    match report_of_forged(alloc) {
-        Some(report) => {
-            report.trace.len() == 66 + 40
-                && execute(alloc, &report, &[0, 1, 2, 3], &[1])
-                && accepts(alloc, &report, &ACCEPTED)
-                && has_points(alloc, &report, &POINTS)
-        }
+fn are_dropped_after(alloc: Global, steps: &[Step]) -> bool {
+    match config_of(alloc, &FORGED.world) {
+        Some(config) => are_dropped_behind(alloc, &config, steps),
         None => false,
     }
+}
+
+fn are_dropped(alloc: Global) -> bool {
+    let mut steps = Vec::new(alloc);
+    let is_right = put_steps(alloc, &LINES, &mut steps) == Ok(true)
+        && are_dropped_after(alloc, steps.as_slice());
+    drop(steps);
+    is_right
 }
 
 #[test]

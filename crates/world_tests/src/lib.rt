@@ -1,7 +1,8 @@
 //! Tests of the world of schedules (`schedule_world`): worked runs of correct parties and of faulty ones, reads beside
 //! writes that are under way, replies that are kept, checkpoints, states that are fetched, a space that is upgraded
 //! meanwhile, frames that are forged or that faulty replicas sign, views that change, steps that may not come, and
-//! memory that runs out.
+//! memory that runs out. Most stand in tables (`runs`): the proof of a function that makes a run and looks at it takes
+//! long, and a table is read by one.
 #![tactic(auto)]
 
 #[cfg(test)]
@@ -26,6 +27,8 @@ mod reads;
 mod refusals;
 #[cfg(test)]
 mod reports;
+#[cfg(test)]
+mod runs;
 #[cfg(test)]
 mod signatures;
 #[cfg(test)]

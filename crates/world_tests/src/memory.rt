@@ -1,7 +1,7 @@
 //! Memory refused in a run. In a plain run nothing is refused here; `tools/growths` refuses each growth in turn:
 //! a party that lacks memory stops, and what the others accept is right.
 
-use crate::worlds::{steps_of, world};
+use crate::worlds::{World, config_of, put_steps};
 use events::{Config, EntryKind};
 use schedule_text::Step;
 use schedule_world::{Acceptance, Report, RunFault, run};
@@ -28,35 +28,41 @@ const AGAIN: usize = 4;
 // By number, client 0.
 const CLIENT: u16 = 256;
 
+static ALL_CORRECT: World<'static> = World {
+    faults: 1,
+    clients: 2,
+    period: 16,
+    faulty_replicas: &[],
+    faulty_clients: &[],
+};
+
 fn config(alloc: Global) -> Option<Config> {
-    match world(alloc, 2, &[], &[]) {
+    match config_of(alloc, &ALL_CORRECT) {
         Some(config) => Some(config),
-        None => world(alloc, 2, &[], &[]),
+        None => config_of(alloc, &ALL_CORRECT),
     }
 }
 
-fn steps(alloc: Global, lines: &[&str]) -> Option<Vec<Step>> {
-    match steps_of(alloc, lines) {
-        Some(steps) => Some(steps),
-        None => steps_of(alloc, lines),
+// The steps of these lines, at the second try where memory ran out at the first one.
+fn are_put(alloc: Global, lines: &[&str], steps: &mut Vec<Step>) -> bool {
+    if put_steps(alloc, lines, steps) == Ok(true) {
+        return true;
     }
+    steps.clear();
+    put_steps(alloc, lines, steps) == Ok(true)
 }
 
-// The answer's text.
-fn text_of(alloc: Global, answer: &Answer<Global>) -> Result<Vec<u8>, NoMemory> {
+// Whether the answer has this text.
+fn has_text(alloc: Global, answer: &Answer<Global>, wanted: &str) -> Result<bool, NoMemory> {
     let mut text = Vec::new(alloc);
     write_answer(answer, &mut text)?;
-    Ok(text)
+    Ok(text.as_slice() == wanted.as_bytes())
 }
 
 fn is_answer(alloc: Global, answer: &Answer<Global>, wanted: &str) -> bool {
-    let text = match text_of(alloc, answer) {
-        Ok(text) => Ok(text),
-        Err(NoMemory) => text_of(alloc, answer),
-    };
-    match text {
-        Ok(text) => text.as_slice() == wanted.as_bytes(),
-        Err(NoMemory) => false,
+    match has_text(alloc, answer, wanted) {
+        Ok(has) => has,
+        Err(NoMemory) => has_text(alloc, answer, wanted) == Ok(true),
     }
 }
 
@@ -84,26 +90,18 @@ fn are_right(alloc: Global, report: &Report) -> bool {
     }
 }
 
-fn is_right_or_refused(alloc: Global) -> bool {
-    match (config(alloc), steps(alloc, &LINES)) {
-        (Some(config), Some(steps)) => match run(alloc, &config, steps.as_slice()) {
-            Ok(report) => are_right(alloc, &report),
-            Err(RunFault::NoMemory) => true,
-            Err(RunFault::BadSchedule { .. }) => false,
-        },
-        _ => false,
+fn is_right_or_refused_in(alloc: Global, config: &Config, steps: &[Step]) -> bool {
+    match run(alloc, config, steps) {
+        Ok(report) => are_right(alloc, &report),
+        Err(RunFault::NoMemory) => true,
+        Err(RunFault::BadSchedule { .. }) => false,
     }
-}
-
-#[test]
-fn refused_memory(rt: HostRuntime) {
-    assert!(rt; is_right_or_refused(rt.alloc()));
 }
 
 // Whether client 0 made its second call, and whether it sent anything after that.
 fn second_call(report: &Report) -> (bool, bool) {
     let (mut called, mut sent) = (false, false);
-    for entry in &report.trace {
+    for entry in report.trace.as_slice() {
         match entry.kind() {
             EntryKind::Invoke(_, timestamp, _) if timestamp.0 == 2 => called = true,
             EntryKind::Sent(party, _) if called && party.number() == CLIENT => sent = true,
@@ -114,27 +112,63 @@ fn second_call(report: &Report) -> (bool, bool) {
 }
 
 fn has_stopped(report: &Report) -> bool {
-    report.stopped.iter().any(|party| party.number() == CLIENT)
+    for party in report.stopped.as_slice() {
+        if party.number() == CLIENT {
+            return true;
+        }
+    }
+    false
 }
 
-// A client that stopped in its second call has it in the trace, and sent nothing. If a party stopped before, so that
-// the first call has no answer, that call is open and the step of the second may not come.
-fn is_called_or_open(alloc: Global) -> bool {
-    match (config(alloc), steps(alloc, &CALLED_AGAIN)) {
-        (Some(config), Some(steps)) => match run(alloc, &config, steps.as_slice()) {
-            Ok(report) => {
-                matches!(second_call(&report), (true, sent) if sent || has_stopped(&report))
-            }
-            Err(RunFault::NoMemory) => true,
-            Err(RunFault::BadSchedule { step, before }) => {
-                step == AGAIN && !before.stopped.is_empty() && !second_call(&before).0
-            }
-        },
-        _ => false,
+// A client that stopped in its second call has it in the trace, and sent nothing.
+fn is_called(report: &Report) -> bool {
+    matches!(second_call(report), (true, sent) if sent || has_stopped(report))
+}
+
+// If a party stopped before, so that the first call has no answer, that call is open and the step of the second may not
+// come.
+fn is_open(step: usize, before: &Report) -> bool {
+    step == AGAIN && !before.stopped.is_empty() && !second_call(before).0
+}
+
+fn is_called_or_open_in(alloc: Global, config: &Config, steps: &[Step]) -> bool {
+    match run(alloc, config, steps) {
+        Ok(report) => is_called(&report),
+        Err(RunFault::NoMemory) => true,
+        Err(RunFault::BadSchedule { step, before }) => is_open(step, &before),
     }
+}
+
+// A run of these steps, in which client 0 calls again or not.
+fn is_right_after(alloc: Global, steps: &[Step], calls_again: bool) -> bool {
+    match config(alloc) {
+        Some(config) => {
+            let is_right = if calls_again {
+                is_called_or_open_in(alloc, &config, steps)
+            } else {
+                is_right_or_refused_in(alloc, &config, steps)
+            };
+            drop(config);
+            is_right
+        }
+        None => false,
+    }
+}
+
+fn is_right(alloc: Global, lines: &[&str], calls_again: bool) -> bool {
+    let mut steps = Vec::new(alloc);
+    let is_right = are_put(alloc, lines, &mut steps)
+        && is_right_after(alloc, steps.as_slice(), calls_again);
+    drop(steps);
+    is_right
+}
+
+#[test]
+fn refused_memory(rt: HostRuntime) {
+    assert!(rt; is_right(rt.alloc(), &LINES, false));
 }
 
 #[test]
 fn refused_memory_where_a_client_calls_again(rt: HostRuntime) {
-    assert!(rt; is_called_or_open(rt.alloc()));
+    assert!(rt; is_right(rt.alloc(), &CALLED_AGAIN, true));
 }

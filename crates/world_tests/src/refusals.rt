@@ -1,18 +1,9 @@
 //! Steps that may not come.
 
-use crate::reports::accepts;
-use crate::worlds::{report_of, steps_of, world};
-use events::Config;
-use schedule_text::Step;
-use schedule_world::{Report, RunFault, run};
+use crate::frames::Made;
+use crate::runs::{Check, Part, Run, comes_out, first_wrong};
+use crate::worlds::{BACKUP_AND_CLIENT, TEN};
 use std::alloc::Global;
-use terms::{Party, ReplicaId};
-use test_bytes::FRAME_SEED;
-
-// Client 1 and replica 3 are faulty.
-fn config(alloc: Global) -> Option<Config> {
-    world(alloc, 2, &[3], &[1])
-}
 
 // Schedules whose last step is the first that may not come.
 static REFUSED: [&[&str]; 39] = [
@@ -91,106 +82,99 @@ static TAKEN: [&[&str]; 7] = [
     ],
 ];
 
-// The first step that may not come, if there is one, where no party has stopped.
-fn refused_step(alloc: Global, config: &Config, steps: &[Step]) -> Option<usize> {
-    let Err(RunFault::BadSchedule { step, before }) = run(alloc, config, steps) else {
-        return None;
-    };
-    before.stopped.is_empty().then_some(step)
+// The run of these lines, where client 1 and replica 3 are faulty. No party has stopped before the step that may not
+// come.
+fn is_refused_at(alloc: Global, lines: &[&str], step: Option<usize>) -> bool {
+    comes_out(
+        alloc,
+        &Run {
+            world: BACKUP_AND_CLIENT,
+            parts: &[Part::Lines(lines)],
+            refused: step,
+            checks: &[Check::NobodyStops],
+        },
+    )
 }
 
-fn refused_line(alloc: Global, lines: &[&str]) -> Option<usize> {
-    let config = config(alloc)?;
-    let steps = steps_of(alloc, lines)?;
-    refused_step(alloc, &config, steps.as_slice())
-}
-
-fn is_taken(alloc: Global, lines: &[&str]) -> bool {
-    match (config(alloc), steps_of(alloc, lines)) {
-        (Some(config), Some(steps)) => report_of(alloc, &config, steps.as_slice()).is_some(),
-        _ => false,
+// The first of these schedules whose last step isn't the first that may not come.
+fn first_not_refused(alloc: Global, schedules: &[&[&str]]) -> Option<usize> {
+    let mut number = 0usize;
+    for lines in schedules {
+        if !is_refused_at(alloc, lines, lines.len().checked_sub(1)) {
+            return Some(number);
+        }
+        number = number.saturating_add(1);
     }
+    None
 }
 
-// The second one may not come.
+// The second step may not come.
 static REFUSED_AT_1: [&str; 4] = ["flush", "tick r3", "tick c1", "flush"];
 
 #[test]
 fn refuses_the_first_that_may_not_come(rt: HostRuntime) {
-    for &lines in &REFUSED {
-        assert!(rt;
-            refused_line(rt.alloc(), lines) == lines.len().checked_sub(1),
-            "{lines:?}"
-        );
+    assert_eq!(rt; first_not_refused(rt.alloc(), &REFUSED), None);
+    assert!(rt; is_refused_at(rt.alloc(), &REFUSED_AT_1, Some(1)));
+}
+
+fn first_not_taken(alloc: Global, schedules: &[&[&str]]) -> Option<usize> {
+    let mut number = 0usize;
+    for lines in schedules {
+        if !is_refused_at(alloc, lines, None) {
+            return Some(number);
+        }
+        number = number.saturating_add(1);
     }
-    assert!(rt; refused_line(rt.alloc(), &REFUSED_AT_1) == Some(1));
+    None
 }
 
 #[test]
 fn takes_what_may_come(rt: HostRuntime) {
-    for &lines in &TAKEN {
-        assert!(rt; is_taken(rt.alloc(), lines), "{lines:?}");
-    }
-}
-
-// Ten replicas, of which the last is faulty.
-fn config_of_ten(alloc: Global) -> Option<Config> {
-    let faulty = Vec::from_slice(alloc, &[9]).ok()?;
-    Config::new(3, 1, FRAME_SEED, 16, faulty, Vec::new(alloc)).ok()
+    assert_eq!(rt; first_not_taken(rt.alloc(), &TAKEN), None);
 }
 
 // A frame has a MAC for each of 1 to 10 receivers.
-fn takes_receivers(alloc: Global, line: &str) -> Option<bool> {
-    let config = config_of_ten(alloc)?;
-    let steps = steps_of(alloc, &[line])?;
-    Some(refused_step(alloc, &config, steps.as_slice()).is_none())
-}
+static RECEIVERS: [Run<'static>; 2] = [
+    Run {
+        world: TEN,
+        parts: &[Part::Lines(&["seal r9 r0,r1,r2,r3,r4,r5,r6,r7,r8,c0 00"])],
+        refused: None,
+        checks: &[Check::NobodyStops],
+    },
+    Run {
+        world: TEN,
+        parts: &[Part::Lines(&["seal r9 r0,r1,r2,r3,r4,r5,r6,r7,r8,r9,c0 00"])],
+        refused: Some(0),
+        checks: &[Check::NobodyStops],
+    },
+];
 
 #[test]
 fn a_frame_for_11_receivers(rt: HostRuntime) {
-    let ten = takes_receivers(rt.alloc(), "seal r9 r0,r1,r2,r3,r4,r5,r6,r7,r8,c0 00");
-    assert!(rt; ten == Some(true));
-    let eleven = takes_receivers(rt.alloc(), "seal r9 r0,r1,r2,r3,r4,r5,r6,r7,r8,r9,c0 00");
-    assert!(rt; eleven == Some(false));
+    assert_eq!(rt; first_wrong(rt.alloc(), &RECEIVERS), None);
 }
 
-fn is_refused_for_none(alloc: Global) -> bool {
-    let step = Step::Seal {
-        sender: Party::Replica(ReplicaId(3)),
-        receivers: Vec::new(alloc),
-        body: Vec::new(alloc),
-    };
-    match config(alloc) {
-        Some(config) => refused_step(alloc, &config, &[step]) == Some(0),
-        None => false,
-    }
-}
+static FOR_NOBODY: Run<'static> = Run {
+    world: BACKUP_AND_CLIENT,
+    parts: &[Part::Made(Made::Empty)],
+    refused: Some(0),
+    checks: &[Check::NobodyStops],
+};
 
 #[test]
 fn a_frame_for_nobody(rt: HostRuntime) {
-    assert!(rt; is_refused_for_none(rt.alloc()));
+    assert!(rt; comes_out(rt.alloc(), &FOR_NOBODY));
 }
 
-// The report that comes with the refusal of the last step.
-fn report_before(alloc: Global, lines: &[&str]) -> Option<Report> {
-    let config = config(alloc)?;
-    let steps = steps_of(alloc, lines)?;
-    match run(alloc, &config, steps.as_slice()) {
-        Err(RunFault::BadSchedule { before, .. }) => Some(before),
-        _ => None,
-    }
-}
-
-// Client 0's call was answered before the step that may not come.
-fn tells_the_call(alloc: Global) -> bool {
-    let lines = ["invoke 0 out (1)", "flush", "tick r3"];
-    match report_before(alloc, &lines) {
-        Some(before) => { accepts(alloc, &before, &[(0, 1, "done")]) && before.points.len() == 1 }
-        None => false,
-    }
-}
+// The report comes with the refusal of the last step. Client 0's call was answered before the step that may not come.
+static TOLD: Run<'static> = Run {
+    world: BACKUP_AND_CLIENT,
+    parts: &[Part::Lines(&["invoke 0 out (1)", "flush", "tick r3"])],
+    refused: Some(2),
+    checks: &[Check::Accepts(&[(0, 1, "done")]), Check::PointCount(1)],
+};
 
 #[test]
 fn tells_what_came_before(rt: HostRuntime) {
-    assert!(rt; tells_the_call(rt.alloc()));
+    assert!(rt; comes_out(rt.alloc(), &TOLD));
 }

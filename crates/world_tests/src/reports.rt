@@ -1,22 +1,65 @@
 //! What is looked up in reports.
 
 use events::{Entry, EntryKind};
+use hex::FromHex;
 use schedule_world::{Acceptance, Point, Report};
+use sha2::{Digest, Sha256};
 use std::alloc::Global;
-use terms::{NoMemory, Party};
+use terms::Party;
 use tuple_codec::{Answer, Op};
 use tuple_text::{write_answer, write_op};
 
-// The type bytes of a request and of a reply.
+// The type bytes of frames.
 pub const REQUEST: u8 = 0x41;
 
+pub const PRE_PREPARE: u8 = 0x42;
+
+pub const COMMIT: u8 = 0x44;
+
+pub const VIEW_CHANGE: u8 = 0x46;
+
+pub const NEW_VIEW: u8 = 0x47;
+
 pub const REPLY: u8 = 0x48;
+
+pub const FETCH: u8 = 0x49;
+
+pub const PAGE: u8 = 0x4b;
+
+/// Where the mode of a request stands, behind its type, its sender and its timestamp.
+pub const MODE: usize = 15;
+
+/// Where the lowest bytes of a reply's timestamp and number stand. In front of the one are the reply's type, its sender
+/// and its client, and between the two its mode.
+pub const TIMESTAMP: usize = 16;
+
+pub const NUMBER: usize = 25;
+
+/// Where the lowest byte of the number of the state stands in what asks for a part, and in what answers with one the
+/// part's index. Behind the number are the level, and the index in two bytes.
+pub const NUMBER_ASKED: usize = 14;
+
+pub const INDEX: usize = 15;
+
+/// How many bytes stand behind a body: the count of receivers, and each receiver's number and MAC.
+pub const OF_ONE_RECEIVER: usize = 2 + 34;
+
+pub const OF_THREE_RECEIVERS: usize = 2 + 3 * 34;
 
 /// The client and the timestamp of an answer that was accepted, and its text.
 pub type Row<'a> = (u16, u64, &'a str);
 
 /// The position of a point, its client and its timestamp, and the texts of its operation and of its answer.
 pub type PointRow<'a> = (usize, u16, u64, &'a str, &'a str);
+
+/// The number of a batch, and how many requests it has.
+pub type Batch = (u64, u8);
+
+/// The number of a party, the type byte of frames that it sends, and a place in these.
+pub type Cut = (u16, u8, usize);
+
+/// The number of a party, and the digest of what it got.
+pub type Got<'a> = (u16, &'a str);
 
 fn is_text(alloc: Global, answer: &Answer<Global>, text: &str) -> bool {
     let mut out = Vec::new(alloc);
@@ -28,12 +71,7 @@ fn is_line(alloc: Global, op: &Op<Global>, line: &str) -> bool {
     write_op(op, &mut out).is_ok() && out.as_slice() == line.as_bytes()
 }
 
-/// Whether this was accepted.
-pub fn is_accepted(
-    alloc: Global,
-    acceptance: &Acceptance,
-    (client, timestamp, text): Row<'_>,
-) -> bool {
+fn is_accepted(alloc: Global, acceptance: &Acceptance, (client, timestamp, text): Row<'_>) -> bool {
     acceptance.client.number == client
         && acceptance.timestamp.0 == timestamp
         && is_text(alloc, &acceptance.answer, text)
@@ -61,6 +99,31 @@ pub fn are_accepted_at(report: &Report, positions: &[usize]) -> bool {
     accepted.len() == positions.len()
 }
 
+fn is_done(alloc: Global, accepted: &[Acceptance], client: u16) -> bool {
+    for acceptance in accepted {
+        if is_accepted(alloc, acceptance, (client, 1, "done")) {
+            return true;
+        }
+    }
+    false
+}
+
+/// Whether the first calls of so many clients are done, in any order, and one more answer is accepted last.
+pub fn done_and_read(alloc: Global, report: &Report, clients: u16, row: Row<'_>) -> bool {
+    let accepted = report.accepted.as_slice();
+    for client in 0..clients {
+        if !is_done(alloc, accepted, client) {
+            return false;
+        }
+    }
+    match accepted.last() {
+        Some(last) => {
+            accepted.len() == usize::from(clients) + 1 && is_accepted(alloc, last, row)
+        }
+        None => false,
+    }
+}
+
 fn is_point(
     alloc: Global,
     point: &Point,
@@ -84,74 +147,80 @@ pub fn has_points(alloc: Global, report: &Report, rows: &[PointRow<'_>]) -> bool
     points.len() == rows.len()
 }
 
-/// The replica, the number and how many requests there are, where the entry is of a batch that was executed.
-pub fn execution(entry: &Entry) -> Option<(u8, u64, u8)> {
+// The replica and the batch, where the entry is of one that was executed.
+fn execution(entry: &Entry) -> Option<(u8, Batch)> {
     match entry.kind() {
         EntryKind::Executed(replica, number, batch) => {
             let count = batch.first().copied()?;
-            Some((replica.0, number.0, count))
+            Some((replica.0, (number.0, count)))
         }
         _ => None,
     }
 }
 
-/// How many requests there are in each batch that the replica executed, if their numbers are 1 and so on.
-pub fn counts_at(alloc: Global, report: &Report, replica: u8) -> Result<Option<Vec<u8>>, NoMemory> {
-    let mut counts = Vec::new(alloc);
+fn executes(report: &Report, replica: u8, batches: &[Batch]) -> bool {
+    let mut left = batches.iter();
     for entry in report.trace.as_slice() {
-        if let Some((who, number, count)) = execution(entry) {
-            if who == replica {
-                counts.push(count)?;
-                if number != counts.len() as u64 {
-                    return Ok(None);
-                }
+        if let Some((who, batch)) = execution(entry) {
+            if who == replica && left.next().copied() != Some(batch) {
+                return false;
             }
         }
     }
-    Ok(Some(counts))
+    left.next().is_none()
 }
 
-/// Whether each of these replicas executed batches of so many requests.
-pub fn execute(alloc: Global, report: &Report, replicas: &[u8], counts: &[u8]) -> bool {
+/// Whether each of these replicas executed these batches, in this order, and no others.
+pub fn execute(report: &Report, replicas: &[u8], batches: &[Batch]) -> bool {
     for replica in replicas {
-        match counts_at(alloc, report, *replica) {
-            Ok(Some(found)) => {
-                if found.as_slice() != counts {
-                    return false;
-                }
-            }
-            _ => return false,
+        if !executes(report, *replica, batches) {
+            return false;
         }
     }
     true
 }
 
-/// Whether the replica executes the batch of this number, which has one request, and no other batch.
-pub fn executes_one(report: &Report, replica: u8, number: u64) -> bool {
+fn is_executed_at(report: &Report, position: usize, replica: u8) -> bool {
+    match report.trace.get(position) {
+        Some(entry) => execution(entry) == Some((replica, (1, 1))),
+        None => false,
+    }
+}
+
+/// Whether at these positions these replicas execute number 1, of one request.
+pub fn executes_at(report: &Report, rows: &[(usize, u8)]) -> bool {
+    for (position, replica) in rows {
+        if !is_executed_at(report, *position, *replica) {
+            return false;
+        }
+    }
+    true
+}
+
+/// Whether replica 3 alone installs a state, once, and it is that of the number.
+pub fn installs(report: &Report, wanted: u64) -> bool {
     let mut count = 0usize;
     for entry in report.trace.as_slice() {
-        if let Some((who, at, requests)) = execution(entry) {
-            if who == replica {
-                count = count.saturating_add(1);
-                if (at, requests) != (number, 1) {
-                    return false;
-                }
+        if let EntryKind::Installed(replica, number, _) = entry.kind() {
+            if replica.0 != 3 || number.0 != wanted {
+                return false;
             }
+            count = count.saturating_add(1);
         }
     }
     count == 1
 }
 
-/// The frame that a party sent, where the entry is of one.
-pub fn sent(entry: &Entry) -> Option<(Party, &[u8])> {
+/// The number of the party that sent a frame, and the frame, where the entry is of one.
+pub fn sent(entry: &Entry) -> Option<(u16, &[u8])> {
     match entry.kind() {
-        EntryKind::Sent(party, frame) => Some((*party, frame.as_slice())),
+        EntryKind::Sent(party, frame) => Some((party.number(), frame.as_slice())),
         _ => None,
     }
 }
 
-/// The type byte of a frame.
-pub fn kind_of(frame: &[u8]) -> Option<u8> {
+// The type byte of a frame.
+fn kind_of(frame: &[u8]) -> Option<u8> {
     frame.get(4).copied()
 }
 
@@ -159,8 +228,8 @@ pub fn kind_of(frame: &[u8]) -> Option<u8> {
 pub fn senders_are(report: &Report, senders: &[u16]) -> bool {
     let mut left = senders.iter();
     for entry in report.trace.as_slice() {
-        if let Some((party, _)) = sent(entry) {
-            if left.next().copied() != Some(party.number()) {
+        if let Some((sender, _)) = sent(entry) {
+            if left.next().copied() != Some(sender) {
                 return false;
             }
         }
@@ -168,66 +237,92 @@ pub fn senders_are(report: &Report, senders: &[u16]) -> bool {
     left.next().is_none()
 }
 
-/// How many frames of this type are sent.
-pub fn count_of(report: &Report, kind: u8) -> usize {
-    report
-        .trace
-        .as_slice()
-        .iter()
-        .filter_map(sent)
-        .filter(|(_, frame)| kind_of(frame) == Some(kind))
-        .count()
-}
-
-/// How many of them this replica sends.
-pub fn count_from(report: &Report, replica: u16, kind: u8) -> usize {
-    report
-        .trace
-        .as_slice()
-        .iter()
-        .filter_map(sent)
-        .filter(|(party, frame)| party.number() == replica && kind_of(frame) == Some(kind))
-        .count()
-}
-
-// The lowest byte of the timestamp of a reply, whose body has in front of it its type, its sender and its client.
-fn timestamp_of(frame: &[u8]) -> Option<u8> {
-    frame.get(16).copied()
-}
-
-/// Whether the replica sent replies of these timestamps and no other ones.
-pub fn replies_to(report: &Report, replica: u16, timestamps: &[u8]) -> bool {
-    let mut left = timestamps.iter();
-    for entry in report.trace.as_slice() {
-        if let Some((party, frame)) = sent(entry) {
-            if party.number() == replica
-                && kind_of(frame) == Some(REPLY)
-                && timestamp_of(frame) != left.next().copied()
-            {
-                return false;
-            }
-        }
-    }
-    left.next().is_none()
-}
-
-// The mode of a request, behind its type, its sender and its timestamp.
-fn mode_of(frame: &[u8]) -> Option<u8> {
-    frame.get(15).copied()
-}
-
-/// Whether the party sent requests of these modes and no other ones.
-pub fn asks_in(report: &Report, party: u16, modes: &[u8]) -> bool {
-    let mut left = modes.iter();
+/// How many frames of this type are sent, where a party is named by that party.
+pub fn count_of(report: &Report, party: Option<u16>, kind: u8) -> usize {
+    let mut count = 0usize;
     for entry in report.trace.as_slice() {
         if let Some((sender, frame)) = sent(entry) {
-            if sender.number() == party
-                && kind_of(frame) == Some(REQUEST)
-                && mode_of(frame) != left.next().copied()
+            if kind_of(frame) == Some(kind) && (party.is_none() || party == Some(sender)) {
+                count = count.saturating_add(1);
+            }
+        }
+    }
+    count
+}
+
+/// Whether the frames of the type that the party sends have these bytes at the place, in this order, and there are no
+/// others.
+pub fn bytes_are(report: &Report, (party, kind, place): Cut, bytes: &[u8]) -> bool {
+    let mut left = bytes.iter();
+    for entry in report.trace.as_slice() {
+        if let Some((sender, frame)) = sent(entry) {
+            if sender == party && kind_of(frame) == Some(kind) && frame.get(place) != left.next() {
+                return false;
+            }
+        }
+    }
+    left.next().is_none()
+}
+
+/// Whether all frames of the type are the party's, and have these texts from the place on, in this order, and so many
+/// bytes behind.
+pub fn texts_are(
+    report: &Report,
+    (party, kind, place): Cut,
+    spare: usize,
+    texts: &[&[u8]],
+) -> bool {
+    let mut left = texts.iter();
+    for entry in report.trace.as_slice() {
+        if let Some((sender, frame)) = sent(entry) {
+            if kind_of(frame) == Some(kind)
+                && (sender != party
+                    || frame.get(place..frame.len().saturating_sub(spare))
+                        != left.next().copied())
             {
                 return false;
             }
         }
     }
     left.next().is_none()
+}
+
+// Whether the bytes have this text at the place.
+fn has_at(bytes: &[u8], place: usize, text: &[u8]) -> bool {
+    match bytes.get(place..) {
+        Some(bytes) => bytes.starts_with(text),
+        None => false,
+    }
+}
+
+/// Whether the last entry is a frame that the party sends, with this text at the place.
+pub fn sends_last(report: &Report, party: u16, place: usize, text: &[u8]) -> bool {
+    match report.trace.last() {
+        Some(entry) => match sent(entry) {
+            Some((sender, frame)) => sender == party && has_at(frame, place, text),
+            None => false,
+        },
+        None => false,
+    }
+}
+
+fn is_got(entry: &Entry, (number, digits): Got<'_>) -> bool {
+    match entry.kind() {
+        EntryKind::Got(party, bytes) => {
+            party.number() == number
+                && <[u8; 32]>::from_hex(digits).ok() == Some(Sha256::digest(bytes.as_slice()))
+        }
+        _ => false,
+    }
+}
+
+/// Whether these parties got what has these digests, in this order, and there is no other entry.
+pub fn are_got(report: &Report, rows: &[Got<'_>]) -> bool {
+    let trace = report.trace.as_slice();
+    for (entry, row) in trace.iter().zip(rows) {
+        if !is_got(entry, *row) {
+            return false;
+        }
+    }
+    trace.len() == rows.len()
 }

@@ -1,132 +1,103 @@
 //! Runs in which replicas move to later views.
 
-use crate::frames::{batch_digest, out_op, request_frame, sealed_batch_for, signed_change};
-use crate::reports::{PointRow, Row, accepts, count_from, count_of, execute, has_points};
-use crate::worlds::{put_deliveries, put_steps, put_ticks, report_of_lines, report_of_put, world};
-use events::Config;
-use schedule_text::Step;
-use schedule_world::Report;
-use std::alloc::Global;
-use terms::NoMemory;
-use test_bytes::FRAME_SEED;
-
-// The type bytes of a commit, a view change and a new view.
-const COMMIT: u8 = 0x44;
-
-const VIEW_CHANGE: u8 = 0x46;
-
-const NEW_VIEW: u8 = 0x47;
+use crate::frames::{Made, OUT_1, OUT_2};
+use crate::reports::{COMMIT, NEW_VIEW, VIEW_CHANGE};
+use crate::runs::{Check, Part, Run, comes_out, first_wrong};
+use crate::worlds::{BACKUP_AND_TWO_CLIENTS, ONE_CLIENT, PRIMARY_AND_TWO_CLIENTS, SEVEN};
+use test_bytes::ORDERED;
 
 // Time goes by 65 times at replica 1, where a request waits. Each time but the last, for which it has no key, it moves
 // to the next view: the call, its request and its delivery, 65 ticks and 64 view changes.
-fn spends_its_keys(alloc: Global) -> bool {
-    let mut lines = Vec::new(alloc);
-    if lines
-        .extend_from_slice(&["invoke 0 out (1)", "deliver 0 r1"])
-        .is_err()
-    {
-        return false;
-    }
-    for _ in 0..65 {
-        if lines.push("tick r1").is_err() {
-            return false;
-        }
-    }
-    match report_of_lines(alloc, 1, lines.as_slice()) {
-        Some(report) => { report.trace.len() == 132 && count_from(&report, 1, VIEW_CHANGE) == 64 }
-        None => false,
-    }
-}
+static SPENDING_KEYS: Run<'static> = Run {
+    world: ONE_CLIENT,
+    parts: &[
+        Part::Lines(&["invoke 0 out (1)", "deliver 0 r1"]),
+        Part::Repeated(65, &["tick r1"]),
+    ],
+    refused: None,
+    checks: &[Check::Entries(132), Check::SentBy(1, VIEW_CHANGE, 64)],
+};
 
 #[test]
 fn a_replica_that_spends_its_keys(rt: HostRuntime) {
-    assert!(rt; spends_its_keys(rt.alloc()));
+    assert!(rt; comes_out(rt.alloc(), &SPENDING_KEYS));
 }
-
-static TICK_ALL: [&str; 4] = ["tick r1", "tick r2", "tick r3", "flush"];
 
 // Replica 0, which is faulty, shows replica 1 the request of client 0 as the batch of number 1, and the other two that
-// of client 1. Then time goes by so often.
-fn put_two_faces(
-    alloc: Global,
-    times: usize,
-    lines: &[&str],
-    steps: &mut Vec<Step>,
-) -> Result<bool, NoMemory> {
-    let one = request_frame(alloc, 0, 1, out_op(alloc, 1)?.as_slice())?;
-    let two = request_frame(alloc, 1, 1, out_op(alloc, 2)?.as_slice())?;
-    if !put_steps(alloc, &["invoke 0 out (1)", "invoke 1 out (2)"], steps)? {
-        return Ok(false);
-    }
-    steps.push(sealed_batch_for(alloc, 1, &[one.as_slice()], &[1])?)?;
-    steps.push(sealed_batch_for(alloc, 1, &[two.as_slice()], &[2, 3])?)?;
-    if !put_steps(alloc, &["flush"], steps)? {
-        return Ok(false);
-    }
-    for _ in 0..times {
-        if !put_steps(alloc, &TICK_ALL, steps)? {
-            return Ok(false);
-        }
-    }
-    put_steps(alloc, lines, steps)
-}
+// of client 1.
+const CALLS: Part<'static> = Part::Lines(&["invoke 0 out (1)", "invoke 1 out (2)"]);
 
-fn report_of_two_faces(alloc: Global, times: usize, lines: &[&str]) -> Option<Report> {
-    let config = world(alloc, 2, &[0], &[])?;
-    let mut steps = Vec::new(alloc);
-    let put = put_two_faces(alloc, times, lines, &mut steps);
-    report_of_put(alloc, &config, put, steps.as_slice())
-}
+const ONE_FACE: Part<'static> = Part::Made(Made::Batch(&[(0, 1, ORDERED, OUT_1)], &[1]));
 
-// Nothing is executed, so many view changes are made where time goes by so often, and nobody makes a new view: in view
-// 1 replica 1 would have to, which doesn't have the batch that the other two logged.
-fn is_stuck(alloc: Global, times: usize, changes: usize) -> bool {
-    match report_of_two_faces(alloc, times, &[]) {
-        Some(report) => {
-            count_of(&report, VIEW_CHANGE) == changes
-                && count_of(&report, NEW_VIEW) == 0
-                && execute(alloc, &report, &[1, 2, 3], &[])
-        }
-        None => false,
-    }
-}
+const OTHER_FACE: Part<'static> = Part::Made(Made::Batch(&[(1, 1, ORDERED, OUT_2)], &[2, 3]));
 
-// The second request has number 1 in view 2, and so the first has number 2.
-static BOTH: [Row<'static>; 3] = [(1, 1, "done"), (0, 1, "done"), (0, 2, "all 2 (2) (1)")];
+const FLUSH: Part<'static> = Part::Lines(&["flush"]);
 
-// Each acts where a second of the three executes it, and the read where it is called. The positions come from an
-// implementation in Python.
-static POINTS_OF_BOTH: [PointRow<'static>; 3] = [
-    (83, 1, 1, "out (2)", "done"),
-    (95, 0, 1, "out (1)", "done"),
-    (108, 0, 2, "rdAll 64 (*)", "all 2 (2) (1)"),
+// Then time goes by so often.
+const ONCE: Part<'static> = Part::Lines(&["tick r1", "tick r2", "tick r3", "flush"]);
+
+static TWO_FACES: [Run<'static>; 3] = [
+    // Nothing is executed.
+    Run {
+        world: PRIMARY_AND_TWO_CLIENTS,
+        parts: &[CALLS, ONE_FACE, OTHER_FACE, FLUSH],
+        refused: None,
+        checks: &[
+            Check::Sent(VIEW_CHANGE, 0),
+            Check::Sent(NEW_VIEW, 0),
+            Check::Execute(&[1, 2, 3], &[]),
+        ],
+    },
+    // Nobody makes a new view: in view 1 replica 1 would have to, which doesn't have the batch that the other two
+    // logged.
+    Run {
+        world: PRIMARY_AND_TWO_CLIENTS,
+        parts: &[CALLS, ONE_FACE, OTHER_FACE, FLUSH, ONCE],
+        refused: None,
+        checks: &[
+            Check::Sent(VIEW_CHANGE, 3),
+            Check::Sent(NEW_VIEW, 0),
+            Check::Execute(&[1, 2, 3], &[]),
+        ],
+    },
+    // Replica 2 has the batch, and makes the new view of view 2. The second request has number 1 there, and so the
+    // first has number 2. Each acts where a second of the three executes it, and the read where it is called. The
+    // positions come from an implementation in Python.
+    Run {
+        world: PRIMARY_AND_TWO_CLIENTS,
+        parts: &[
+            CALLS,
+            ONE_FACE,
+            OTHER_FACE,
+            FLUSH,
+            ONCE,
+            ONCE,
+            Part::Lines(&["invoke 0 rdAll 64 (*)", "flush"]),
+        ],
+        refused: None,
+        checks: &[
+            Check::Sent(VIEW_CHANGE, 6),
+            Check::Sent(NEW_VIEW, 1),
+            Check::SentBy(2, NEW_VIEW, 1),
+            Check::Execute(&[1, 2, 3], &[(1, 1), (2, 1)]),
+            Check::Accepts(&[(1, 1, "done"), (0, 1, "done"), (0, 2, "all 2 (2) (1)")]),
+            Check::Points(&[
+                (83, 1, 1, "out (2)", "done"),
+                (95, 0, 1, "out (1)", "done"),
+                (108, 0, 2, "rdAll 64 (*)", "all 2 (2) (1)"),
+            ]),
+        ],
+    },
 ];
-
-// Replica 2 has the batch, and makes the new view of view 2.
-fn ends_in_view_2(alloc: Global) -> bool {
-    match report_of_two_faces(alloc, 2, &["invoke 0 rdAll 64 (*)", "flush"]) {
-        Some(report) => {
-            count_of(&report, VIEW_CHANGE) == 6
-                && count_of(&report, NEW_VIEW) == 1
-                && count_from(&report, 2, NEW_VIEW) == 1
-                && execute(alloc, &report, &[1, 2, 3], &[1, 1])
-                && accepts(alloc, &report, &BOTH)
-                && has_points(alloc, &report, &POINTS_OF_BOTH)
-        }
-        None => false,
-    }
-}
 
 #[test]
 fn a_primary_with_two_faces(rt: HostRuntime) {
-    assert!(rt; is_stuck(rt.alloc(), 0, 0));
-    assert!(rt; is_stuck(rt.alloc(), 1, 3));
-    assert!(rt; ends_in_view_2(rt.alloc()));
+    assert_eq!(rt; first_wrong(rt.alloc(), &TWO_FACES), None);
 }
 
 // The batch of number 1 is prepared at replicas 0, 1 and 2. Commits of the other two come to replica 0 alone, which
 // executes it. Then time goes by at those two.
-static PREPARED: [&str; 14] = [
+const PREPARED: Part<'static> = Part::Lines(&[
     "invoke 0 out (1)",
     "deliver 0 r0",
     "deliver 0 r1",
@@ -141,177 +112,139 @@ static PREPARED: [&str; 14] = [
     "deliver 6 r0",
     "tick r1",
     "tick r2",
-];
-
-// Replica 1 gets the view changes of replicas 2 and 3.
-static OF_THREE: [&str; 2] = ["deliver 9 r1", "deliver 10 r1"];
-
-// Replica 0 gets those of replicas 1 and 2, moves with them, and replica 1 gets its own.
-static OF_FOUR: [&str; 5] = [
-    "deliver 9 r1",
-    "deliver 10 r1",
-    "deliver 8 r0",
-    "deliver 9 r0",
-    "deliver 11 r1",
-];
+]);
 
 // Replica 3, which is faulty, says that it prepared another batch for number 1; it says that it logged that one, or
 // both.
-fn put_false_claim(
-    alloc: Global,
-    both: bool,
-    lines: &[&str],
-    steps: &mut Vec<Step>,
-) -> Result<bool, NoMemory> {
-    let one = request_frame(alloc, 0, 1, out_op(alloc, 1)?.as_slice())?;
-    let right = batch_digest(alloc, &one)?;
-    let other = [0xff; 32];
-    if !put_steps(alloc, &PREPARED, steps)? {
-        return Ok(false);
-    }
-    let change = if both {
-        signed_change(alloc, &[other], &[right, other])?
-    } else {
-        signed_change(alloc, &[other], &[other])?
-    };
-    steps.push(change)?;
-    put_steps(alloc, lines, steps)
-}
+const LOGGED_ONE: Part<'static> = Part::Made(Made::Change { logged_both: false });
 
-fn report_of_false_claim(alloc: Global, both: bool, lines: &[&str]) -> Option<Report> {
-    let config = world(alloc, 2, &[3], &[])?;
-    let mut steps = Vec::new(alloc);
-    let put = put_false_claim(alloc, both, lines, &mut steps);
-    report_of_put(alloc, &config, put, steps.as_slice())
-}
+const LOGGED_BOTH: Part<'static> = Part::Made(Made::Change { logged_both: true });
 
-// With the view changes of replicas 1, 2 and 3 there is no new view.
-fn waits_for_a_fourth(alloc: Global, both: bool) -> bool {
-    match report_of_false_claim(alloc, both, &OF_THREE) {
-        Some(report) => count_of(&report, NEW_VIEW) == 0 && count_of(&report, VIEW_CHANGE) == 2,
-        None => false,
-    }
-}
+// Replica 1 gets the view changes of replicas 2 and 3.
+const OF_THREE: Part<'static> = Part::Lines(&["deliver 9 r1", "deliver 10 r1"]);
 
-// With that of replica 0 there is one.
-fn makes_a_new_view(alloc: Global, both: bool) -> bool {
-    match report_of_false_claim(alloc, both, &OF_FOUR) {
-        Some(report) => {
-            count_of(&report, VIEW_CHANGE) == 3
-                && count_of(&report, NEW_VIEW) == 1
-                && count_from(&report, 1, NEW_VIEW) == 1
-                && execute(alloc, &report, &[0], &[1])
-                && execute(alloc, &report, &[1, 2], &[])
-        }
-        None => false,
-    }
-}
+// Then replica 0 gets those of replicas 1 and 2, moves with them, and replica 1 gets its own.
+const OF_FOUR: Part<'static> = Part::Lines(&["deliver 8 r0", "deliver 9 r0", "deliver 11 r1"]);
 
 // Everybody gets everything, and then client 0 reads.
-static TO_THE_END: [&str; 8] = [
-    "deliver 9 r1",
-    "deliver 10 r1",
-    "deliver 8 r0",
-    "deliver 9 r0",
-    "deliver 11 r1",
-    "flush",
-    "invoke 0 rdAll 64 (*)",
-    "flush",
+const TO_THE_END: Part<'static> = Part::Lines(&["flush", "invoke 0 rdAll 64 (*)", "flush"]);
+
+// With the view changes of replicas 1, 2 and 3 there is no new view.
+const WAITS: &[Check<'static>] = &[Check::Sent(NEW_VIEW, 0), Check::Sent(VIEW_CHANGE, 2)];
+
+// With that of replica 0 there is one.
+const MAKES_A_NEW_VIEW: &[Check<'static>] = &[
+    Check::Sent(VIEW_CHANGE, 3),
+    Check::Sent(NEW_VIEW, 1),
+    Check::SentBy(1, NEW_VIEW, 1),
+    Check::Execute(&[0], &[(1, 1)]),
+    Check::Execute(&[1, 2], &[]),
 ];
 
 // Replicas 1 and 2 execute the batch that was executed at replica 0, and nobody does so twice.
-fn selects_what_was_prepared(alloc: Global, both: bool) -> bool {
-    match report_of_false_claim(alloc, both, &TO_THE_END) {
-        Some(report) => {
-            execute(alloc, &report, &[0, 1, 2], &[1])
-                && accepts(alloc, &report, &[(0, 1, "done"), (0, 2, "all 1 (1)")])
-        }
-        None => false,
-    }
-}
+const SELECTS_WHAT_WAS_PREPARED: &[Check<'static>] = &[
+    Check::Execute(&[0, 1, 2], &[(1, 1)]),
+    Check::Accepts(&[(0, 1, "done"), (0, 2, "all 1 (1)")]),
+];
+
+static FALSE_CLAIMS: [Run<'static>; 6] = [
+    Run {
+        world: BACKUP_AND_TWO_CLIENTS,
+        parts: &[PREPARED, LOGGED_ONE, OF_THREE],
+        refused: None,
+        checks: WAITS,
+    },
+    Run {
+        world: BACKUP_AND_TWO_CLIENTS,
+        parts: &[PREPARED, LOGGED_ONE, OF_THREE, OF_FOUR],
+        refused: None,
+        checks: MAKES_A_NEW_VIEW,
+    },
+    Run {
+        world: BACKUP_AND_TWO_CLIENTS,
+        parts: &[PREPARED, LOGGED_ONE, OF_THREE, OF_FOUR, TO_THE_END],
+        refused: None,
+        checks: SELECTS_WHAT_WAS_PREPARED,
+    },
+    Run {
+        world: BACKUP_AND_TWO_CLIENTS,
+        parts: &[PREPARED, LOGGED_BOTH, OF_THREE],
+        refused: None,
+        checks: WAITS,
+    },
+    Run {
+        world: BACKUP_AND_TWO_CLIENTS,
+        parts: &[PREPARED, LOGGED_BOTH, OF_THREE, OF_FOUR],
+        refused: None,
+        checks: MAKES_A_NEW_VIEW,
+    },
+    Run {
+        world: BACKUP_AND_TWO_CLIENTS,
+        parts: &[PREPARED, LOGGED_BOTH, OF_THREE, OF_FOUR, TO_THE_END],
+        refused: None,
+        checks: SELECTS_WHAT_WAS_PREPARED,
+    },
+];
 
 #[test]
 fn a_claim_on_what_was_never_prepared(rt: HostRuntime) {
-    for both in [false, true] {
-        assert!(rt; waits_for_a_fourth(rt.alloc(), both));
-        assert!(rt; makes_a_new_view(rt.alloc(), both));
-        assert!(rt; selects_what_was_prepared(rt.alloc(), both));
-    }
+    assert_eq!(rt; first_wrong(rt.alloc(), &FALSE_CLAIMS), None);
 }
 
-// Seven replicas, of which two are faulty, and say nothing.
-fn world_of_seven(alloc: Global) -> Option<Config> {
-    let faulty = Vec::from_slice(alloc, &[1, 2]).ok()?;
-    Config::new(2, 1, FRAME_SEED, 16, faulty, Vec::new(alloc)).ok()
-}
-
-static FIVE: [u8; 5] = [0, 3, 4, 5, 6];
+// The correct ones of seven.
+const FIVE: &[u16] = &[0, 3, 4, 5, 6];
 
 // Everybody gets the request and its batch, and the prepares of four backups: each commits, which nobody gets. So the
-// batch is prepared in view 0. The primaries of views 1 and 2 say nothing.
-fn put_prepared_in_view_0(steps: &mut Vec<Step>) -> Result<(), NoMemory> {
-    put_deliveries(0..6, &FIVE, steps)?;
-    put_ticks(&FIVE, steps)?;
-    put_deliveries(11..16, &FIVE, steps)?;
-    put_ticks(&FIVE, steps)?;
-    put_deliveries(16..21, &FIVE, steps)
-}
-
-// In view 3, which replica 3 begins, the same comes of it.
-fn put_prepared_in_view_3(steps: &mut Vec<Step>) -> Result<(), NoMemory> {
-    put_ticks(&FIVE, steps)?;
-    put_deliveries(21..31, &FIVE, steps)
-}
-
-fn put_seven(alloc: Global, to_the_end: bool, steps: &mut Vec<Step>) -> Result<bool, NoMemory> {
-    if !put_steps(alloc, &["invoke 0 out (1)"], steps)? {
-        return Ok(false);
-    }
-    put_prepared_in_view_0(steps)?;
-    put_prepared_in_view_3(steps)?;
-    if !to_the_end {
-        return Ok(true);
-    }
-    put_ticks(&FIVE, steps)?;
-    put_steps(alloc, &["flush"], steps)
-}
-
-fn report_of_seven(alloc: Global, to_the_end: bool) -> Option<Report> {
-    let config = world_of_seven(alloc)?;
-    let mut steps = Vec::new(alloc);
-    let put = put_seven(alloc, to_the_end, &mut steps);
-    report_of_put(alloc, &config, put, steps.as_slice())
-}
-
-// Each of the five moved three times, and committed in views 0 and 3, but nobody executed.
-fn is_prepared_twice(alloc: Global) -> bool {
-    match report_of_seven(alloc, false) {
-        Some(report) => {
-            count_of(&report, VIEW_CHANGE) == 15
-                && count_from(&report, 3, NEW_VIEW) == 1
-                && count_of(&report, COMMIT) == 10
-                && execute(alloc, &report, &FIVE, &[])
-        }
-        None => false,
-    }
-}
+// batch is prepared in view 0. The primaries of views 1 and 2 say nothing. In view 3, which replica 3 begins, the same
+// comes of it. Each of the five moves three times, and commits in views 0 and 3, but nobody executes.
+static PREPARED_TWICE: Run<'static> = Run {
+    world: SEVEN,
+    parts: &[
+        Part::Lines(&["invoke 0 out (1)"]),
+        Part::Frames(0, 6, FIVE),
+        Part::Ticks(FIVE),
+        Part::Frames(11, 16, FIVE),
+        Part::Ticks(FIVE),
+        Part::Frames(16, 21, FIVE),
+        Part::Ticks(FIVE),
+        Part::Frames(21, 31, FIVE),
+    ],
+    refused: None,
+    checks: &[
+        Check::Sent(VIEW_CHANGE, 15),
+        Check::SentBy(3, NEW_VIEW, 1),
+        Check::Sent(COMMIT, 10),
+        Check::Execute(&[0, 3, 4, 5, 6], &[]),
+    ],
+};
 
 // The new view of view 4 goes by what was prepared in view 3, which went by what was prepared in view 0.
-fn is_executed_in_view_4(alloc: Global) -> bool {
-    match report_of_seven(alloc, true) {
-        Some(report) => {
-            count_of(&report, VIEW_CHANGE) == 20
-                && count_of(&report, NEW_VIEW) == 2
-                && count_from(&report, 4, NEW_VIEW) == 1
-                && execute(alloc, &report, &FIVE, &[1])
-                && accepts(alloc, &report, &[(0, 1, "done")])
-        }
-        None => false,
-    }
-}
+static EXECUTED_IN_VIEW_4: Run<'static> = Run {
+    world: SEVEN,
+    parts: &[
+        Part::Lines(&["invoke 0 out (1)"]),
+        Part::Frames(0, 6, FIVE),
+        Part::Ticks(FIVE),
+        Part::Frames(11, 16, FIVE),
+        Part::Ticks(FIVE),
+        Part::Frames(16, 21, FIVE),
+        Part::Ticks(FIVE),
+        Part::Frames(21, 31, FIVE),
+        Part::Ticks(FIVE),
+        Part::Lines(&["flush"]),
+    ],
+    refused: None,
+    checks: &[
+        Check::Sent(VIEW_CHANGE, 20),
+        Check::Sent(NEW_VIEW, 2),
+        Check::SentBy(4, NEW_VIEW, 1),
+        Check::Execute(&[0, 3, 4, 5, 6], &[(1, 1)]),
+        Check::Accepts(&[(0, 1, "done")]),
+    ],
+};
 
 #[test]
 fn a_view_change_over_view_changes(rt: HostRuntime) {
-    assert!(rt; is_prepared_twice(rt.alloc()));
-    assert!(rt; is_executed_in_view_4(rt.alloc()));
+    assert!(rt; comes_out(rt.alloc(), &PREPARED_TWICE));
+    assert!(rt; comes_out(rt.alloc(), &EXECUTED_IN_VIEW_4));
 }

@@ -1,15 +1,15 @@
 //! Walks in which replicas 0, 1 and 2 carry the calls of client 0, and replica 3 gets nothing of them. It then fetches
-//! the state that they came to.
+//! the state that they came to. Each second number has a checkpoint.
 
-use crate::worlds::{put_steps, report_of, world_of_period};
+use crate::frames::party_of;
+use crate::worlds::put_steps;
 use schedule_text::Step;
-use schedule_world::Report;
 use std::alloc::Global;
-use terms::{ClientId, NoMemory, Party, ReplicaId};
+use terms::NoMemory;
 
 // What comes of a call that replicas 0, 1 and 2 carry: how many frames were made behind the request, and which replica
 // gets the frame. These are the request, the pre-prepare, the prepares of 1 and 2, and the commits of 2, 0 and 1.
-static CARRIED: [(u64, u8); 13] = [
+static CARRIED: [(u64, u16); 13] = [
     (0, 0),
     (1, 1),
     (1, 2),
@@ -25,125 +25,160 @@ static CARRIED: [(u64, u8); 13] = [
     (6, 2),
 ];
 
-// The replies of 1, 0 and 2, of a number without a checkpoint and of one with it, where each reply is followed by one.
-static REPLIES: [u64; 3] = [7, 8, 9];
+// The number of client 0, which gets the replies of 1, 0 and 2: of a number without a checkpoint, and of one with it,
+// where each reply is followed by one.
+static REPLIES: [(u64, u16); 3] = [(7, 256), (8, 256), (9, 256)];
 
-static REPLIES_BEFORE: [u64; 3] = [7, 9, 11];
+static REPLIES_BEFORE: [(u64, u16); 3] = [(7, 256), (9, 256), (11, 256)];
 
-static CHECKPOINTS: [u64; 3] = [8, 10, 12];
+static CARRIED_CHECKPOINTS: [(u64, u16); 6] = [(8, 0), (8, 2), (10, 1), (10, 2), (12, 0), (12, 1)];
 
-static CARRIED_CHECKPOINTS: [(u64, u8); 6] = [(8, 0), (8, 2), (10, 1), (10, 2), (12, 0), (12, 1)];
+static CHECKPOINTS: [(u64, u16); 3] = [(8, 3), (10, 3), (12, 3)];
 
-/// Steps, how many frames they make, and how many of these the last request has in front of it.
-#[derive(Drop)]
-pub struct Walk {
-    pub steps: Vec<Step>,
-    pub made: u64,
-    called: u64,
-}
-
-impl Walk {
-    pub fn new(alloc: Global) -> Walk {
-        Walk {
-            steps: Vec::new(alloc),
-            made: 0,
-            called: 0,
-        }
-    }
-
-    /// The steps of these lines, which make so many frames, if each line is a step.
-    pub fn put_lines(
-        &mut self,
-        alloc: Global,
-        lines: &[&str],
-        made: u64,
-    ) -> Result<bool, NoMemory> {
-        self.made = self.made.saturating_add(made);
-        put_steps(alloc, lines, &mut self.steps)
-    }
-
-    pub fn put(&mut self, frame: u64, party: Party) -> Result<(), NoMemory> {
-        self.steps.push(Step::Deliver { frame, party })?;
-        Ok(())
-    }
-
-    fn put_behind(&mut self, behind: u64, party: Party) -> Result<(), NoMemory> {
-        self.put(self.called.saturating_add(behind), party)
-    }
-
-    fn put_all(&mut self, rows: &[(u64, u8)]) -> Result<(), NoMemory> {
-        for (behind, replica) in rows {
-            self.put_behind(*behind, Party::Replica(ReplicaId(*replica)))?;
-        }
-        Ok(())
-    }
-
-    fn put_replies(&mut self, replies: &[u64]) -> Result<(), NoMemory> {
-        for behind in replies {
-            self.put_behind(*behind, Party::Client(ClientId { number: 0 }))?;
-        }
-        Ok(())
-    }
-
-    // The call of this line, and all phases of it.
-    fn call(&mut self, alloc: Global, line: &str, made: u64) -> Result<bool, NoMemory> {
-        self.called = self.made;
-        if !self.put_lines(alloc, &[line], made)? {
-            return Ok(false);
-        }
-        self.put_all(&CARRIED)?;
-        Ok(true)
-    }
-
-    /// A call, and what comes of it where its number has no checkpoint.
-    pub fn carry(&mut self, alloc: Global, line: &str) -> Result<bool, NoMemory> {
-        if !self.call(alloc, line, 10)? {
-            return Ok(false);
-        }
-        self.put_replies(&REPLIES)?;
-        Ok(true)
-    }
-
+/// What comes next in a walk.
+pub enum Leg<'a> {
+    /// The steps of these lines, which make so many frames.
+    Lines(&'a [&'a str], u64),
+    /// The call of this line, which replicas 0, 1 and 2 carry, where its number has no checkpoint.
+    Carry(&'a str),
     /// The same where it has one.
-    pub fn carry_to_checkpoint(&mut self, alloc: Global, line: &str) -> Result<bool, NoMemory> {
-        if !self.call(alloc, line, 13)? {
-            return Ok(false);
-        }
-        self.put_replies(&REPLIES_BEFORE)?;
-        self.put_all(&CARRIED_CHECKPOINTS)?;
-        Ok(true)
-    }
-
+    CarryToCheckpoint(&'a str),
     /// Replica 3 gets the checkpoints that the last call came to, and asks for the root's digests.
-    pub fn tell_checkpoints(&mut self) -> Result<(), NoMemory> {
-        for &behind in &CHECKPOINTS {
-            self.put_behind(behind, Party::Replica(ReplicaId(3)))?;
-        }
-        Ok(())
-    }
+    TellCheckpoints,
+    /// So often replica 0 gets what replica 3 asks for, and replica 3 gets the answer.
+    Fetch(usize),
+    /// Replica 0 answers once more, and the answer is held back.
+    HoldBack,
+    /// It comes.
+    ComeLate,
+    /// The call of this line, whose request replica 3 alone gets.
+    Ask(&'a str),
+}
 
-    /// Replica 0 gets what replica 3 asks for, and answers.
-    pub fn answer(&mut self) -> Result<(), NoMemory> {
-        self.put(self.made, Party::Replica(ReplicaId(0)))?;
-        self.made = self.made.saturating_add(2);
-        Ok(())
-    }
+// How many frames were made, how many of these the last request has in front of it, and the number of the one that is
+// held back.
+#[derive(Clone, Copy)]
+struct Counts {
+    made: u64,
+    called: u64,
+    held_back: u64,
+}
 
-    /// So many answers, each of which comes to replica 3.
-    pub fn fetch(&mut self, parts: usize) -> Result<(), NoMemory> {
-        for _ in 0..parts {
-            self.answer()?;
-            self.put(self.made.saturating_sub(1), Party::Replica(ReplicaId(3)))?;
+fn put(frame: u64, party: u16, steps: &mut Vec<Step>) -> Result<bool, NoMemory> {
+    let party = party_of(party);
+    steps.push(Step::Deliver { frame, party })?;
+    Ok(true)
+}
+
+// The frames that were made so far behind this one.
+fn put_behind(called: u64, rows: &[(u64, u16)], steps: &mut Vec<Step>) -> Result<bool, NoMemory> {
+    for (behind, party) in rows {
+        put(called.saturating_add(*behind), *party, steps)?;
+    }
+    Ok(true)
+}
+
+// The call of this line, which makes so many frames, and all phases of it up to the replies.
+fn carry(
+    alloc: Global,
+    line: &str,
+    made: u64,
+    counts: &mut Counts,
+    steps: &mut Vec<Step>,
+) -> Result<bool, NoMemory> {
+    counts.called = counts.made;
+    counts.made = counts.made.saturating_add(made);
+    if !put_steps(alloc, &[line], steps)? {
+        return Ok(false);
+    }
+    put_behind(counts.called, &CARRIED, steps)
+}
+
+fn carry_on(
+    alloc: Global,
+    line: &str,
+    counts: &mut Counts,
+    steps: &mut Vec<Step>,
+) -> Result<bool, NoMemory> {
+    if !carry(alloc, line, 10, counts, steps)? {
+        return Ok(false);
+    }
+    put_behind(counts.called, &REPLIES, steps)
+}
+
+fn carry_to_checkpoint(
+    alloc: Global,
+    line: &str,
+    counts: &mut Counts,
+    steps: &mut Vec<Step>,
+) -> Result<bool, NoMemory> {
+    if !carry(alloc, line, 13, counts, steps)? {
+        return Ok(false);
+    }
+    put_behind(counts.called, &REPLIES_BEFORE, steps)?;
+    put_behind(counts.called, &CARRIED_CHECKPOINTS, steps)
+}
+
+// Replica 0 gets what replica 3 asks for, and answers.
+fn answer(counts: &mut Counts, steps: &mut Vec<Step>) -> Result<bool, NoMemory> {
+    let asked = counts.made;
+    counts.made = asked.saturating_add(2);
+    counts.held_back = asked.saturating_add(1);
+    put(asked, 0, steps)
+}
+
+fn fetch(parts: usize, counts: &mut Counts, steps: &mut Vec<Step>) -> Result<bool, NoMemory> {
+    for _ in 0..parts {
+        answer(counts, steps)?;
+        put(counts.made.saturating_sub(1), 3, steps)?;
+    }
+    Ok(true)
+}
+
+fn ask(
+    alloc: Global,
+    line: &str,
+    counts: &Counts,
+    steps: &mut Vec<Step>,
+) -> Result<bool, NoMemory> {
+    if !put_steps(alloc, &[line], steps)? {
+        return Ok(false);
+    }
+    put(counts.made, 3, steps)
+}
+
+fn put_leg(
+    alloc: Global,
+    leg: &Leg<'_>,
+    counts: &mut Counts,
+    steps: &mut Vec<Step>,
+) -> Result<bool, NoMemory> {
+    match *leg {
+        Leg::Lines(lines, made) => {
+            counts.made = counts.made.saturating_add(made);
+            put_steps(alloc, lines, steps)
         }
-        Ok(())
+        Leg::Carry(line) => carry_on(alloc, line, counts, steps),
+        Leg::CarryToCheckpoint(line) => carry_to_checkpoint(alloc, line, counts, steps),
+        Leg::TellCheckpoints => put_behind(counts.called, &CHECKPOINTS, steps),
+        Leg::Fetch(parts) => fetch(parts, counts, steps),
+        Leg::HoldBack => answer(counts, steps),
+        Leg::ComeLate => put(counts.held_back, 3, steps),
+        Leg::Ask(line) => ask(alloc, line, counts, steps),
     }
 }
 
-/// The report of a walk that was put together, if it was. Each second number has a checkpoint.
-pub fn report_of_walk(alloc: Global, put: Result<bool, NoMemory>, walk: &Walk) -> Option<Report> {
-    let config = world_of_period(alloc, 1, 2, &[], &[])?;
-    match put {
-        Ok(true) => report_of(alloc, &config, walk.steps.as_slice()),
-        _ => None,
+/// The steps of a walk.
+pub fn put_walk(alloc: Global, legs: &[Leg<'_>], steps: &mut Vec<Step>) -> Result<bool, NoMemory> {
+    let mut counts = Counts {
+        made: 0,
+        called: 0,
+        held_back: 0,
+    };
+    for leg in legs {
+        if !put_leg(alloc, leg, &mut counts, steps)? {
+            return Ok(false);
+        }
     }
+    Ok(true)
 }

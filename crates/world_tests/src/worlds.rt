@@ -1,51 +1,182 @@
-//! Worlds of four replicas, of which one may be faulty, and runs of schedules in them.
+//! Worlds of replicas and clients, of which some may be faulty, and the steps of lines.
 
 use events::Config;
 use schedule_text::{Step, read_step};
-use schedule_world::{Report, run};
 use std::alloc::Global;
-use std::ops::Range;
-use terms::{NoMemory, Party, ReplicaId};
+use terms::NoMemory;
 use test_bytes::FRAME_SEED;
 
-/// A world of so many clients, in which these are faulty, with a checkpoint at each multiple of the period.
-pub fn world_of_period(
-    alloc: Global,
-    clients: u16,
-    period: u8,
-    faulty_replicas: &[u16],
-    faulty_clients: &[u16],
-) -> Option<Config> {
-    let faulty_replicas = Vec::from_slice(alloc, faulty_replicas).ok()?;
-    let faulty_clients = Vec::from_slice(alloc, faulty_clients).ok()?;
+/// How many replicas may be faulty, how many clients there are, at multiples of which period there is a checkpoint, and
+/// who is faulty.
+#[derive(Clone, Copy)]
+pub struct World<'a> {
+    pub faults: u8,
+    pub clients: u16,
+    pub period: u8,
+    pub faulty_replicas: &'a [u16],
+    pub faulty_clients: &'a [u16],
+}
+
+// The worlds of the tables, of four replicas where nothing else is said. They are constants since one static can't name
+// another one; no function names them.
+
+/// All are correct.
+pub const ONE_CLIENT: World<'static> = World {
+    faults: 1,
+    clients: 1,
+    period: 16,
+    faulty_replicas: &[],
+    faulty_clients: &[],
+};
+
+pub const TWO_CLIENTS: World<'static> = World {
+    faults: 1,
+    clients: 2,
+    period: 16,
+    faulty_replicas: &[],
+    faulty_clients: &[],
+};
+
+pub const TWENTY_CLIENTS: World<'static> = World {
+    faults: 1,
+    clients: 20,
+    period: 16,
+    faulty_replicas: &[],
+    faulty_clients: &[],
+};
+
+/// Each second number has a checkpoint.
+pub const ONE_CLIENT_OF_PERIOD_2: World<'static> = World {
+    faults: 1,
+    clients: 1,
+    period: 2,
+    faulty_replicas: &[],
+    faulty_clients: &[],
+};
+
+pub const TWO_CLIENTS_OF_PERIOD_2: World<'static> = World {
+    faults: 1,
+    clients: 2,
+    period: 2,
+    faulty_replicas: &[],
+    faulty_clients: &[],
+};
+
+pub const THREE_CLIENTS_OF_PERIOD_1: World<'static> = World {
+    faults: 1,
+    clients: 3,
+    period: 1,
+    faulty_replicas: &[],
+    faulty_clients: &[],
+};
+
+/// Replica 0 is faulty.
+pub const PRIMARY_AND_ONE_CLIENT: World<'static> = World {
+    faults: 1,
+    clients: 1,
+    period: 16,
+    faulty_replicas: &[0],
+    faulty_clients: &[],
+};
+
+pub const PRIMARY_AND_TWO_CLIENTS: World<'static> = World {
+    faults: 1,
+    clients: 2,
+    period: 16,
+    faulty_replicas: &[0],
+    faulty_clients: &[],
+};
+
+/// Replica 3 is faulty.
+pub const BACKUP_AND_ONE_CLIENT: World<'static> = World {
+    faults: 1,
+    clients: 1,
+    period: 16,
+    faulty_replicas: &[3],
+    faulty_clients: &[],
+};
+
+pub const BACKUP_AND_TWO_CLIENTS: World<'static> = World {
+    faults: 1,
+    clients: 2,
+    period: 16,
+    faulty_replicas: &[3],
+    faulty_clients: &[],
+};
+
+/// Client 1 of two is faulty.
+pub const CLIENT: World<'static> = World {
+    faults: 1,
+    clients: 2,
+    period: 16,
+    faulty_replicas: &[],
+    faulty_clients: &[1],
+};
+
+pub const CLIENT_OF_PERIOD_1: World<'static> = World {
+    faults: 1,
+    clients: 2,
+    period: 1,
+    faulty_replicas: &[],
+    faulty_clients: &[1],
+};
+
+pub const CLIENT_OF_PERIOD_2: World<'static> = World {
+    faults: 1,
+    clients: 2,
+    period: 2,
+    faulty_replicas: &[],
+    faulty_clients: &[1],
+};
+
+/// Client 1 of two is faulty, and a replica.
+pub const PRIMARY_AND_CLIENT: World<'static> = World {
+    faults: 1,
+    clients: 2,
+    period: 16,
+    faulty_replicas: &[0],
+    faulty_clients: &[1],
+};
+
+pub const BACKUP_AND_CLIENT: World<'static> = World {
+    faults: 1,
+    clients: 2,
+    period: 16,
+    faulty_replicas: &[3],
+    faulty_clients: &[1],
+};
+
+/// Seven replicas, of which two are faulty, and say nothing.
+pub const SEVEN: World<'static> = World {
+    faults: 2,
+    clients: 1,
+    period: 16,
+    faulty_replicas: &[1, 2],
+    faulty_clients: &[],
+};
+
+/// Ten replicas, of which the last is faulty.
+pub const TEN: World<'static> = World {
+    faults: 3,
+    clients: 1,
+    period: 16,
+    faulty_replicas: &[9],
+    faulty_clients: &[],
+};
+
+/// The configuration of a world.
+pub fn config_of(alloc: Global, world: &World<'_>) -> Option<Config> {
+    let faulty_replicas = Vec::from_slice(alloc, world.faulty_replicas).ok()?;
+    let faulty_clients = Vec::from_slice(alloc, world.faulty_clients).ok()?;
     Config::new(
-        1,
-        clients,
+        world.faults,
+        world.clients,
         FRAME_SEED,
-        period,
+        world.period,
         faulty_replicas,
         faulty_clients,
     )
     .ok()
-}
-
-/// That of the greatest period.
-pub fn world(
-    alloc: Global,
-    clients: u16,
-    faulty_replicas: &[u16],
-    faulty_clients: &[u16],
-) -> Option<Config> {
-    world_of_period(alloc, clients, 16, faulty_replicas, faulty_clients)
-}
-
-/// The steps of these lines, if each of them is one.
-pub fn steps_of(alloc: Global, lines: &[&str]) -> Option<Vec<Step>> {
-    let mut steps = Vec::new(alloc);
-    match put_steps(alloc, lines, &mut steps) {
-        Ok(true) => Some(steps),
-        _ => None,
-    }
 }
 
 /// Puts the steps of these lines behind the others, and answers whether each line is one.
@@ -57,53 +188,4 @@ pub fn put_steps(alloc: Global, lines: &[&str], steps: &mut Vec<Step>) -> Result
         }
     }
     Ok(true)
-}
-
-/// Each of these replicas gets each of these frames.
-pub fn put_deliveries(
-    frames: Range<u64>,
-    replicas: &[u8],
-    steps: &mut Vec<Step>,
-) -> Result<(), NoMemory> {
-    for frame in frames {
-        for replica in replicas {
-            let party = Party::Replica(ReplicaId(*replica));
-            steps.push(Step::Deliver { frame, party })?;
-        }
-    }
-    Ok(())
-}
-
-/// Time goes by at each of these replicas.
-pub fn put_ticks(replicas: &[u8], steps: &mut Vec<Step>) -> Result<(), NoMemory> {
-    for replica in replicas {
-        let party = Party::Replica(ReplicaId(*replica));
-        steps.push(Step::Tick { party })?;
-    }
-    Ok(())
-}
-
-/// What the steps come to.
-pub fn report_of(alloc: Global, config: &Config, steps: &[Step]) -> Option<Report> {
-    run(alloc, config, steps).ok()
-}
-
-/// What comes of steps that were put together, if they were.
-pub fn report_of_put(
-    alloc: Global,
-    config: &Config,
-    put: Result<bool, NoMemory>,
-    steps: &[Step],
-) -> Option<Report> {
-    match put {
-        Ok(true) => report_of(alloc, config, steps),
-        _ => None,
-    }
-}
-
-/// What the lines come to where so many clients and all others are correct.
-pub fn report_of_lines(alloc: Global, clients: u16, lines: &[&str]) -> Option<Report> {
-    let config = world(alloc, clients, &[], &[])?;
-    let steps = steps_of(alloc, lines)?;
-    report_of(alloc, &config, steps.as_slice())
 }
