@@ -5,12 +5,15 @@ use std::alloc::{AllocError, Global};
 use std::test::Fail;
 use test_bytes::read_op;
 use tuple_codec::Op;
-use tuple_tree::Template;
 
 // The operation of these bytes is applied, at the second try where memory ran out at the first one.
 fn is_done(space: &mut Space, alloc: Global, op: &[u8]) -> bool {
     match read_op(alloc, op) {
-        Some(op) => is_applied(space, &op),
+        Some(op) => {
+            let is_done = is_applied(space, &op);
+            drop(op);
+            is_done
+        }
         None => false,
     }
 }
@@ -41,52 +44,78 @@ fn out_pair(alloc: Global, first: u8, i: u8) -> Result<Vec<u8>, AllocError> {
     Ok(op)
 }
 
+fn put_pair(space: &mut Space, alloc: Global, first: u8, i: u8) -> Result<(), AllocError> {
+    let op = out_pair(alloc, first, i)?;
+    let is_put = is_done(space, alloc, &op);
+    drop(op);
+    if is_put { Ok(()) } else { Err(AllocError) }
+}
+
 // 100 tuples `(1 i)`, 100 tuples `(2 i)` and one `(1)`.
-fn many(alloc: Global) -> Result<Space, AllocError> {
-    let mut space = Space::new(alloc);
-    for first in 1..3 {
-        for i in 0..100 {
-            let op = out_pair(alloc, first, i)?;
-            if !is_done(&mut space, alloc, &op) {
-                return Err(AllocError);
-            }
-        }
+fn put_many(space: &mut Space, alloc: Global) -> Result<(), AllocError> {
+    for i in 0..100 {
+        put_pair(space, alloc, 1, i)?;
     }
-    if !is_done(&mut space, alloc, b"\x21\x01\x01\0\0\0\0\0\0\0\x01") {
-        return Err(AllocError);
+    for i in 0..100 {
+        put_pair(space, alloc, 2, i)?;
     }
-    Ok(space)
+    if is_done(space, alloc, b"\x21\x01\x01\0\0\0\0\0\0\0\x01") {
+        Ok(())
+    } else {
+        Err(AllocError)
+    }
 }
 
 // How many candidates the template of an `rdp` of these bytes has.
 fn candidates(space: &Space, alloc: Global, rdp: &[u8]) -> Option<usize> {
     match read_op(alloc, rdp) {
-        Some(Op::Rdp(template)) => Some(candidates_of(space, &template)),
+        Some(op) => {
+            let count = candidates_of(space, &op);
+            drop(op);
+            count
+        }
+        None => None,
+    }
+}
+
+fn candidates_of(space: &Space, op: &Op<Global>) -> Option<usize> {
+    match op {
+        Op::Rdp(template) => Some(space.candidates(template).len()),
         _ => None,
     }
 }
 
-fn candidates_of(space: &Space, template: &Template<Global>) -> usize {
-    space.candidates(template).len()
+// An `rdp`, and how many candidates it has among the many.
+static CANDIDATES: [(&[u8], usize); 4] = [
+    // (1 *)
+    (b"\x22\x02\x01\0\0\0\0\0\0\0\x01\x10", 100),
+    // (* *)
+    (b"\x22\x02\x10\x10", 200),
+    // (*)
+    (b"\x22\x01\x10", 1),
+    // ()
+    (b"\x22\0", 0),
+];
+
+// The first row with another count, and that count.
+fn first_wrong(space: &Space, alloc: Global) -> Option<(usize, Option<usize>)> {
+    for (number, &(rdp, count)) in CANDIDATES.iter().enumerate() {
+        let found = candidates(space, alloc, rdp);
+        if found != Some(count) {
+            return Some((number, found));
+        }
+    }
+    None
 }
 
 #[test]
 fn candidates_by_length_and_first_value(rt: HostRuntime) -> Result<(), Fail> {
-    let space = many(rt.alloc())?;
-    // (1 *)
-    assert_eq!(rt;
-        candidates(&space, rt.alloc(), b"\x22\x02\x01\0\0\0\0\0\0\0\x01\x10"),
-        Some(100)
-    );
-    // (* *)
-    assert_eq!(rt;
-        candidates(&space, rt.alloc(), b"\x22\x02\x10\x10"),
-        Some(200)
-    );
-    // (*)
-    assert_eq!(rt; candidates(&space, rt.alloc(), b"\x22\x01\x10"), Some(1));
-    // ()
-    assert_eq!(rt; candidates(&space, rt.alloc(), b"\x22\0"), Some(0));
+    let mut space = Space::new(rt.alloc());
+    let put = put_many(&mut space, rt.alloc());
+    let wrong = first_wrong(&space, rt.alloc());
+    drop(space);
+    put?;
+    assert_eq!(rt; wrong, None);
     Ok(())
 }
 
@@ -103,14 +132,34 @@ fn is_watched(watched: &mut Watched, op: &Op<Global>) -> bool {
     false
 }
 
+fn is_put(watched: &mut Watched, alloc: Global, op: &[u8]) -> bool {
+    match read_op(alloc, op) {
+        Some(op) => {
+            let is_put = is_watched(watched, &op);
+            drop(op);
+            is_put
+        }
+        None => false,
+    }
+}
+
+fn is_page_0_touched_alone(watched: &Watched) -> bool {
+    for page in 0..PAGES {
+        if watched.touched(page) != (page == 0) {
+            return false;
+        }
+    }
+    true
+}
+
 // In a new space after `untouch` and `out (1)`, page 0 alone is touched.
 #[test]
 fn a_page_is_touched(rt: HostRuntime) {
     let mut watched = Watched::of(Space::new(rt.alloc()));
     watched.untouch();
-    let one = read_op(rt.alloc(), b"\x21\x01\x01\0\0\0\0\0\0\0\x01");
-    assert!(rt; one.is_some_and(|op| is_watched(&mut watched, &op)));
-    for page in 0..PAGES {
-        assert_eq!(rt; watched.touched(page), page == 0);
-    }
+    let is_put = is_put(&mut watched, rt.alloc(), b"\x21\x01\x01\0\0\0\0\0\0\0\x01");
+    let is_touched = is_page_0_touched_alone(&watched);
+    drop(watched);
+    assert!(rt; is_put);
+    assert!(rt; is_touched);
 }

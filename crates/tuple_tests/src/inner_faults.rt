@@ -1,18 +1,11 @@
 //! Bytes that are whole but for one inner fault. The answer is that they are malformed, with plenty of memory and with
 //! none.
 
+use crate::items::{Sort, read};
 use linked_list_allocator::LocalHeap;
 use std::alloc::Allocator;
 use std::test::Fail;
-use tuple_codec::{Bad, decode_op, decode_result, decode_template, decode_tuple};
-
-#[derive(Clone, Copy)]
-enum Sort {
-    Tuple,
-    Template,
-    Op,
-    Answer,
-}
+use tuple_codec::Bad;
 
 type Row<'a> = (Sort, &'a [u8]);
 
@@ -118,34 +111,43 @@ static WHOLE: [Row<'static>; 7] = [
 ];
 
 // Why the bytes aren't read; `None` where they are.
-fn refusal<A: Allocator + Clone>(alloc: A, (sort, bytes): Row<'_>) -> Option<Bad> {
-    match sort {
-        Sort::Tuple => decode_tuple(alloc, bytes).err(),
-        Sort::Template => decode_template(alloc, bytes).err(),
-        Sort::Op => decode_op(alloc, bytes).err(),
-        Sort::Answer => decode_result(alloc, bytes).err(),
+fn refusal<A: Allocator>(alloc: &A, (sort, bytes): Row<'_>) -> Option<Bad> {
+    match read(alloc, sort, bytes) {
+        Ok((item, _len)) => {
+            drop(item);
+            None
+        }
+        Err(bad) => Some(bad),
     }
+}
+
+// Why the first row isn't read that is not as expected. What is expected, where each row is.
+fn refusal_of_all<A: Allocator>(alloc: &A, rows: &[Row<'_>], expected: Option<Bad>) -> Option<Bad> {
+    for &row in rows {
+        let found = refusal(alloc, row);
+        if found != expected {
+            return found;
+        }
+    }
+    expected
 }
 
 #[test]
 fn inner_faults_with_plenty_of_memory(rt: HostRuntime) {
-    for &row in &FAULTS {
-        assert_eq!(rt; refusal(rt.alloc(), row), Some(Bad::Malformed));
-    }
-    for &row in &WHOLE {
-        assert_eq!(rt; refusal(rt.alloc(), row), None);
-    }
+    let alloc = rt.alloc();
+    let faulty = refusal_of_all(&alloc, FAULTS.as_slice(), Some(Bad::Malformed));
+    assert!(rt; faulty == Some(Bad::Malformed));
+    assert_eq!(rt; refusal_of_all(&alloc, WHOLE.as_slice(), None), None);
 }
 
 // A heap of no bytes refuses whatever it is asked for.
 #[test]
 fn inner_faults_without_memory(rt: HostRuntime) -> Result<(), Fail> {
     let heap = LocalHeap::new(rt.alloc(), 0)?;
-    for &row in &FAULTS {
-        assert_eq!(rt; refusal(&heap, row), Some(Bad::Malformed));
-    }
-    for &row in &WHOLE {
-        assert_eq!(rt; refusal(&heap, row), Some(Bad::NoMemory));
-    }
+    let faulty = refusal_of_all(&heap, FAULTS.as_slice(), Some(Bad::Malformed));
+    let whole = refusal_of_all(&heap, WHOLE.as_slice(), Some(Bad::NoMemory));
+    drop(heap);
+    assert!(rt; faulty == Some(Bad::Malformed));
+    assert!(rt; whole == Some(Bad::NoMemory));
     Ok(())
 }

@@ -9,6 +9,8 @@ mod candidates;
 #[cfg(test)]
 mod inner_faults;
 #[cfg(test)]
+mod items;
+#[cfg(test)]
 mod operations;
 #[cfg(test)]
 mod refusals;

@@ -1,8 +1,10 @@
 //! Worked rows of the grammar of operations and answers.
 
+use crate::items::{Item, Sort, read, write};
 use std::alloc::Global;
 use std::test::Fail;
-use tuple_codec::{Bad, decode_op, decode_result, encode_op, encode_result, is_op, is_result};
+use terms::NoMemory;
+use tuple_codec::{Bad, is_op, is_result};
 
 static ROWS: [&[u8]; 10] = [
     // out (1 "a")
@@ -28,31 +30,33 @@ static ROWS: [&[u8]; 10] = [
 // All of () and (true)
 const ALL: &[u8] = b"\x35\x02\x00\x01\x04\x01";
 
-fn comes_back(alloc: Global, row: &[u8]) -> Result<bool, Bad> {
-    let (op, len) = decode_op(alloc, row)?;
+fn is_written(alloc: Global, item: &Item<Global>, row: &[u8]) -> Result<bool, NoMemory> {
     let mut out = Vec::new(alloc);
-    encode_op(&op, &mut out)?;
-    Ok(len == row.len() && out.as_slice() == row)
+    let written = write(item, &mut out);
+    let is_right = out.as_slice() == row;
+    drop(out);
+    written?;
+    Ok(is_right)
+}
+
+fn comes_back(alloc: Global, sort: Sort, row: &[u8]) -> Result<bool, Bad> {
+    let (item, len) = read(alloc, sort, row)?;
+    let is_right = is_written(alloc, &item, row);
+    drop(item);
+    Ok(is_right? && len == row.len())
 }
 
 #[test]
 fn operations_come_back(rt: HostRuntime) -> Result<(), Fail> {
     for &row in &ROWS {
-        assert!(rt; comes_back(rt.alloc(), row)?);
+        assert!(rt; comes_back(rt.alloc(), Sort::Op, row)?);
     }
     Ok(())
 }
 
-fn answer_comes_back(alloc: Global, row: &[u8]) -> Result<bool, Bad> {
-    let (answer, len) = decode_result(alloc, row)?;
-    let mut out = Vec::new(alloc);
-    encode_result(&answer, &mut out)?;
-    Ok(len == row.len() && out.as_slice() == row)
-}
-
 #[test]
 fn answers_come_back(rt: HostRuntime) -> Result<(), Fail> {
-    assert!(rt; answer_comes_back(rt.alloc(), ALL)?);
+    assert!(rt; comes_back(rt.alloc(), Sort::Answer, ALL)?);
     assert!(rt; is_result(ALL));
     Ok(())
 }

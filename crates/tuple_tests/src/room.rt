@@ -3,14 +3,12 @@
 //!
 //! A heap hands out blocks of multiples of 16 bytes. So each list of four is one block, and each short string another.
 
+use crate::items::{Item, Sort, copied, read, write};
 use linked_list_allocator::LocalHeap;
 use std::alloc::{AllocError, Global};
 use std::mem::size_of;
 use std::test::Fail;
-use tuple_codec::{
-    Bad, decode_op, decode_result, decode_template, decode_tuple, encode_op, encode_result,
-    encode_template, encode_tuple,
-};
+use tuple_codec::Bad;
 use tuple_tree::{Field, Tuple, Value};
 
 type Heap = &'static LocalHeap;
@@ -23,14 +21,6 @@ const FIELDS: usize = 4 * size_of::<Field<Heap>>();
 const TUPLES: usize = 4 * size_of::<Tuple<Heap>>();
 
 const STRING: usize = 16;
-
-#[derive(Clone, Copy)]
-enum Sort {
-    Tuple,
-    Template,
-    Op,
-    Answer,
-}
 
 // The sort of a value, its spelling, and the room for its parts.
 type Row<'a> = (Sort, &'a [u8], usize);
@@ -76,24 +66,9 @@ static ROWS: [Row<'static>; 6] = [
 
 // Whether what is decoded fills the heap, where there is room for it.
 fn decoded(heap: &LocalHeap, sort: Sort, bytes: &[u8]) -> Result<bool, Bad> {
-    let is_full = match sort {
-        Sort::Tuple => {
-            let (_tuple, _len) = decode_tuple(heap, bytes)?;
-            heap.free() == 0
-        }
-        Sort::Template => {
-            let (_template, _len) = decode_template(heap, bytes)?;
-            heap.free() == 0
-        }
-        Sort::Op => {
-            let (_op, _len) = decode_op(heap, bytes)?;
-            heap.free() == 0
-        }
-        Sort::Answer => {
-            let (_answer, _len) = decode_result(heap, bytes)?;
-            heap.free() == 0
-        }
-    };
+    let (item, _len) = read(heap, sort, bytes)?;
+    let is_full = heap.free() == 0;
+    drop(item);
     Ok(is_full)
 }
 
@@ -116,86 +91,65 @@ fn decoded_values_fill_their_room(rt: HostRuntime) -> Result<(), Fail> {
     Ok(())
 }
 
-// Whether a copy of what ordinary memory holds fills the heap.
-fn copied(alloc: Global, heap: &LocalHeap, sort: Sort, bytes: &[u8]) -> Result<bool, Bad> {
-    let is_full = match sort {
-        Sort::Tuple => {
-            let (tuple, _len) = decode_tuple(alloc, bytes)?;
-            let _copy = tuple.copy_in(heap)?;
-            heap.free() == 0
-        }
-        Sort::Template => {
-            let (template, _len) = decode_template(alloc, bytes)?;
-            let _copy = template.copy_in(heap)?;
-            heap.free() == 0
-        }
-        Sort::Op => {
-            let (op, _len) = decode_op(alloc, bytes)?;
-            let _copy = op.copy_in(heap)?;
-            heap.free() == 0
-        }
-        Sort::Answer => {
-            let (answer, _len) = decode_result(alloc, bytes)?;
-            let _copy = answer.copy_in(heap)?;
-            heap.free() == 0
-        }
-    };
+fn fills_as_copy(heap: &LocalHeap, item: &Item<Global>) -> Result<bool, Bad> {
+    let copy = copied(item, heap)?;
+    let is_full = heap.free() == 0;
+    drop(copy);
     Ok(is_full)
 }
 
+// Whether a copy of what ordinary memory holds fills the heap.
+fn copy_of(alloc: Global, heap: &LocalHeap, sort: Sort, bytes: &[u8]) -> Result<bool, Bad> {
+    let (item, _len) = read(alloc, sort, bytes)?;
+    let is_full = fills_as_copy(heap, &item);
+    drop(item);
+    is_full
+}
+
 // The same of a heap of the row's room.
-fn copy_fills(
-    alloc: Global,
-    (sort, bytes, room): Row<'_>,
-) -> Result<Result<bool, Bad>, AllocError> {
+fn copy_fills(alloc: Global, (sort, bytes, room): Row<'_>) -> Result<bool, Bad> {
     let heap = LocalHeap::new(alloc, room)?;
-    Ok(copied(alloc, &heap, sort, bytes))
+    let is_full = copy_of(alloc, &heap, sort, bytes);
+    drop(heap);
+    is_full
 }
 
 #[test]
 fn copies_fill_their_room(rt: HostRuntime) -> Result<(), Fail> {
     for &row in &ROWS {
-        assert_eq!(rt; copy_fills(rt.alloc(), row)?, Ok(true));
+        assert!(rt; copy_fills(rt.alloc(), row)?);
     }
     Ok(())
 }
 
-// Whether these bytes are written where there is room for them alone.
-fn encoded(alloc: Global, heap: &LocalHeap, sort: Sort, bytes: &[u8]) -> Result<bool, Bad> {
+fn spells(heap: &LocalHeap, item: &Item<Global>, bytes: &[u8]) -> Result<bool, Bad> {
     let mut out = Vec::with_capacity(heap, bytes.len())?;
-    match sort {
-        Sort::Tuple => {
-            let (tuple, _len) = decode_tuple(alloc, bytes)?;
-            encode_tuple(&tuple, &mut out)?;
-        }
-        Sort::Template => {
-            let (template, _len) = decode_template(alloc, bytes)?;
-            encode_template(&template, &mut out)?;
-        }
-        Sort::Op => {
-            let (op, _len) = decode_op(alloc, bytes)?;
-            encode_op(&op, &mut out)?;
-        }
-        Sort::Answer => {
-            let (answer, _len) = decode_result(alloc, bytes)?;
-            encode_result(&answer, &mut out)?;
-        }
-    }
-    Ok(out.as_slice() == bytes)
+    let written = write(item, &mut out);
+    let is_right = out.as_slice() == bytes;
+    drop(out);
+    written?;
+    Ok(is_right)
 }
 
-fn is_written(
-    alloc: Global,
-    (sort, bytes, _room): Row<'_>,
-) -> Result<Result<bool, Bad>, AllocError> {
+// Whether these bytes are written where there is room for them alone.
+fn encoded(alloc: Global, heap: &LocalHeap, sort: Sort, bytes: &[u8]) -> Result<bool, Bad> {
+    let (item, _len) = read(alloc, sort, bytes)?;
+    let is_right = spells(heap, &item, bytes);
+    drop(item);
+    is_right
+}
+
+fn is_written(alloc: Global, (sort, bytes, _room): Row<'_>) -> Result<bool, Bad> {
     let heap = LocalHeap::new(alloc, bytes.len())?;
-    Ok(encoded(alloc, &heap, sort, bytes))
+    let is_right = encoded(alloc, &heap, sort, bytes);
+    drop(heap);
+    is_right
 }
 
 #[test]
 fn encoders_take_nothing_where_there_is_room(rt: HostRuntime) -> Result<(), Fail> {
     for &row in &ROWS {
-        assert_eq!(rt; is_written(rt.alloc(), row)?, Ok(true));
+        assert!(rt; is_written(rt.alloc(), row)?);
     }
     Ok(())
 }

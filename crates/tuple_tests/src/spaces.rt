@@ -13,28 +13,41 @@ type Step<'a> = (&'a [u8], &'a [u8]);
 
 // Whether the operation of these bytes is answered by those. What memory is refused to is tried a second time.
 fn answers(space: &mut Space, alloc: Global, (op, expected): Step<'_>) -> bool {
-    let Some(op) = read_op(alloc, op) else {
-        return false;
-    };
-    match applied(space, &op) {
-        Some(answer) => is_spelled(alloc, &answer, expected),
+    match read_op(alloc, op) {
+        Some(op) => {
+            let answer = applied(space, &op);
+            drop(op);
+            is_answer(alloc, answer, expected)
+        }
         None => false,
     }
 }
 
-fn applied_once(space: &mut Space, op: &Op<Global>) -> Option<Answer<Global>> {
+fn applied_once(space: &mut Space, client: u16, op: &Op<Global>) -> Option<Answer<Global>> {
     if !space.births_left() {
         return None;
     }
-    space.apply(0, op).ok()
+    space.apply(client, op).ok()
 }
 
 fn applied(space: &mut Space, op: &Op<Global>) -> Option<Answer<Global>> {
     let count = space.count();
-    match applied_once(space, op) {
+    match applied_once(space, 0, op) {
         Some(answer) => Some(answer),
-        None if space.count() == count => applied_once(space, op),
+        None if space.count() == count => applied_once(space, 0, op),
         None => None,
+    }
+}
+
+// Whether there is an answer, and it is spelled so.
+fn is_answer(alloc: Global, answer: Option<Answer<Global>>, expected: &[u8]) -> bool {
+    match answer {
+        Some(answer) => {
+            let is_right = is_spelled(alloc, &answer, expected);
+            drop(answer);
+            is_right
+        }
+        None => false,
     }
 }
 
@@ -42,7 +55,9 @@ fn is_spelled(alloc: Global, answer: &Answer<Global>, expected: &[u8]) -> bool {
     let mut out = Vec::new(alloc);
     let is_written = encode_result(answer, &mut out).is_ok()
         || encode_result(answer, &mut out).is_ok();
-    is_written && out.as_slice() == expected
+    let is_right = is_written && out.as_slice() == expected;
+    drop(out);
+    is_right
 }
 
 // The first step that is answered in another way.
@@ -102,19 +117,30 @@ static REFUSED: [Step<'static>; 9] = [
 fn version_1_refuses_wide_numbers(rt: HostRuntime) {
     let mut space = Space::new(rt.alloc());
     let wrong = first_wrong(&mut space, rt.alloc(), REFUSED.as_slice());
-    assert_eq!(rt; wrong, None);
     // rdp (?wide)
-    assert!(rt; peeks(&space, rt.alloc(), b"\x22\x01\x16", b"\x37"));
+    let is_refused = peeks(&space, rt.alloc(), b"\x22\x01\x16", b"\x37");
     // inp (?wide) is no read.
-    assert!(rt; looks_only(&space, rt.alloc(), b"\x23\x01\x16"));
+    let is_no_read = looks_only(&space, rt.alloc(), b"\x23\x01\x16");
+    drop(space);
+    assert_eq!(rt; wrong, None);
+    assert!(rt; is_refused);
+    assert!(rt; is_no_read);
 }
 
 // Whether a look at the space refuses the operation, since it is no read.
 fn looks_only(space: &Space, alloc: Global, op: &[u8]) -> bool {
     match read_op(alloc, op) {
-        Some(op) => matches!(space.peek(&op), Err(PeekFault::NotReadOnly)),
+        Some(op) => {
+            let is_refused = is_no_read(space, &op);
+            drop(op);
+            is_refused
+        }
         None => false,
     }
+}
+
+fn is_no_read(space: &Space, op: &Op<Global>) -> bool {
+    matches!(space.peek(op), Err(PeekFault::NotReadOnly))
 }
 
 // Whether the client's upgrade is answered so, and leaves this version.
@@ -125,34 +151,40 @@ fn upgrades(
     expected: &[u8],
     version: Version,
 ) -> bool {
-    let Some(op) = read_op(alloc, b"\x27") else {
-        return false;
-    };
-    if !space.births_left() {
-        return false;
-    }
-    match space.apply(client, &op) {
-        Ok(answer) => is_spelled(alloc, &answer, expected) && space.version() == version,
-        Err(_) => false,
+    match read_op(alloc, b"\x27") {
+        Some(op) => {
+            let answer = applied_once(space, client, &op);
+            drop(op);
+            is_answer(alloc, answer, expected) && space.version() == version
+        }
+        None => false,
     }
 }
 
 // Done for client 0, and refused to all others.
+fn upgrade_in_turn(space: &mut Space, alloc: Global) -> bool {
+    upgrades(space, alloc, 1, b"\x37", Version::One)
+        && upgrades(space, alloc, 0, b"\x31", Version::Two)
+        && upgrades(space, alloc, 255, b"\x37", Version::Two)
+        && upgrades(space, alloc, 0, b"\x31", Version::Two)
+}
+
 #[test]
 fn client_0_upgrades(rt: HostRuntime) {
     let mut space = Space::new(rt.alloc());
-    assert!(rt; upgrades(&mut space, rt.alloc(), 1, b"\x37", Version::One));
-    assert!(rt; upgrades(&mut space, rt.alloc(), 0, b"\x31", Version::Two));
-    assert!(rt; upgrades(&mut space, rt.alloc(), 255, b"\x37", Version::Two));
-    assert!(rt; upgrades(&mut space, rt.alloc(), 0, b"\x31", Version::Two));
+    let is_right = upgrade_in_turn(&mut space, rt.alloc());
     // An upgrade is no read.
-    assert!(rt; looks_only(&space, rt.alloc(), b"\x27"));
+    let is_no_read = looks_only(&space, rt.alloc(), b"\x27");
+    drop(space);
+    assert!(rt; is_right);
+    assert!(rt; is_no_read);
 }
 
 #[test]
 fn operations_in_ordinary_memory(rt: HostRuntime) {
     let mut space = Space::new(rt.alloc());
     let wrong = first_wrong(&mut space, rt.alloc(), OPERATIONS.as_slice());
+    drop(space);
     assert_eq!(rt; wrong, None);
 }
 
@@ -179,11 +211,12 @@ const BOTH: &[u8] = b"\x35\x02\x01\x01\0\0\0\0\0\0\0\x01\x01\x01\0\0\0\0\0\0\0\x
 
 // Whether a look at the space gives this answer, at the second try where memory ran out at the first one.
 fn peeks(space: &Space, alloc: Global, op: &[u8], expected: &[u8]) -> bool {
-    let Some(op) = read_op(alloc, op) else {
-        return false;
-    };
-    match peeked(space, &op) {
-        Some(answer) => is_spelled(alloc, &answer, expected),
+    match read_op(alloc, op) {
+        Some(op) => {
+            let answer = peeked(space, &op);
+            drop(op);
+            is_answer(alloc, answer, expected)
+        }
         None => false,
     }
 }
@@ -199,7 +232,10 @@ fn peeked(space: &Space, op: &Op<Global>) -> Option<Answer<Global>> {
 fn answers_of_a_script(rt: HostRuntime) {
     let mut space = Space::new(rt.alloc());
     let wrong = first_wrong(&mut space, rt.alloc(), SCRIPT.as_slice());
+    let is_read = peeks(&space, rt.alloc(), READ_ALL, BOTH);
+    let count = space.count();
+    drop(space);
     assert_eq!(rt; wrong, None);
-    assert!(rt; peeks(&space, rt.alloc(), READ_ALL, BOTH));
-    assert_eq!(rt; space.count(), 2);
+    assert!(rt; is_read);
+    assert_eq!(rt; count, 2);
 }

@@ -1,11 +1,9 @@
 //! Calls of the trees and of the codec, which answer whether all was right, or that memory ran out.
 
+use crate::items::{Item, Sort, are_same, copied, read, write};
 use std::alloc::Allocator;
 use terms::NoMemory;
-use tuple_codec::{
-    Bad, decode_op, decode_result, decode_template, decode_tuple, encode_op, encode_result,
-    encode_template, encode_tuple,
-};
+use tuple_codec::Bad;
 use tuple_tree::{Atom, Field, Refusal, Template, Tuple, Value};
 
 // `(1 ("a" x09))`.
@@ -49,10 +47,10 @@ pub fn run<A: Allocator + Clone>(turn: Turn, alloc: A) -> Result<bool, Bad> {
     match turn {
         Turn::Values => values(alloc),
         Turn::Fields => fields(alloc),
-        Turn::Tuple => tuple(alloc, TUPLE.as_slice()),
-        Turn::Template => template(alloc, TEMPLATE.as_slice()),
-        Turn::Op => op(alloc, CAS.as_slice()),
-        Turn::Answer => answer(alloc, ALL.as_slice()),
+        Turn::Tuple => coded(&alloc, Sort::Tuple, TUPLE.as_slice()),
+        Turn::Template => coded(&alloc, Sort::Template, TEMPLATE.as_slice()),
+        Turn::Op => coded(&alloc, Sort::Op, CAS.as_slice()),
+        Turn::Answer => coded(&alloc, Sort::Answer, ALL.as_slice()),
     }
 }
 
@@ -106,34 +104,30 @@ fn spelled<A: Allocator>(
     }
 }
 
-fn tuple<A: Allocator + Clone>(alloc: A, bytes: &[u8]) -> Result<bool, Bad> {
-    let (tuple, len) = decode_tuple(alloc.clone()?, bytes)?;
-    let copy = tuple.copy_in(alloc.clone()?)?;
-    let mut out = Vec::from_elem(alloc, 9u8, 1)?;
-    let encoded = encode_tuple(&copy, &mut out);
-    Ok(spelled(encoded, &out, bytes)? && len == bytes.len() && copy.same(&tuple))
+// The item that these bytes spell, and its copy, which is written as they are.
+fn coded<A: Allocator>(alloc: &A, sort: Sort, bytes: &[u8]) -> Result<bool, Bad> {
+    let (item, len) = read(alloc, sort, bytes)?;
+    let is_right = is_copied(alloc, &item, bytes);
+    drop(item);
+    Ok(is_right? && len == bytes.len())
 }
 
-fn template<A: Allocator + Clone>(alloc: A, bytes: &[u8]) -> Result<bool, Bad> {
-    let (template, len) = decode_template(alloc.clone()?, bytes)?;
-    let copy = template.copy_in(alloc.clone()?)?;
-    let mut out = Vec::from_elem(alloc, 9u8, 1)?;
-    let encoded = encode_template(&copy, &mut out);
-    Ok(spelled(encoded, &out, bytes)? && len == bytes.len() && copy.same(&template))
+fn is_copied<'a, A: Allocator>(
+    alloc: &'a A,
+    item: &Item<&'a A>,
+    bytes: &[u8],
+) -> Result<bool, Bad> {
+    let copy = copied(item, alloc)?;
+    let is_right = is_written(alloc, &copy, bytes);
+    let is_same = are_same(&copy, item);
+    drop(copy);
+    Ok(is_right? && is_same)
 }
 
-fn op<A: Allocator + Clone>(alloc: A, bytes: &[u8]) -> Result<bool, Bad> {
-    let (op, len) = decode_op(alloc.clone()?, bytes)?;
-    let copy = op.copy_in(alloc.clone()?)?;
+fn is_written<A: Allocator>(alloc: A, item: &Item<A>, bytes: &[u8]) -> Result<bool, Bad> {
     let mut out = Vec::from_elem(alloc, 9u8, 1)?;
-    let encoded = encode_op(&copy, &mut out);
-    Ok(spelled(encoded, &out, bytes)? && len == bytes.len() && copy.same(&op))
-}
-
-fn answer<A: Allocator + Clone>(alloc: A, bytes: &[u8]) -> Result<bool, Bad> {
-    let (answer, len) = decode_result(alloc.clone()?, bytes)?;
-    let copy = answer.copy_in(alloc.clone()?)?;
-    let mut out = Vec::from_elem(alloc, 9u8, 1)?;
-    let encoded = encode_result(&copy, &mut out);
-    Ok(spelled(encoded, &out, bytes)? && len == bytes.len() && copy.same(&answer))
+    let encoded = write(item, &mut out);
+    let is_right = spelled(encoded, &out, bytes);
+    drop(out);
+    is_right
 }
