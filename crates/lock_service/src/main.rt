@@ -25,6 +25,9 @@ use std::process::ExitCode;
 use std::sync::Wait;
 use std::thread::Threads;
 
+// Ann, and Ben.
+const CLIENTS: u16 = 2;
+
 // So many entries the journal of the cluster takes at the most. A call of this cluster has about 50.
 const JOURNAL: u32 = 65_536;
 
@@ -46,11 +49,11 @@ fn start<R: Print + Threads + Wait + Copy + Send + 'static>(
     alloc: Global,
 ) -> Result<(), Fault> {
     // Four replicas, of which one may fail; two clients; a checkpoint at each sixteenth number; nobody is known to lie.
-    let config = Config::new(1, 2, SEED, 16, Vec::new(alloc), Vec::new(alloc))?;
+    let config = Config::new(1, CLIENTS, SEED, 16, Vec::new(alloc), Vec::new(alloc))?;
     serve::<Brand, R>(rt, alloc, Opened::new(), &config)
 }
 
-// A cluster has to be finished whatever came of its calls. That joins its threads, and compares what they did.
+// A cluster has to be finished whatever came of its calls, so nothing returns between its start and its end.
 fn serve<N: Naming + Send + Sync + 'static, R: Print + Threads + Wait + Copy + Send + 'static>(
     rt: &R,
     alloc: Global,
@@ -60,35 +63,55 @@ fn serve<N: Naming + Send + Sync + 'static, R: Print + Threads + Wait + Copy + S
     requires config { config.now ≡ N.config }
     requires book { opened ≡ N.book }
 {
-    let mut clients = Vec::with_capacity(alloc, 2)?;
     let mut cluster = Cluster::<N>::start(rt, alloc, opened, config, JOURNAL, Open)?;
-    let mut played = Err(Fault::NoClient);
-    if let (Some(mut ann), Some(mut ben)) = (cluster.client(0), cluster.client(1)) {
-        played = play(rt, alloc, &mut ann, &mut ben);
-        clients.push_reserved(ann);
-        clients.push_reserved(ben);
-    }
-    let finished = cluster.finish(rt, alloc, clients);
-    played?;
-    match finished {
+    let mut clients = Vec::new(alloc);
+    let played = play(rt, alloc, &mut cluster, &mut clients);
+    let finished = finish(rt, alloc, cluster, clients);
+    played.and(finished)
+}
+
+// Joins the threads of the cluster, and compares what they and the clients did.
+fn finish<N: Naming + Send + Sync + 'static, R: Threads + Wait>(
+    rt: &R,
+    alloc: Global,
+    cluster: Cluster<N>,
+    clients: Vec<ClientHandle<N>>,
+) -> Result<(), Fault> {
+    match cluster.finish(rt, alloc, clients) {
         Ok(_run) => Ok(()),
         Err(_fault) => Err(Fault::NotFinished),
     }
 }
 
 // In a service each client would have a thread of its own, and ask again after a while.
-fn play<N: Naming, R: Print + Wait>(
+fn play<N: Naming + Send + Sync + 'static, R: Print + Wait>(
     rt: &R,
     alloc: Global,
-    ann: &mut ClientHandle<N>,
-    ben: &mut ClientHandle<N>,
+    cluster: &mut Cluster<N>,
+    clients: &mut Vec<ClientHandle<N>>,
 ) -> Result<(), Fault> {
+    take_clients(cluster, clients)?;
+    let [ann, ben] = clients.as_mut_slice() else {
+        return Err(Fault::NoClient);
+    };
     let printer = Lock::new("printer");
     ask(rt, alloc, ann, printer, "Ann")?;
     ask(rt, alloc, ben, printer, "Ben")?;
     let_go(rt, alloc, ann, printer, "Ann")?;
     ask(rt, alloc, ben, printer, "Ben")?;
     let_go(rt, alloc, ben, printer, "Ben")
+}
+
+// Takes the handles of all clients, in the order of their numbers.
+fn take_clients<N: Naming + Send + Sync + 'static>(
+    cluster: &mut Cluster<N>,
+    clients: &mut Vec<ClientHandle<N>>,
+) -> Result<(), Fault> {
+    for number in 0..CLIENTS {
+        let client = cluster.client(number).ok_or(Fault::NoClient)?;
+        clients.push(client)?;
+    }
+    Ok(())
 }
 
 fn ask<N: Naming, R: Print + Wait>(
