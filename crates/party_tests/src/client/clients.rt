@@ -5,16 +5,15 @@ ghost use Rattle.wire.specs.Spelling.{IsBody, is_signed};
 ghost use Rattle.wire.specs.Views.{body_data, message_data};
 
 use authenticator::{Ring, SealFault};
-use client_cert::{Client, Event};
+use client_cert::{Client, Event, InvokeFault};
 use events::{Output, Outputs, Stop};
 use hex::FromHex;
 use sha2::{Digest, Sha256};
 use signing::PublicKeys;
 use std::alloc::Global;
-use std::test::Fail;
 use terms::{ClientId, Mode, NoMemory, Number, Party, ReplicaId, Timestamp};
-use test_bytes::seed;
-use tuple_codec::{Answer, Bad, Op, decode_op};
+use test_bytes::{read_op, seed};
+use tuple_codec::{Answer, Op};
 use wire::{Body, Message, Reply};
 
 const CLIENT: ClientId = ClientId { number: 0 };
@@ -39,7 +38,7 @@ pub const RDP_ORDERED: &str = "d945accd23a840f78f80e1e466443cc5c2da8671173325e46
 pub const RD_ALL_READ: &str = "087e3986665aca92c9f278992055c4d77732636a057d251dfd802a008f255ea9";
 
 /// What comes to a client: a replica's reply, with the number of its state, or the time to send again.
-#[derive(Clone, Copy, Debug)]
+#[derive(Clone, Copy)]
 pub enum Input {
     /// Read-only: absent.
     Read(u8, u64),
@@ -55,7 +54,7 @@ pub enum Input {
 }
 
 /// What is given for it.
-#[derive(Clone, Copy, Debug)]
+#[derive(Clone, Copy)]
 pub enum Given<'a> {
     Nothing,
     /// A request to all replicas, by the SHA-256 of its frame.
@@ -72,11 +71,6 @@ pub fn new_client(alloc: Global) -> Result<Box<Client>, NoMemory> {
     let publics = PublicKeys::new(alloc, &seed)?;
     let ring = Ring::new(alloc, &seed, 1, 2);
     Ok(Box::new(alloc, Client::new(CLIENT, 1, ring, publics))?)
-}
-
-pub fn operation(alloc: Global, text: &[u8]) -> Result<Op<Global>, Bad> {
-    let (op, _) = decode_op(alloc, text)?;
-    Ok(op)
 }
 
 fn reply(sender: u8, timestamp: u64, mode: Mode, number: u64, answer: Answer<Global>) -> Body
@@ -120,19 +114,24 @@ fn reply_in(input: Input) -> Option<Body>
     }
 }
 
-fn sealed(alloc: Global, body: &Body) -> Result<Vec<u8>, SealFault>
+fn sealed(alloc: Global, body: &Body) -> Result<Option<Vec<u8>>, SealFault>
     requires body { IsBody (body_data body.now) }
     requires unsigned { is_signed (message_data body.now.message) ≡ false }
 {
     let mut ring = Ring::new(alloc, &seed(), 1, 2);
-    ring.seal(alloc, body, &[Party::Client(CLIENT)])
+    Ok(Some(ring.seal(alloc, body, &[Party::Client(CLIENT)])?))
 }
 
-/// The frame of the reply that comes, if one does.
+/// The frame of the reply that comes, if one does. The body is dropped by a call, as are frames and outputs below: at
+/// the end of a function all kinds of messages are told apart.
 pub fn frame_in(alloc: Global, input: Input) -> Result<Option<Vec<u8>>, SealFault> {
     match reply_in(input) {
         None => Ok(None),
-        Some(body) => Ok(Some(sealed(alloc, &body)?)),
+        Some(body) => {
+            let frame = sealed(alloc, &body);
+            drop(body);
+            frame
+        }
     }
 }
 
@@ -144,10 +143,60 @@ pub fn step(client: &mut Client, alloc: Global, frame: &Option<Vec<u8>>) -> Resu
     }
 }
 
-/// What the client gives for the input.
-pub fn outputs(client: &mut Client, alloc: Global, input: Input) -> Result<Outputs, Fail> {
-    let frame = frame_in(alloc, input)?;
-    Ok(step(client, alloc, &frame)?)
+fn gives_for(
+    client: &mut Client,
+    alloc: Global,
+    frame: &Option<Vec<u8>>,
+    given: Given<'_>,
+) -> Result<bool, NoMemory> {
+    match step(client, alloc, frame) {
+        Ok(outputs) => Ok(is_given(outputs, given)),
+        Err(Stop::NoMemory) => Err(NoMemory),
+        Err(Stop::Stopped) => Ok(false),
+    }
+}
+
+/// Whether the client gives this for the input.
+pub fn gives(
+    client: &mut Client,
+    alloc: Global,
+    (input, given): Row<'_>,
+) -> Result<bool, NoMemory> {
+    match frame_in(alloc, input) {
+        Ok(frame) => {
+            let is_right = gives_for(client, alloc, &frame, given);
+            drop(frame);
+            is_right
+        }
+        Err(SealFault::NoMemory) => Err(NoMemory),
+        Err(SealFault::TooLarge) => Ok(false),
+    }
+}
+
+fn calls(
+    client: &mut Client,
+    alloc: Global,
+    op: Op<Global>,
+    first: &str,
+) -> Result<bool, NoMemory> {
+    match client.invoke(alloc, op) {
+        Ok(outputs) => Ok(is_given(outputs, Given::Asks(first))),
+        Err(InvokeFault::NoMemory) => Err(NoMemory),
+        Err(_) => Ok(false),
+    }
+}
+
+/// Whether a call of the operation of these bytes asks for it by a frame of this digest.
+pub fn asks(
+    client: &mut Client,
+    alloc: Global,
+    text: &[u8],
+    first: &str,
+) -> Result<bool, NoMemory> {
+    match read_op(alloc, text) {
+        Some(op) => calls(client, alloc, op, first),
+        None => Err(NoMemory),
+    }
 }
 
 fn has_digest(frame: &[u8], digits: &str) -> bool {
@@ -162,7 +211,7 @@ fn is_answer(answer: &Answer<Global>, is_done: bool) -> bool {
     }
 }
 
-pub fn are_given(outputs: &[Output], given: Given<'_>) -> bool {
+fn are_given(outputs: &[Output], given: Given<'_>) -> bool {
     match (outputs, given) {
         ([], Given::Nothing) => true,
         ([Output::Send(receivers, frame)], Given::Asks(digits)) => {
@@ -173,4 +222,11 @@ pub fn are_given(outputs: &[Output], given: Given<'_>) -> bool {
         }
         _ => false,
     }
+}
+
+/// Whether these outputs are as told.
+pub fn is_given(outputs: Outputs, given: Given<'_>) -> bool {
+    let is_right = are_given(outputs.as_slice(), given);
+    drop(outputs);
+    is_right
 }

@@ -1,9 +1,10 @@
 //! Which configurations there are, and the entries and outputs of a step.
 
+use crate::answers::holds;
 use events::{Config, Entry, EntryKind};
 use std::alloc::Global;
 use std::test::Fail;
-use terms::{Party, ReplicaId};
+use terms::{NoMemory, Party, ReplicaId};
 
 // Faults, clients and the period, one faulty replica and one faulty client, and whether they make a configuration.
 type Row = (u8, u16, u8, u16, u16, bool);
@@ -19,19 +20,28 @@ static ROWS: [Row; 8] = [
     (1, 1, 1, 0, 1, false),
 ];
 
-fn is_made(alloc: Global, row: Row) -> Result<bool, Fail> {
-    let (faults, clients, period, replica, client, _) = row;
+fn is_as_told(alloc: Global, row: Row) -> Result<bool, NoMemory> {
+    let (faults, clients, period, replica, client, is_made) = row;
     let replicas = Vec::from_slice(alloc, &[replica])?;
     let named = Vec::from_slice(alloc, &[client])?;
-    Ok(Config::new(faults, clients, [0; 32], period, replicas, named).is_ok())
+    let made = Config::new(faults, clients, [0; 32], period, replicas, named);
+    let is_right = made.is_ok() == is_made;
+    drop(made);
+    Ok(is_right)
+}
+
+fn are_as_told(alloc: Global) -> Result<bool, NoMemory> {
+    for &row in &ROWS {
+        if !is_as_told(alloc, row)? {
+            return Ok(false);
+        }
+    }
+    Ok(true)
 }
 
 #[test]
 fn numbers_are_in_range(rt: HostRuntime) -> Result<(), Fail> {
-    for &row in &ROWS {
-        assert!(rt; is_made(rt.alloc(), row)? == row.5);
-    }
-    Ok(())
+    holds(are_as_told(rt.alloc()))
 }
 
 fn tells_parties(config: &Config) -> bool {
@@ -44,13 +54,22 @@ fn tells_parties(config: &Config) -> bool {
         && !config.is_correct_client(258)
 }
 
+fn others_are_correct(alloc: Global) -> Result<bool, NoMemory> {
+    let replicas = Vec::from_slice(alloc, &[3])?;
+    let clients = Vec::from_slice(alloc, &[1])?;
+    match Config::new(1, 2, [0; 32], 16, replicas, clients) {
+        Ok(config) => {
+            let is_right = tells_parties(&config);
+            drop(config);
+            Ok(is_right)
+        }
+        Err(_) => Ok(false),
+    }
+}
+
 #[test]
 fn the_others_are_correct(rt: HostRuntime) -> Result<(), Fail> {
-    let replicas = Vec::from_slice(rt.alloc(), &[3])?;
-    let clients = Vec::from_slice(rt.alloc(), &[1])?;
-    let config = Config::new(1, 2, [0; 32], 16, replicas, clients)?;
-    assert!(rt; tells_parties(&config));
-    Ok(())
+    holds(others_are_correct(rt.alloc()))
 }
 
 fn is_tick(entry: &Entry) -> bool {
@@ -60,9 +79,14 @@ fn is_tick(entry: &Entry) -> bool {
     }
 }
 
-#[test]
-fn entries_say_what_happened(rt: HostRuntime) -> Result<(), Fail> {
+fn entry_says_tick() -> bool {
     let entry = Entry::new(EntryKind::Tick(Party::Replica(ReplicaId(2))));
-    assert!(rt; is_tick(&entry));
-    Ok(())
+    let is_right = is_tick(&entry);
+    drop(entry);
+    is_right
+}
+
+#[test]
+fn entries_say_what_happened(rt: HostRuntime) {
+    assert!(rt; entry_says_tick());
 }

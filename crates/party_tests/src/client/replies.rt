@@ -1,12 +1,14 @@
 //! Which replies end a call, and when a read falls back to an ordered request.
 
+use crate::answers::{all_hold, holds};
 use crate::client::clients::{
-    Given, Input, OUT, OUT_ORDERED, RD_ALL, RD_ALL_READ, RDP, RDP_ORDERED, RDP_READ, Row,
-    are_given, new_client, operation, outputs,
+    Given, Input, OUT, OUT_ORDERED, RD_ALL, RD_ALL_READ, RDP, RDP_ORDERED, RDP_READ, Row, asks,
+    gives, new_client,
 };
 use client_cert::Client;
 use std::alloc::Global;
 use std::test::Fail;
+use terms::NoMemory;
 
 // An operation, its first request, and what comes then.
 pub type Case<'a> = (&'a [u8], &'a str, &'a [Row<'a>]);
@@ -128,12 +130,7 @@ static CASES: [Case<'static>; 4] = [
     ),
 ];
 
-fn gives(client: &mut Client, alloc: Global, (input, given): Row<'_>) -> Result<bool, Fail> {
-    let given_now = outputs(client, alloc, input)?;
-    Ok(are_given(given_now.as_slice(), given))
-}
-
-fn gives_all(client: &mut Client, alloc: Global, rows: &[Row<'_>]) -> Result<bool, Fail> {
+fn gives_all(client: &mut Client, alloc: Global, rows: &[Row<'_>]) -> Result<bool, NoMemory> {
     for row in rows {
         if !gives(client, alloc, *row)? {
             return Ok(false);
@@ -142,30 +139,35 @@ fn gives_all(client: &mut Client, alloc: Global, rows: &[Row<'_>]) -> Result<boo
     Ok(true)
 }
 
-fn asks(client: &mut Client, alloc: Global, text: &[u8], first: &str) -> Result<bool, Fail> {
-    let asked = client.invoke(alloc, operation(alloc, text)?)?;
-    Ok(are_given(asked.as_slice(), Given::Asks(first)))
+fn goes_as_told(alloc: Global, (text, first, rows): Case<'_>) -> Result<bool, NoMemory> {
+    let mut client = new_client(alloc)?;
+    let asked = asks(&mut *client, alloc, text, first);
+    let answer = all_hold(&[asked, gives_all(&mut *client, alloc, rows)]);
+    drop(client);
+    answer
 }
 
-fn goes_as_told(alloc: Global, (text, first, rows): Case<'_>) -> Result<bool, Fail> {
-    let mut client = new_client(alloc)?;
-    Ok(asks(&mut *client, alloc, text, first)? && gives_all(&mut *client, alloc, rows)?)
+fn all_go_as_told(alloc: Global, cases: &[Case<'_>]) -> Result<bool, NoMemory> {
+    for &case in cases {
+        if !goes_as_told(alloc, case)? {
+            return Ok(false);
+        }
+    }
+    Ok(true)
 }
 
 #[test]
 fn replies_count(rt: HostRuntime) -> Result<(), Fail> {
-    for cases in [REPLIES.as_slice(), CASES.as_slice()] {
-        for &case in cases {
-            assert!(rt; goes_as_told(rt.alloc(), case)?, "{:?}", case.2);
-        }
-    }
-    Ok(())
+    holds(all_hold(&[
+        all_go_as_told(rt.alloc(), &REPLIES),
+        all_go_as_told(rt.alloc(), &CASES),
+    ]))
 }
 
 #[test]
 fn reads_are_asked_for_in_order(rt: HostRuntime) -> Result<(), Fail> {
-    for case in [FALL_BACK, RETRIED] {
-        assert!(rt; goes_as_told(rt.alloc(), case)?, "{:?}", case.2);
-    }
-    Ok(())
+    holds(all_hold(&[
+        goes_as_told(rt.alloc(), FALL_BACK),
+        goes_as_told(rt.alloc(), RETRIED),
+    ]))
 }

@@ -1,9 +1,9 @@
 //! Memory refused to a client. In a plain run nothing is refused here; `tools/growths` refuses each growth in turn, and
 //! each test passes at each: where memory runs out the client has stopped, and it gives nothing from then on.
 
+use crate::answers::{all_hold, holds};
 use crate::client::clients::{
-    Given, Input, OUT, OUT_ORDERED, RDP, RDP_READ, Row, are_given, frame_in, new_client, operation,
-    step,
+    Given, Input, OUT, OUT_ORDERED, RDP, RDP_READ, Row, frame_in, is_given, new_client, step,
 };
 use crate::client::replies::{Case, FALL_BACK, REPLIES, RETRIED};
 use authenticator::SealFault;
@@ -12,7 +12,8 @@ use events::Stop;
 use std::alloc::Global;
 use std::test::Fail;
 use terms::NoMemory;
-use tuple_codec::{Bad, Op};
+use test_bytes::read_op;
+use tuple_codec::Op;
 
 static CALLS: [Case<'static>; 2] = [(OUT, OUT_ORDERED, &[]), (RDP, RDP_READ, &[])];
 
@@ -34,13 +35,6 @@ fn made(alloc: Global) -> Result<Box<Client>, NoMemory> {
     }
 }
 
-fn read(alloc: Global, text: &[u8]) -> Result<Op<Global>, Bad> {
-    match operation(alloc, text) {
-        Ok(op) => Ok(op),
-        Err(_) => operation(alloc, text),
-    }
-}
-
 fn reply(alloc: Global, input: Input) -> Result<Option<Vec<u8>>, SealFault> {
     match frame_in(alloc, input) {
         Ok(frame) => Ok(frame),
@@ -54,60 +48,93 @@ fn gives_nothing_more(client: &mut Client, alloc: Global) -> bool {
         && client.step(alloc, Event::Got(b"")).err() == Some(Stop::Stopped)
 }
 
-// Whether the call asks for its operation; none, where the client stops in it.
-fn asks_or_stops(
-    client: &mut Client,
-    alloc: Global,
-    (text, digits, _): Case<'_>,
-) -> Result<Option<bool>, Bad> {
-    let op = read(alloc, text)?;
-    Ok(match client.invoke(alloc, op) {
-        Ok(given) => {
-            Some(are_given(given.as_slice(), Given::Asks(digits)) && !client.is_stopped())
-        }
-        Err(InvokeFault::NoMemory) if gives_nothing_more(client, alloc) => None,
-        Err(_) => Some(false),
-    })
-}
-
-// Whether the input gives this; none, where the client stops in it.
-fn gives_or_stops(
-    client: &mut Client,
-    alloc: Global,
-    (input, given): Row<'_>,
-) -> Result<Option<bool>, SealFault> {
-    let frame = reply(alloc, input)?;
-    Ok(match step(client, alloc, &frame) {
-        Ok(outputs) => Some(are_given(outputs.as_slice(), given) && !client.is_stopped()),
-        Err(Stop::NoMemory) if gives_nothing_more(client, alloc) => None,
-        Err(_) => Some(false),
-    })
-}
-
-// Whether the call and each input behind it give what they give, up to where the client stops.
-fn goes_or_stops(alloc: Global, case: Case<'_>) -> Result<bool, Fail> {
-    let mut client = made(alloc)?;
-    goes_on_or_stops(&mut *client, alloc, case)
-}
-
-fn goes_on_or_stops(client: &mut Client, alloc: Global, case: Case<'_>) -> Result<bool, Fail> {
-    match asks_or_stops(client, alloc, case)? {
-        None => Ok(true),
-        Some(false) => Ok(false),
-        Some(true) => Ok(gives_all_or_stops(client, alloc, case.2)?),
+// None, where the client has stopped.
+fn ends(client: &mut Client, alloc: Global) -> Option<bool> {
+    if gives_nothing_more(client, alloc) {
+        None
+    } else {
+        Some(false)
     }
 }
 
-fn gives_all_or_stops(
+fn calls_or_stops(
     client: &mut Client,
     alloc: Global,
-    rows: &[Row<'_>],
-) -> Result<bool, SealFault> {
+    op: Op<Global>,
+    digits: &str,
+) -> Option<bool> {
+    match client.invoke(alloc, op) {
+        Ok(outputs) => Some(is_given(outputs, Given::Asks(digits)) && !client.is_stopped()),
+        Err(InvokeFault::NoMemory) => ends(client, alloc),
+        Err(_) => Some(false),
+    }
+}
+
+// Whether the call asks for its operation; none, where the client stops in it.
+fn asks_or_stops(client: &mut Client, alloc: Global, (text, digits, _): Case<'_>) -> Option<bool> {
+    match read_op(alloc, text) {
+        Some(op) => calls_or_stops(client, alloc, op, digits),
+        None => Some(false),
+    }
+}
+
+fn steps_or_stops(
+    client: &mut Client,
+    alloc: Global,
+    frame: &Option<Vec<u8>>,
+    given: Given<'_>,
+) -> Option<bool> {
+    match step(client, alloc, frame) {
+        Ok(outputs) => Some(is_given(outputs, given) && !client.is_stopped()),
+        Err(Stop::NoMemory) => ends(client, alloc),
+        Err(Stop::Stopped) => Some(false),
+    }
+}
+
+// Whether the input gives this; none, where the client stops in it.
+fn gives_or_stops(client: &mut Client, alloc: Global, (input, given): Row<'_>) -> Option<bool> {
+    match reply(alloc, input) {
+        Ok(frame) => {
+            let is_right = steps_or_stops(client, alloc, &frame, given);
+            drop(frame);
+            is_right
+        }
+        Err(_) => Some(false),
+    }
+}
+
+// Whether each input gives what it gives, up to where the client stops.
+fn gives_all_or_stops(client: &mut Client, alloc: Global, rows: &[Row<'_>]) -> bool {
     for row in rows {
-        match gives_or_stops(client, alloc, *row)? {
+        match gives_or_stops(client, alloc, *row) {
             Some(true) => {}
-            Some(false) => return Ok(false),
-            None => return Ok(true),
+            Some(false) => return false,
+            None => return true,
+        }
+    }
+    true
+}
+
+// The same of the call and each input behind it.
+fn goes_on_or_stops(client: &mut Client, alloc: Global, case: Case<'_>) -> bool {
+    match asks_or_stops(client, alloc, case) {
+        Some(true) => gives_all_or_stops(client, alloc, case.2),
+        Some(false) => false,
+        None => true,
+    }
+}
+
+fn goes_or_stops(alloc: Global, case: Case<'_>) -> Result<bool, NoMemory> {
+    let mut client = made(alloc)?;
+    let is_right = goes_on_or_stops(&mut *client, alloc, case);
+    drop(client);
+    Ok(is_right)
+}
+
+fn all_go_or_stop(alloc: Global, cases: &[Case<'_>]) -> Result<bool, NoMemory> {
+    for &case in cases {
+        if !goes_or_stops(alloc, case)? {
+            return Ok(false);
         }
     }
     Ok(true)
@@ -115,30 +142,23 @@ fn gives_all_or_stops(
 
 #[test]
 fn refused_memory_at_a_call(rt: HostRuntime) -> Result<(), Fail> {
-    for &case in &CALLS {
-        assert!(rt; goes_or_stops(rt.alloc(), case)?);
-    }
-    Ok(())
+    holds(all_go_or_stop(rt.alloc(), &CALLS))
 }
 
 #[test]
 fn refused_memory_at_replies(rt: HostRuntime) -> Result<(), Fail> {
-    for &case in &REPLIES {
-        assert!(rt; goes_or_stops(rt.alloc(), case)?);
-    }
-    Ok(())
+    holds(all_go_or_stop(rt.alloc(), &REPLIES))
 }
 
 #[test]
 fn refused_memory_at_retries(rt: HostRuntime) -> Result<(), Fail> {
-    for case in [ASKED_AGAIN, RETRIED] {
-        assert!(rt; goes_or_stops(rt.alloc(), case)?);
-    }
-    Ok(())
+    holds(all_hold(&[
+        goes_or_stops(rt.alloc(), ASKED_AGAIN),
+        goes_or_stops(rt.alloc(), RETRIED),
+    ]))
 }
 
 #[test]
 fn refused_memory_where_a_read_falls_back(rt: HostRuntime) -> Result<(), Fail> {
-    assert!(rt; goes_or_stops(rt.alloc(), FALL_BACK)?);
-    Ok(())
+    holds(goes_or_stops(rt.alloc(), FALL_BACK))
 }

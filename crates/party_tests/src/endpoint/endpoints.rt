@@ -4,12 +4,11 @@ ghost use Rattle.std.specs.Prelude.{◌≡◌, ◌≤◌, true, false};
 ghost use Rattle.wire.specs.Spelling.{IsMessage, is_signed};
 ghost use Rattle.wire.specs.Views.{message_data};
 
-use authenticator::{Ring, signing_seed};
+use authenticator::{Ring, SealFault, signing_seed};
 use events::Output;
-use posting::{Endpoint, view_change_message};
+use posting::{Endpoint, PostFault, view_change_message};
 use signing::{PublicKeys, Signer};
 use std::alloc::Global;
-use std::test::Fail;
 use terms::{Digest, NoMemory, Number, Party, ReplicaId, View};
 use test_bytes::seed;
 use wire::{Message, ViewChange};
@@ -33,28 +32,32 @@ pub fn new_endpoint(alloc: Global, me: u8) -> Result<Box<Endpoint>, NoMemory>
     Ok(Box::new(alloc, Endpoint::new(me, 1, ring, publics, signer))?)
 }
 
-// The bytes that an output sends.
-pub fn sent(output: Output) -> Option<Vec<u8>> {
+// The bytes that an output sends; none of another one.
+fn sent(alloc: Global, output: Output) -> Vec<u8> {
     match output {
-        Output::Send(_, frame) => Some(frame),
-        _ => None,
+        Output::Send(_, frame) => frame,
+        _ => Vec::new(alloc),
     }
 }
 
-// The frame of a message for all other replicas.
+// The frame of a message for all other replicas; an empty one where it is too long.
 pub fn frame_for_others(
     endpoint: &mut Endpoint,
     alloc: Global,
     message: Message,
-) -> Result<Option<Vec<u8>>, Fail>
+) -> Result<Vec<u8>, NoMemory>
     requires said { IsMessage (message_data message) }
     requires unsigned { is_signed (message_data message) ≡ false }
 {
-    Ok(sent(endpoint.post_to_others(alloc, message)?))
+    match endpoint.post_to_others(alloc, message) {
+        Ok(output) => Ok(sent(alloc, output)),
+        Err(SealFault::NoMemory) => Err(NoMemory),
+        Err(SealFault::TooLarge) => Ok(Vec::new(alloc)),
+    }
 }
 
 // To view 1, with nothing to tell.
-pub fn view_change(alloc: Global) -> Message
+fn view_change(alloc: Global) -> Message
     ensures said { IsMessage (message_data result) }
     ensures signed { is_signed (message_data result) ≡ true }
 {
@@ -65,4 +68,17 @@ pub fn view_change(alloc: Global) -> Message
         prepared: Vec::new(alloc),
         pre_prepared: Vec::new(alloc),
     })
+}
+
+// The frame of a view change, signed by the sender's next key.
+pub fn signed(endpoint: &mut Endpoint, alloc: Global) -> Result<Vec<u8>, PostFault> {
+    endpoint.sign(alloc, view_change(alloc))
+}
+
+// What a test that wants a frame comes to without one.
+pub fn without_frame(fault: PostFault) -> Result<bool, NoMemory> {
+    match fault {
+        PostFault::NoMemory => Err(NoMemory),
+        PostFault::TooLarge | PostFault::KeysSpent => Ok(false),
+    }
 }

@@ -1,6 +1,7 @@
 //! What the replicas hear of a prepare that replica 0 posts, and of its view change.
 
-use crate::endpoint::endpoints::{DIGEST, frame_for_others, new_endpoint, view_change};
+use crate::answers::{all_hold, holds};
+use crate::endpoint::endpoints::{DIGEST, frame_for_others, new_endpoint, signed, without_frame};
 use posting::{Endpoint, prepare_message};
 use std::alloc::Global;
 use std::test::Fail;
@@ -48,11 +49,12 @@ fn hears_prepare(endpoint: &mut Endpoint, alloc: Global, bytes: &[u8]) -> Result
 }
 
 // The prepare's frame.
-fn prepare_frame(alloc: Global) -> Result<Vec<u8>, Fail> {
+fn prepare_frame(alloc: Global) -> Result<Vec<u8>, NoMemory> {
     let mut sender = new_endpoint(alloc, 0)?;
     let prepare = prepare_message(View(0), Number(1), DIGEST);
-    let frame = frame_for_others(&mut *sender, alloc, prepare)?;
-    Ok(frame.unwrap_or(Vec::new(alloc)))
+    let frame = frame_for_others(&mut *sender, alloc, prepare);
+    drop(sender);
+    frame
 }
 
 // Turns the lowest bit of a byte.
@@ -64,22 +66,38 @@ fn change(bytes: &mut [u8], at: Option<usize>) {
     }
 }
 
-fn agrees(alloc: Global, (me, at, is_heard): Row) -> Result<bool, Fail> {
-    if me > 3 {
+// Whether it is so for the row; the frame stays as it was.
+fn agrees(alloc: Global, frame: &mut [u8], (me, at, is_heard): Row) -> Result<bool, NoMemory> {
+    if me > 3 || frame.len() != 159 {
         return Ok(false);
     }
-    let mut frame = prepare_frame(alloc)?;
-    change(&mut frame, at);
     let mut endpoint = new_endpoint(alloc, me)?;
-    Ok(frame.len() == 159 && hears_prepare(&mut *endpoint, alloc, &frame)? == is_heard)
+    change(frame, at);
+    let heard = hears_prepare(&mut *endpoint, alloc, frame);
+    change(frame, at);
+    drop(endpoint);
+    Ok(heard? == is_heard)
+}
+
+fn all_agree(alloc: Global, frame: &mut [u8]) -> Result<bool, NoMemory> {
+    for &row in &ROWS {
+        if !agrees(alloc, frame, row)? {
+            return Ok(false);
+        }
+    }
+    Ok(true)
+}
+
+fn prepare_is_heard(alloc: Global) -> Result<bool, NoMemory> {
+    let mut frame = prepare_frame(alloc)?;
+    let answer = all_agree(alloc, &mut frame);
+    drop(frame);
+    answer
 }
 
 #[test]
 fn frames_with_macs(rt: HostRuntime) -> Result<(), Fail> {
-    for &row in &ROWS {
-        assert!(rt; agrees(rt.alloc(), row)?);
-    }
-    Ok(())
+    holds(prepare_is_heard(rt.alloc()))
 }
 
 fn hears_any(endpoint: &mut Endpoint, alloc: Global, bytes: &[u8]) -> Result<bool, NoMemory> {
@@ -89,12 +107,12 @@ fn hears_any(endpoint: &mut Endpoint, alloc: Global, bytes: &[u8]) -> Result<boo
     Ok(is_heard)
 }
 
-// The frame of a view change, signed by its sender's first key.
-fn signed_frame(sender: &mut Endpoint, alloc: Global) -> Result<Vec<u8>, Fail> {
-    Ok(sender.sign(alloc, view_change(alloc))?)
+// Whether the replica drops the frame.
+fn drops(replica: &mut Endpoint, alloc: Global, frame: &[u8]) -> Result<bool, NoMemory> {
+    Ok(!hears_any(replica, alloc, frame)?)
 }
 
-// Whether the replica drops the frame while the byte is another one.
+// The same while the byte is another one.
 fn drops_changed(
     replica: &mut Endpoint,
     alloc: Global,
@@ -102,9 +120,9 @@ fn drops_changed(
     at: usize,
 ) -> Result<bool, NoMemory> {
     change(frame, Some(at));
-    let is_heard = hears_any(replica, alloc, frame)?;
+    let dropped = drops(replica, alloc, frame);
     change(frame, Some(at));
-    Ok(!is_heard)
+    dropped
 }
 
 // Whether another replica hears it, but not its sender, nor anyone if a byte of the body or of the signature is another
@@ -115,23 +133,45 @@ fn is_heard_whole(
     alloc: Global,
     frame: &mut [u8],
 ) -> Result<bool, NoMemory> {
-    Ok(
-        hears_any(other, alloc, frame)?
-            && !hears_any(sender, alloc, frame)?
-            && drops_changed(other, alloc, frame, 14)?
-            && drops_changed(other, alloc, frame, 16_000)?,
-    )
+    all_hold(&[
+        hears_any(other, alloc, frame),
+        drops(sender, alloc, frame),
+        drops_changed(other, alloc, frame, 14),
+        drops_changed(other, alloc, frame, 16_000),
+    ])
 }
 
-fn hears_signed(sender: &mut Endpoint, other: &mut Endpoint, alloc: Global) -> Result<bool, Fail> {
-    let mut frame = signed_frame(sender, alloc)?;
-    Ok(is_heard_whole(sender, other, alloc, &mut frame)?)
+// Of the view change that is signed by its sender's first key.
+fn hears_signed(
+    sender: &mut Endpoint,
+    other: &mut Endpoint,
+    alloc: Global,
+) -> Result<bool, NoMemory> {
+    match signed(sender, alloc) {
+        Ok(mut frame) => {
+            let answer = is_heard_whole(sender, other, alloc, &mut frame);
+            drop(frame);
+            answer
+        }
+        Err(fault) => without_frame(fault),
+    }
+}
+
+fn is_heard_by_other(sender: &mut Endpoint, alloc: Global) -> Result<bool, NoMemory> {
+    let mut other = new_endpoint(alloc, 1)?;
+    let answer = hears_signed(sender, &mut *other, alloc);
+    drop(other);
+    answer
+}
+
+fn view_change_is_heard(alloc: Global) -> Result<bool, NoMemory> {
+    let mut sender = new_endpoint(alloc, 0)?;
+    let answer = is_heard_by_other(&mut *sender, alloc);
+    drop(sender);
+    answer
 }
 
 #[test]
 fn signed_frames(rt: HostRuntime) -> Result<(), Fail> {
-    let mut sender = new_endpoint(rt.alloc(), 0)?;
-    let mut other = new_endpoint(rt.alloc(), 1)?;
-    assert!(rt; hears_signed(&mut *sender, &mut *other, rt.alloc())?);
-    Ok(())
+    holds(view_change_is_heard(rt.alloc()))
 }

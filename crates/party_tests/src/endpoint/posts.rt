@@ -5,8 +5,9 @@ ghost use Rattle.std.specs.Prelude.{◌≡◌, false};
 ghost use Rattle.wire.specs.Spelling.{IsMessage, is_signed};
 ghost use Rattle.wire.specs.Views.{message_data};
 
-use crate::endpoint::endpoints::{DIGEST, new_endpoint, new_ring, view_change};
-use authenticator::{Ring, SealFault};
+use crate::answers::{all_hold, holds};
+use crate::endpoint::endpoints::{DIGEST, new_endpoint, new_ring, signed, without_frame};
+use authenticator::SealFault;
 use events::Output;
 use hex::FromHex;
 use posting::{
@@ -50,7 +51,7 @@ fn are_numbers(parties: &[Party], numbers: &[u16]) -> bool {
 }
 
 // Whether it goes to these parties, and its bytes have this digest.
-pub fn is_sent(output: &Output, receivers: &[u16], digits: &str) -> bool {
+fn is_sent(output: &Output, receivers: &[u16], digits: &str) -> bool {
     match output {
         Output::Send(parties, frame) => {
             let code = Sha256::digest(frame.as_slice());
@@ -60,25 +61,41 @@ pub fn is_sent(output: &Output, receivers: &[u16], digits: &str) -> bool {
     }
 }
 
-// Whether the message goes to all others by these bytes. An output is dropped by a call: at the end of a function all
-// kinds of outputs are told apart.
+// An output is dropped by a call: at the end of a function all kinds of outputs are told apart.
+fn is_sent_once(output: Output, receivers: &[u16], digits: &str) -> bool {
+    let is_right = is_sent(&output, receivers, digits);
+    drop(output);
+    is_right
+}
+
+// Whether what is posted goes to these parties by these bytes.
+fn is_posted(
+    posted: Result<Output, SealFault>,
+    receivers: &[u16],
+    digits: &str,
+) -> Result<bool, NoMemory> {
+    match posted {
+        Ok(output) => Ok(is_sent_once(output, receivers, digits)),
+        Err(SealFault::NoMemory) => Err(NoMemory),
+        Err(SealFault::TooLarge) => Ok(false),
+    }
+}
+
+// Whether the message goes to all others by these bytes.
 pub fn goes_out(
     endpoint: &mut Endpoint,
     alloc: Global,
     message: Message,
     digits: &str,
-) -> Result<bool, Fail>
+) -> Result<bool, NoMemory>
     requires said { IsMessage (message_data message) }
     requires unsigned { is_signed (message_data message) ≡ false }
 {
-    let output = endpoint.post_to_others(alloc, message)?;
-    let is_right = is_sent(&output, &OTHERS, digits);
-    drop(output);
-    Ok(is_right)
+    is_posted(endpoint.post_to_others(alloc, message), &OTHERS, digits)
 }
 
 // A message a function, since each way out of one drops all messages that it owns.
-fn prepare_goes_out(endpoint: &mut Endpoint, alloc: Global) -> Result<bool, Fail> {
+fn prepare_goes_out(endpoint: &mut Endpoint, alloc: Global) -> Result<bool, NoMemory> {
     let prepare = prepare_message(View(0), Number(1), DIGEST);
     goes_out(endpoint, alloc, prepare, PREPARE)
 }
@@ -90,16 +107,16 @@ fn first_commit() -> Message
     commit_message(View(0), Number(1), DIGEST)
 }
 
-fn commit_goes_out(endpoint: &mut Endpoint, alloc: Global) -> Result<bool, Fail> {
+fn commit_goes_out(endpoint: &mut Endpoint, alloc: Global) -> Result<bool, NoMemory> {
     goes_out(endpoint, alloc, first_commit(), COMMIT)
 }
 
-fn checkpoint_goes_out(endpoint: &mut Endpoint, alloc: Global) -> Result<bool, Fail> {
+fn checkpoint_goes_out(endpoint: &mut Endpoint, alloc: Global) -> Result<bool, NoMemory> {
     let checkpoint = checkpoint_message(Number(16), DIGEST);
     goes_out(endpoint, alloc, checkpoint, CHECKPOINT)
 }
 
-fn fetch_goes_out(endpoint: &mut Endpoint, alloc: Global) -> Result<bool, Fail> {
+fn fetch_goes_out(endpoint: &mut Endpoint, alloc: Global) -> Result<bool, NoMemory> {
     let fetch = fetch_message(Number(16), Level::Inner, 31);
     goes_out(endpoint, alloc, fetch, FETCH)
 }
@@ -113,40 +130,49 @@ fn digests() -> [[u8; 32]; 32] {
     digests
 }
 
-fn meta_of_root_goes_out(endpoint: &mut Endpoint, alloc: Global) -> Result<bool, Fail> {
-    let meta = meta_message(alloc, Number(16), Level::Root, 0, &digests())?;
-    goes_out(endpoint, alloc, meta, META_OF_ROOT)
+fn meta_of_root_goes_out(endpoint: &mut Endpoint, alloc: Global) -> Result<bool, NoMemory> {
+    match meta_message(alloc, Number(16), Level::Root, 0, &digests()) {
+        Ok(meta) => goes_out(endpoint, alloc, meta, META_OF_ROOT),
+        Err(NoMemory) => Err(NoMemory),
+    }
 }
 
 // Of the last inner part.
-fn meta_of_part_goes_out(endpoint: &mut Endpoint, alloc: Global) -> Result<bool, Fail> {
-    let meta = meta_message(alloc, Number(16), Level::Inner, 31, &digests())?;
-    goes_out(endpoint, alloc, meta, META_OF_PART)
+fn meta_of_part_goes_out(endpoint: &mut Endpoint, alloc: Global) -> Result<bool, NoMemory> {
+    match meta_message(alloc, Number(16), Level::Inner, 31, &digests()) {
+        Ok(meta) => goes_out(endpoint, alloc, meta, META_OF_PART),
+        Err(NoMemory) => Err(NoMemory),
+    }
 }
 
-fn page_goes_out(endpoint: &mut Endpoint, alloc: Global) -> Result<bool, Fail> {
+fn page_goes_out(endpoint: &mut Endpoint, alloc: Global) -> Result<bool, NoMemory> {
     let page = page_message(Number(16), 1023, b"text".to_vec(alloc)?);
     goes_out(endpoint, alloc, page, PAGE)
 }
 
-fn all_go_out(endpoint: &mut Endpoint, alloc: Global) -> Result<bool, Fail> {
-    Ok(
-        endpoint.me().0 == 0
-            && prepare_goes_out(endpoint, alloc)?
-            && commit_goes_out(endpoint, alloc)?
-            && checkpoint_goes_out(endpoint, alloc)?
-            && fetch_goes_out(endpoint, alloc)?
-            && meta_of_root_goes_out(endpoint, alloc)?
-            && meta_of_part_goes_out(endpoint, alloc)?
-            && page_goes_out(endpoint, alloc)?,
-    )
+fn all_go_out(endpoint: &mut Endpoint, alloc: Global) -> Result<bool, NoMemory> {
+    all_hold(&[
+        Ok(endpoint.me().0 == 0),
+        prepare_goes_out(endpoint, alloc),
+        commit_goes_out(endpoint, alloc),
+        checkpoint_goes_out(endpoint, alloc),
+        fetch_goes_out(endpoint, alloc),
+        meta_of_root_goes_out(endpoint, alloc),
+        meta_of_part_goes_out(endpoint, alloc),
+        page_goes_out(endpoint, alloc),
+    ])
+}
+
+fn new_endpoint_posts_all(alloc: Global) -> Result<bool, NoMemory> {
+    let mut endpoint = new_endpoint(alloc, 0)?;
+    let answer = all_go_out(&mut *endpoint, alloc);
+    drop(endpoint);
+    answer
 }
 
 #[test]
 fn messages_for_all_others(rt: HostRuntime) -> Result<(), Fail> {
-    let mut endpoint = new_endpoint(rt.alloc(), 0)?;
-    assert!(rt; all_go_out(&mut *endpoint, rt.alloc())?);
-    Ok(())
+    holds(new_endpoint_posts_all(rt.alloc()))
 }
 
 const CLIENT: ClientId = ClientId { number: 0 };
@@ -159,84 +185,131 @@ fn reply() -> Message
     reply_message(CLIENT, Timestamp(1), Mode::Ordered, Number(1), Answer::Done)
 }
 
-fn reply_goes_out(endpoint: &mut Endpoint, alloc: Global) -> Result<bool, Fail> {
-    let output = endpoint.post_to(alloc, reply(), Party::Client(CLIENT))?;
-    let is_right = is_sent(&output, &[256], REPLY);
-    drop(output);
-    Ok(is_right)
+// Whether the reply goes to the client alone, by an endpoint.
+fn reply_goes_out(alloc: Global) -> Result<bool, NoMemory> {
+    let mut endpoint = new_endpoint(alloc, 0)?;
+    let posted = endpoint.post_to(alloc, reply(), Party::Client(CLIENT));
+    drop(endpoint);
+    is_posted(posted, &[256], REPLY)
 }
 
 // The same by a ring.
-fn reply_goes_out_by(ring: &mut Ring, alloc: Global) -> Result<bool, Fail> {
-    let output = seal_for_one(ring, alloc, ReplicaId(0), reply(), Party::Client(CLIENT))?;
-    let is_right = is_sent(&output, &[256], REPLY);
-    drop(output);
-    Ok(is_right)
-}
-
-// Whether the reply goes to the client alone, by an endpoint, and by a ring.
-fn both_go_out(endpoint: &mut Endpoint, alloc: Global) -> Result<bool, Fail> {
-    Ok(reply_goes_out(endpoint, alloc)? && reply_goes_out_by(&mut new_ring(alloc), alloc)?)
+fn reply_goes_out_by_ring(alloc: Global) -> Result<bool, NoMemory> {
+    let mut ring = new_ring(alloc);
+    let posted = seal_for_one(
+        &mut ring,
+        alloc,
+        ReplicaId(0),
+        reply(),
+        Party::Client(CLIENT),
+    );
+    drop(ring);
+    is_posted(posted, &[256], REPLY)
 }
 
 #[test]
 fn a_reply(rt: HostRuntime) -> Result<(), Fail> {
-    let mut endpoint = new_endpoint(rt.alloc(), 0)?;
-    assert!(rt; both_go_out(&mut *endpoint, rt.alloc())?);
-    Ok(())
+    holds(all_hold(&[
+        reply_goes_out(rt.alloc()),
+        reply_goes_out_by_ring(rt.alloc()),
+    ]))
 }
 
 // A frame has at most 4,194,304 bytes: here those of the text, 17 before it and 104 behind it.
-fn refusal(endpoint: &mut Endpoint, alloc: Global) -> Result<Option<SealFault>, Fail> {
+fn refuses_page(endpoint: &mut Endpoint, alloc: Global) -> Result<bool, NoMemory> {
     let page = page_message(Number(16), 0, vec![in alloc; 0; 4_194_184]?);
-    Ok(endpoint.post_to_others(alloc, page).err())
+    match endpoint.post_to_others(alloc, page) {
+        Ok(output) => {
+            drop(output);
+            Ok(false)
+        }
+        Err(SealFault::TooLarge) => Ok(true),
+        Err(SealFault::NoMemory) => Err(NoMemory),
+    }
+}
+
+fn new_endpoint_refuses_page(alloc: Global) -> Result<bool, NoMemory> {
+    let mut endpoint = new_endpoint(alloc, 0)?;
+    let answer = refuses_page(&mut *endpoint, alloc);
+    drop(endpoint);
+    answer
 }
 
 #[test]
 fn a_page_too_long(rt: HostRuntime) -> Result<(), Fail> {
-    let mut endpoint = new_endpoint(rt.alloc(), 0)?;
-    assert_eq!(rt;
-        refusal(&mut *endpoint, rt.alloc())?,
-        Some(SealFault::TooLarge)
-    );
-    Ok(())
-}
-
-fn signed(endpoint: &mut Endpoint, alloc: Global) -> Result<Vec<u8>, PostFault> {
-    endpoint.sign(alloc, view_change(alloc))
+    holds(new_endpoint_refuses_page(rt.alloc()))
 }
 
 // Whether the view change's frame goes to all others.
 fn frame_goes_out(endpoint: &Endpoint, alloc: Global, frame: &[u8]) -> Result<bool, NoMemory> {
-    let output = endpoint.post_frame(alloc, frame)?;
-    let is_right = is_sent(&output, &OTHERS, VIEW_CHANGE);
-    drop(output);
-    Ok(is_right)
+    match endpoint.post_frame(alloc, frame) {
+        Ok(output) => Ok(is_sent_once(output, &OTHERS, VIEW_CHANGE)),
+        Err(NoMemory) => Err(NoMemory),
+    }
+}
+
+fn spends_one(endpoint: &mut Endpoint, alloc: Global) -> Result<bool, NoMemory> {
+    match signed(endpoint, alloc) {
+        Ok(frame) => {
+            drop(frame);
+            Ok(true)
+        }
+        Err(fault) => without_frame(fault),
+    }
+}
+
+fn has_spent_all(endpoint: &mut Endpoint, alloc: Global) -> Result<bool, NoMemory> {
+    match signed(endpoint, alloc) {
+        Ok(frame) => {
+            drop(frame);
+            Ok(false)
+        }
+        Err(PostFault::KeysSpent) => Ok(true),
+        Err(fault) => without_frame(fault),
+    }
 }
 
 // Whether no key is left after so many more.
-fn spends(endpoint: &mut Endpoint, alloc: Global, count: u8) -> Result<bool, PostFault> {
+fn spends(endpoint: &mut Endpoint, alloc: Global, count: u8) -> Result<bool, NoMemory> {
     for _ in 0..count {
-        let _next = signed(endpoint, alloc)?;
+        if !spends_one(endpoint, alloc)? {
+            return Ok(false);
+        }
     }
-    Ok(signed(endpoint, alloc).err() == Some(PostFault::KeysSpent))
+    has_spent_all(endpoint, alloc)
 }
 
-// By the first key, and then by the others until all 64 are spent. The first frame may go out at any time.
-fn spends_all(endpoint: &mut Endpoint, alloc: Global) -> Result<bool, Fail> {
-    let first = signed(endpoint, alloc)?;
-    Ok(
-        frame_goes_out(endpoint, alloc, &first)?
-            && spends(endpoint, alloc, 63)?
-            && frame_goes_out(endpoint, alloc, &first)?,
-    )
+// The first frame may go out at any time.
+fn spends_others(endpoint: &mut Endpoint, alloc: Global, first: &[u8]) -> Result<bool, NoMemory> {
+    all_hold(&[
+        frame_goes_out(endpoint, alloc, first),
+        spends(endpoint, alloc, 63),
+        frame_goes_out(endpoint, alloc, first),
+    ])
+}
+
+// By the first key, and then by the others until all 64 are spent.
+fn spends_all(endpoint: &mut Endpoint, alloc: Global) -> Result<bool, NoMemory> {
+    match signed(endpoint, alloc) {
+        Ok(first) => {
+            let answer = spends_others(endpoint, alloc, &first);
+            drop(first);
+            answer
+        }
+        Err(fault) => without_frame(fault),
+    }
+}
+
+fn new_endpoint_spends_all(alloc: Global) -> Result<bool, NoMemory> {
+    let mut endpoint = new_endpoint(alloc, 0)?;
+    let answer = spends_all(&mut *endpoint, alloc);
+    drop(endpoint);
+    answer
 }
 
 #[test]
 fn each_signed_message_spends_a_key(rt: HostRuntime) -> Result<(), Fail> {
-    let mut endpoint = new_endpoint(rt.alloc(), 0)?;
-    assert!(rt; spends_all(&mut *endpoint, rt.alloc())?);
-    Ok(())
+    holds(new_endpoint_spends_all(rt.alloc()))
 }
 
 // What goes out with the first commit of replica 0, at the second try where memory ran out at the first one.
@@ -247,13 +320,6 @@ fn commit_output(endpoint: &mut Endpoint, alloc: Global) -> Result<Output, SealF
     }
 }
 
-fn commit_goes_out_again(endpoint: &mut Endpoint, alloc: Global) -> Result<bool, Fail> {
-    let output = commit_output(endpoint, alloc)?;
-    let is_right = is_sent(&output, &OTHERS, COMMIT);
-    drop(output);
-    Ok(is_right)
-}
-
 fn made(alloc: Global) -> Result<Box<Endpoint>, NoMemory> {
     match new_endpoint(alloc, 0) {
         Ok(endpoint) => Ok(endpoint),
@@ -261,10 +327,15 @@ fn made(alloc: Global) -> Result<Box<Endpoint>, NoMemory> {
     }
 }
 
+fn commit_goes_out_again(alloc: Global) -> Result<bool, NoMemory> {
+    let mut endpoint = made(alloc)?;
+    let posted = commit_output(&mut *endpoint, alloc);
+    drop(endpoint);
+    is_posted(posted, &OTHERS, COMMIT)
+}
+
 // Passes whichever growth is refused, as by `tools/growths`: the endpoint is as before.
 #[test]
 fn refused_memory(rt: HostRuntime) -> Result<(), Fail> {
-    let mut endpoint = made(rt.alloc())?;
-    assert!(rt; commit_goes_out_again(&mut *endpoint, rt.alloc())?);
-    Ok(())
+    holds(commit_goes_out_again(rt.alloc()))
 }

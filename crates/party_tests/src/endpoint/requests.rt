@@ -5,9 +5,11 @@ ghost use Rattle.terms.specs.Parties.{party_number};
 ghost use Rattle.wire.specs.Spelling.{IsBatch, IsBody, IsCarried, is_ordered_request, is_signed};
 ghost use Rattle.wire.specs.Views.{body_data, message_data};
 
+use crate::answers::{all_hold, holds};
 use crate::endpoint::endpoints::{new_endpoint, new_ring};
 use crate::endpoint::posts::goes_out;
-use posting::pre_prepare_message;
+use authenticator::SealFault;
+use posting::{Endpoint, pre_prepare_message};
 use std::alloc::Global;
 use std::test::Fail;
 use terms::{ClientId, Mode, NoMemory, Number, Party, ReplicaId, Timestamp, View};
@@ -42,10 +44,28 @@ fn request(alloc: Global) -> Result<Body, Bad>
     Ok(Body { sender, message })
 }
 
-// The request's frame for the four replicas.
-fn request_frame(alloc: Global) -> Result<Vec<u8>, Fail> {
-    let body = request(alloc)?;
-    Ok(new_ring(alloc).seal(alloc, &body, &replicas())?)
+fn sealed(alloc: Global, body: &Body) -> Result<Vec<u8>, SealFault>
+    requires said { IsBody (body_data body.now) }
+    requires unsigned { is_signed (message_data body.now.message) ≡ false }
+{
+    let mut ring = new_ring(alloc);
+    let frame = ring.seal(alloc, body, &replicas());
+    drop(ring);
+    frame
+}
+
+// The request's frame for the four replicas. The body is dropped by a call: at the end of a function all kinds of
+// messages are told apart.
+fn request_frame(alloc: Global) -> Result<Vec<u8>, SealFault> {
+    match request(alloc) {
+        Ok(body) => {
+            let frame = sealed(alloc, &body);
+            drop(body);
+            frame
+        }
+        Err(Bad::NoMemory) => Err(SealFault::NoMemory),
+        Err(Bad::Malformed) => Ok(Vec::new(alloc)),
+    }
 }
 
 fn batch_of(alloc: Global, frame: Vec<u8>) -> Result<Batch, NoMemory>
@@ -55,54 +75,134 @@ fn batch_of(alloc: Global, frame: Vec<u8>) -> Result<Batch, NoMemory>
     Batch::of(alloc, &[frame])
 }
 
-// Whether replica 0 posts the pre-prepare of the frame's batch.
-fn batch_goes_out(alloc: Global, frame: Vec<u8>) -> Result<bool, Fail> {
-    if !is_ordered_request(&frame) {
-        return Ok(false);
+// What a test that wants a frame comes to without one.
+fn without_frame(fault: SealFault) -> Result<bool, NoMemory> {
+    match fault {
+        SealFault::NoMemory => Err(NoMemory),
+        SealFault::TooLarge => Ok(false),
     }
-    let batch = batch_of(alloc, frame)?;
-    let message = pre_prepare_message(View(0), Number(1), batch);
+}
+
+// Whether the replica posts the pre-prepare of the frame's batch.
+fn posts_batch(endpoint: &mut Endpoint, alloc: Global, frame: Vec<u8>) -> Result<bool, NoMemory>
+    requires { IsCarried is_ordered_request frame.items }
+{
+    match batch_of(alloc, frame) {
+        Ok(batch) => {
+            let message = pre_prepare_message(View(0), Number(1), batch);
+            goes_out(endpoint, alloc, message, PRE_PREPARE)
+        }
+        Err(NoMemory) => Err(NoMemory),
+    }
+}
+
+fn batch_goes_out(
+    endpoint: &mut Endpoint,
+    alloc: Global,
+    frame: Vec<u8>,
+) -> Result<bool, NoMemory> {
+    if is_ordered_request(&frame) {
+        posts_batch(endpoint, alloc, frame)
+    } else {
+        drop(frame);
+        Ok(false)
+    }
+}
+
+fn request_goes_out(endpoint: &mut Endpoint, alloc: Global) -> Result<bool, NoMemory> {
+    match request_frame(alloc) {
+        Ok(frame) => batch_goes_out(endpoint, alloc, frame),
+        Err(fault) => without_frame(fault),
+    }
+}
+
+fn new_endpoint_posts_request(alloc: Global) -> Result<bool, NoMemory> {
     let mut endpoint = new_endpoint(alloc, 0)?;
-    goes_out(&mut *endpoint, alloc, message, PRE_PREPARE)
+    let answer = request_goes_out(&mut *endpoint, alloc);
+    drop(endpoint);
+    answer
 }
 
 #[test]
 fn a_pre_prepare(rt: HostRuntime) -> Result<(), Fail> {
-    let frame = request_frame(rt.alloc())?;
-    assert!(rt; batch_goes_out(rt.alloc(), frame)?);
-    Ok(())
+    holds(new_endpoint_posts_request(rt.alloc()))
 }
 
 // Whether the replica takes the frame's batch as genuine.
-fn is_genuine(alloc: Global, me: u8, frame: Vec<u8>) -> Result<bool, Fail>
-    requires { me ≤ 3 }
+fn takes_batch(endpoint: &mut Endpoint, alloc: Global, frame: Vec<u8>) -> Result<bool, NoMemory>
+    requires { IsCarried is_ordered_request frame.items }
 {
-    if !is_ordered_request(&frame) {
-        return Ok(false);
+    match batch_of(alloc, frame) {
+        Ok(batch) => {
+            let is_genuine = endpoint.are_genuine(alloc, &batch);
+            drop(batch);
+            is_genuine
+        }
+        Err(NoMemory) => Err(NoMemory),
     }
-    let batch = batch_of(alloc, frame)?;
-    let mut endpoint = new_endpoint(alloc, me)?;
-    Ok(endpoint.are_genuine(alloc, &batch)?)
 }
 
-// The same where a byte of the MAC for replica 1 is another one.
-fn is_changed_genuine(alloc: Global, me: u8) -> Result<bool, Fail>
+fn is_genuine(endpoint: &mut Endpoint, alloc: Global, frame: Vec<u8>) -> Result<bool, NoMemory> {
+    if is_ordered_request(&frame) {
+        takes_batch(endpoint, alloc, frame)
+    } else {
+        drop(frame);
+        Ok(false)
+    }
+}
+
+// Turns these bits of a byte of the MAC for replica 1.
+fn change(frame: &mut [u8], turned: u8) {
+    if frame.len() == 165 {
+        frame[96] ^= turned;
+    }
+}
+
+// Whether the replica takes the request as genuine where these bits are turned, or not, as told.
+fn judges(
+    endpoint: &mut Endpoint,
+    alloc: Global,
+    turned: u8,
+    expected: bool,
+) -> Result<bool, NoMemory> {
+    match request_frame(alloc) {
+        Ok(mut frame) => {
+            change(&mut frame, turned);
+            Ok(is_genuine(endpoint, alloc, frame)? == expected)
+        }
+        Err(fault) => without_frame(fault),
+    }
+}
+
+// A new endpoint for each frame.
+fn new_endpoint_judges(alloc: Global, me: u8, turned: u8, expected: bool) -> Result<bool, NoMemory>
     requires { me ≤ 3 }
 {
-    let mut frame = request_frame(alloc)?;
-    if frame.len() != 165 {
-        return Ok(false);
+    let mut endpoint = new_endpoint(alloc, me)?;
+    let answer = judges(&mut *endpoint, alloc, turned, expected);
+    drop(endpoint);
+    answer
+}
+
+fn judges_both(alloc: Global, me: u8) -> Result<bool, NoMemory>
+    requires { me ≤ 3 }
+{
+    all_hold(&[
+        new_endpoint_judges(alloc, me, 0, true),
+        new_endpoint_judges(alloc, me, 1, me != 1),
+    ])
+}
+
+fn all_judge(alloc: Global) -> Result<bool, NoMemory> {
+    for me in 0..4 {
+        if !judges_both(alloc, me)? {
+            return Ok(false);
+        }
     }
-    frame[96] ^= 1;
-    is_genuine(alloc, me, frame)
+    Ok(true)
 }
 
 #[test]
 fn genuine_requests(rt: HostRuntime) -> Result<(), Fail> {
-    for me in 0..4 {
-        let frame = request_frame(rt.alloc())?;
-        assert!(rt; is_genuine(rt.alloc(), me, frame)?);
-        assert!(rt; is_changed_genuine(rt.alloc(), me)? == (me != 1));
-    }
-    Ok(())
+    holds(all_judge(rt.alloc()))
 }

@@ -1,50 +1,41 @@
 //! Numbers and their levels.
 
-use crate::order::frames::{FOUND_1, OUT_1, batch_of};
-use crate::order::traces::{Row, execute, has_points, invoke, read};
-use events::{Entry, EntryKind};
-use std::alloc::Global;
+use crate::answers::holds;
+use crate::order::frames::{FOUND_1, OUT_1};
+use crate::order::traces::{Row, Step, has_points};
 use std::test::Fail;
-use terms::{NoMemory, Number, ReplicaId};
-use test_bytes::{ABSENT, DONE, READ, TAKE};
+use test_bytes::{ABSENT, DONE, ORDERED, READ, READ_ONLY, TAKE};
 
 // The greatest number of a batch.
 const LAST: u64 = (1 << 48) - 1;
 
 // Replica 3 is faulty, so that it doesn't count, and two of the others make a level. It tells of a last batch. Replica
 // 1 installs a state in place of executing number 1.
-fn faulty_run(alloc: Global) -> Result<Vec<Entry>, NoMemory> {
-    let mut trace = Vec::new(alloc);
-    let text = batch_of(alloc, 0, 1, OUT_1)?;
-    let far = batch_of(alloc, 2, 1, TAKE)?;
-    execute(alloc, &mut trace, &[3, 0], 1, &text)?;
-    execute(alloc, &mut trace, &[3], LAST, &far)?;
-    let installed = EntryKind::Installed(ReplicaId(1), Number(2), [7; 32]);
-    trace.push(Entry::new(installed))?;
-    Ok(trace)
-}
+static FAULTY_RUN: [Step<'static>; 3] = [
+    Step::Execute(&[3, 0], 1, &[(0, 1, ORDERED, OUT_1)]),
+    Step::Execute(&[3], LAST, &[(2, 1, ORDERED, TAKE)]),
+    Step::Install(1, 2),
+];
+
+static FAULTY: [Row<'static>; 1] = [(0, 1, OUT_1, DONE, 3)];
 
 #[test]
 fn correct_replicas_make_levels(rt: HostRuntime) -> Result<(), Fail> {
-    let trace = faulty_run(rt.alloc())?;
-    assert!(rt; has_points(rt.alloc(), &[3], &trace, &[(0, 1, OUT_1, DONE, 3)])?);
-    Ok(())
+    holds(has_points(rt.alloc(), &[3], &FAULTY_RUN, &FAULTY))
 }
 
 // Numbers between have no batch. A read of one of them stands at the next level, and one of a number to which no level
 // comes, at its invocation.
-fn far_run(alloc: Global) -> Result<Vec<Entry>, NoMemory> {
-    let mut trace = Vec::new(alloc);
-    let text = batch_of(alloc, 0, 1, OUT_1)?;
-    let far = batch_of(alloc, 2, 1, TAKE)?;
-    invoke(alloc, &mut trace, 1, 1, READ)?;
-    invoke(alloc, &mut trace, 0, 2, READ)?;
-    execute(alloc, &mut trace, &[0, 1, 2], 7, &text)?;
-    execute(alloc, &mut trace, &[0, 1, 2], LAST - 1, &far)?;
-    read(alloc, &mut trace, 1, 1, 8, ABSENT)?;
-    read(alloc, &mut trace, 0, 2, LAST, ABSENT)?;
-    Ok(trace)
-}
+static FAR_RUN: [Step<'static>; 8] = [
+    Step::Invoke(1, 1, READ),
+    Step::Invoke(0, 2, READ),
+    Step::Execute(&[0, 1, 2], 7, &[(0, 1, ORDERED, OUT_1)]),
+    Step::Execute(&[0, 1, 2], LAST - 1, &[(2, 1, ORDERED, TAKE)]),
+    Step::Get(1, (1, READ_ONLY, 8, ABSENT)),
+    Step::Accept(1, 1, ABSENT),
+    Step::Get(0, (2, READ_ONLY, LAST, ABSENT)),
+    Step::Accept(0, 2, ABSENT),
+];
 
 static FAR: [Row<'static>; 4] = [
     (0, 2, READ, ABSENT, 1),
@@ -55,7 +46,5 @@ static FAR: [Row<'static>; 4] = [
 
 #[test]
 fn numbers_far_apart(rt: HostRuntime) -> Result<(), Fail> {
-    let trace = far_run(rt.alloc())?;
-    assert!(rt; has_points(rt.alloc(), &[], &trace, &FAR)?);
-    Ok(())
+    holds(has_points(rt.alloc(), &[], &FAR_RUN, &FAR))
 }

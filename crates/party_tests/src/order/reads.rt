@@ -1,24 +1,21 @@
 //! Reads that were accepted by read-only replies, and those that weren't.
 
-use crate::order::frames::{FOUND_1, OUT_1, batch_of, reply_frame};
-use crate::order::traces::{Row, accept, execute, get, get_answer, has_points, invoke, read};
-use events::{Entry, EntryKind};
-use std::alloc::Global;
+use crate::answers::{all_hold, holds};
+use crate::order::frames::{FOUND_1, OUT_1};
+use crate::order::traces::{Row, Step, has_points};
 use std::test::Fail;
-use terms::{ClientId, NoMemory, Party};
 use test_bytes::{ABSENT, DONE, ORDERED, READ, READ_ONLY};
 
 // Clients 0 and 1 read the state behind a write that comes after their calls, and 1 accepts first.
-fn early_reads(alloc: Global) -> Result<Vec<Entry>, NoMemory> {
-    let mut trace = Vec::new(alloc);
-    let text = batch_of(alloc, 2, 1, OUT_1)?;
-    invoke(alloc, &mut trace, 0, 1, READ)?;
-    invoke(alloc, &mut trace, 1, 1, READ)?;
-    execute(alloc, &mut trace, &[0, 1, 3], 1, &text)?;
-    read(alloc, &mut trace, 1, 1, 1, FOUND_1)?;
-    read(alloc, &mut trace, 0, 1, 1, FOUND_1)?;
-    Ok(trace)
-}
+static EARLY_RUN: [Step<'static>; 7] = [
+    Step::Invoke(0, 1, READ),
+    Step::Invoke(1, 1, READ),
+    Step::Execute(&[0, 1, 3], 1, &[(2, 1, ORDERED, OUT_1)]),
+    Step::Get(1, (1, READ_ONLY, 1, FOUND_1)),
+    Step::Accept(1, 1, FOUND_1),
+    Step::Get(0, (1, READ_ONLY, 1, FOUND_1)),
+    Step::Accept(0, 1, FOUND_1),
+];
 
 static EARLY_READS: [Row<'static>; 3] = [
     (2, 1, OUT_1, DONE, 4),
@@ -28,74 +25,55 @@ static EARLY_READS: [Row<'static>; 3] = [
 
 #[test]
 fn reads_stand_behind_writes_by_client(rt: HostRuntime) -> Result<(), Fail> {
-    let trace = early_reads(rt.alloc())?;
-    assert!(rt; has_points(rt.alloc(), &[], &trace, &EARLY_READS)?);
-    Ok(())
+    holds(has_points(rt.alloc(), &[], &EARLY_RUN, &EARLY_READS))
 }
 
 // A call is read, and its request runs too.
-fn doubled(alloc: Global) -> Result<Vec<Entry>, NoMemory> {
-    let mut trace = Vec::new(alloc);
-    let text = batch_of(alloc, 0, 5, READ)?;
-    invoke(alloc, &mut trace, 0, 5, READ)?;
-    execute(alloc, &mut trace, &[0, 1, 2], 1, &text)?;
-    read(alloc, &mut trace, 0, 5, 0, ABSENT)?;
-    Ok(trace)
-}
+static DOUBLED_RUN: [Step<'static>; 4] = [
+    Step::Invoke(0, 5, READ),
+    Step::Execute(&[0, 1, 2], 1, &[(0, 5, ORDERED, READ)]),
+    Step::Get(0, (5, READ_ONLY, 0, ABSENT)),
+    Step::Accept(0, 5, ABSENT),
+];
+
+static DOUBLED: [Row<'static>; 1] = [(0, 5, READ, ABSENT, 0)];
 
 #[test]
 fn a_read_that_ran_too_stands_once(rt: HostRuntime) -> Result<(), Fail> {
-    let trace = doubled(rt.alloc())?;
-    assert!(rt; has_points(rt.alloc(), &[], &trace, &[(0, 5, READ, ABSENT, 0)])?);
-    Ok(())
+    holds(has_points(rt.alloc(), &[], &DOUBLED_RUN, &DOUBLED))
 }
 
 // The last entry of the client before its acceptance is a tick.
-fn ticked(alloc: Global) -> Result<Vec<Entry>, NoMemory> {
-    let mut trace = Vec::new(alloc);
-    invoke(alloc, &mut trace, 0, 1, READ)?;
-    let frame = reply_frame(alloc, 0, (1, READ_ONLY, 0, ABSENT))?;
-    get(&mut trace, 0, frame)?;
-    trace.push(Entry::new(EntryKind::Tick(Party::Client(ClientId { number: 0 }))))?;
-    accept(alloc, &mut trace, 0, 1, ABSENT)?;
-    Ok(trace)
-}
+static TICKED: [Step<'static>; 4] = [
+    Step::Invoke(0, 1, READ),
+    Step::Get(0, (1, READ_ONLY, 0, ABSENT)),
+    Step::Tick(0),
+    Step::Accept(0, 1, ABSENT),
+];
 
-// A bit of the reply's MAC is another one.
-fn forged(alloc: Global) -> Result<Vec<Entry>, NoMemory> {
-    let mut trace = Vec::new(alloc);
-    invoke(alloc, &mut trace, 0, 1, READ)?;
-    let mut frame = reply_frame(alloc, 0, (1, READ_ONLY, 0, ABSENT))?;
-    if let Some(last) = frame.last_mut() {
-        *last ^= 1;
-    }
-    get(&mut trace, 0, frame)?;
-    accept(alloc, &mut trace, 0, 1, ABSENT)?;
-    Ok(trace)
-}
+static FORGED: [Step<'static>; 3] = [
+    Step::Invoke(0, 1, READ),
+    Step::GetForged(0, (1, READ_ONLY, 0, ABSENT)),
+    Step::Accept(0, 1, ABSENT),
+];
 
 // An ordered reply, a reply to another call, and an answer without a call.
-fn other_replies(alloc: Global) -> Result<Vec<Entry>, NoMemory> {
-    let mut trace = Vec::new(alloc);
-    invoke(alloc, &mut trace, 0, 1, READ)?;
-    get_answer(alloc, &mut trace, 0, (1, ORDERED, 0, ABSENT))?;
-    invoke(alloc, &mut trace, 1, 2, READ)?;
-    let frame = reply_frame(alloc, 1, (1, READ_ONLY, 0, ABSENT))?;
-    get(&mut trace, 1, frame)?;
-    accept(alloc, &mut trace, 1, 2, ABSENT)?;
-    read(alloc, &mut trace, 2, 1, 0, ABSENT)?;
-    Ok(trace)
-}
+static OTHER_REPLIES: [Step<'static>; 8] = [
+    Step::Invoke(0, 1, READ),
+    Step::Get(0, (1, ORDERED, 0, ABSENT)),
+    Step::Accept(0, 1, ABSENT),
+    Step::Invoke(1, 2, READ),
+    Step::Get(1, (1, READ_ONLY, 0, ABSENT)),
+    Step::Accept(1, 2, ABSENT),
+    Step::Get(2, (1, READ_ONLY, 0, ABSENT)),
+    Step::Accept(2, 1, ABSENT),
+];
 
 #[test]
 fn other_acceptances_are_no_reads(rt: HostRuntime) -> Result<(), Fail> {
-    let traces = [
-        ticked(rt.alloc())?,
-        forged(rt.alloc())?,
-        other_replies(rt.alloc())?,
-    ];
-    for trace in &traces {
-        assert!(rt; has_points(rt.alloc(), &[], trace, &[])?);
-    }
-    Ok(())
+    holds(all_hold(&[
+        has_points(rt.alloc(), &[], &TICKED, &[]),
+        has_points(rt.alloc(), &[], &FORGED, &[]),
+        has_points(rt.alloc(), &[], &OTHER_REPLIES, &[]),
+    ]))
 }

@@ -1,18 +1,38 @@
 //! Traces that are put together by hand, and their points.
 
-use crate::order::frames::reply_frame;
+use crate::answers::{all_hold, spells_answer, spells_op};
+use crate::order::frames::{Request, put_batch, reply_frame};
 use events::{Config, Entry, EntryKind};
 use points::{Point, points};
 use std::alloc::Global;
 use terms::{ClientId, NoMemory, Number, Party, ReplicaId, Timestamp};
-use test_bytes::{FRAME_SEED, READ_ONLY, Reply};
-use tuple_codec::{decode_op, decode_result, encode_op, encode_result};
+use test_bytes::{FRAME_SEED, Reply};
+use tuple_codec::{decode_op, decode_result};
+
+/// What happens next in a trace. One function puts the entries of every test, so that each test is a table.
+#[derive(Clone, Copy)]
+pub enum Step<'a> {
+    /// A client calls, with this timestamp, the operation of these bytes.
+    Invoke(u8, u64, &'a [u8]),
+    /// These replicas execute the batch of this number, of these requests.
+    Execute(&'a [u8], u64, &'a [Request<'a>]),
+    /// A replica installs the state of this number.
+    Install(u8, u64),
+    /// A client gets a reply.
+    Get(u8, Reply<'a>),
+    /// The same, but a bit of the MAC is another one.
+    GetForged(u8, Reply<'a>),
+    /// A client accepts, for the call of this timestamp, the answer of these bytes.
+    Accept(u8, u64, &'a [u8]),
+    /// Time goes by at a client.
+    Tick(u8),
+}
 
 /// The client and the timestamp of a point, the bytes of its operation and its answer, and its position.
 pub type Row<'a> = (u16, u64, &'a [u8], &'a [u8], usize);
 
-/// Four replicas, of which these are faulty, and three clients.
-pub fn world(alloc: Global, faulty_replicas: &[u16]) -> Option<Config> {
+// Four replicas, of which these are faulty, and three clients.
+fn world(alloc: Global, faulty_replicas: &[u16]) -> Option<Config> {
     let faulty_replicas = Vec::from_slice(alloc, faulty_replicas).ok()?;
     Config::new(1, 3, FRAME_SEED, 16, faulty_replicas, Vec::new(alloc)).ok()
 }
@@ -23,81 +43,126 @@ fn client_of(client: u8) -> ClientId {
     }
 }
 
-/// A client calls the operation of these bytes.
-pub fn invoke(
+fn put(trace: &mut Vec<Entry>, kind: EntryKind) -> Result<(), NoMemory> {
+    match trace.push(Entry::new(kind)) {
+        Ok(()) => Ok(()),
+        Err(_) => Err(NoMemory),
+    }
+}
+
+fn invoke(
     alloc: Global,
     trace: &mut Vec<Entry>,
     client: u8,
     timestamp: u64,
     op: &[u8],
 ) -> Result<(), NoMemory> {
-    let Ok((op, _)) = decode_op(alloc, op) else {
-        return Err(NoMemory);
-    };
-    let kind = EntryKind::Invoke(client_of(client), Timestamp(timestamp), op);
-    Ok(trace.push(Entry::new(kind))?)
+    match decode_op(alloc, op) {
+        Ok((op, _)) => put(
+            trace,
+            EntryKind::Invoke(client_of(client), Timestamp(timestamp), op),
+        ),
+        Err(_) => Err(NoMemory),
+    }
 }
 
-/// These replicas execute the batch.
-pub fn execute(
+fn execute_text(
     alloc: Global,
     trace: &mut Vec<Entry>,
     replicas: &[u8],
     number: u64,
     batch: &[u8],
 ) -> Result<(), NoMemory> {
-    for replica in replicas {
+    for &replica in replicas {
         let text = Vec::from_slice(alloc, batch)?;
-        let kind = EntryKind::Executed(ReplicaId(*replica), Number(number), text);
-        trace.push(Entry::new(kind))?;
+        put(
+            trace,
+            EntryKind::Executed(ReplicaId(replica), Number(number), text),
+        )?;
     }
     Ok(())
 }
 
-/// These bytes come to a client.
-pub fn get(trace: &mut Vec<Entry>, client: u8, bytes: Vec<u8>) -> Result<(), NoMemory> {
-    let kind = EntryKind::Got(Party::Client(client_of(client)), bytes);
-    Ok(trace.push(Entry::new(kind))?)
-}
-
-/// A client accepts the answer of these bytes.
-pub fn accept(
+fn execute(
     alloc: Global,
     trace: &mut Vec<Entry>,
-    client: u8,
-    timestamp: u64,
-    answer: &[u8],
+    replicas: &[u8],
+    number: u64,
+    requests: &[Request<'_>],
 ) -> Result<(), NoMemory> {
-    let Ok((answer, _)) = decode_result(alloc, answer) else {
-        return Err(NoMemory);
+    let mut text = Vec::new(alloc);
+    let done = match put_batch(alloc, &mut text, requests) {
+        Ok(()) => execute_text(alloc, trace, replicas, number, &text),
+        Err(_) => Err(NoMemory),
     };
-    let kind = EntryKind::Accepted(client_of(client), Timestamp(timestamp), answer);
-    Ok(trace.push(Entry::new(kind))?)
+    drop(text);
+    done
 }
 
-/// A client gets a reply, and accepts its answer.
-pub fn get_answer(
+// A reply whose last bit is turned by this.
+fn get(
     alloc: Global,
     trace: &mut Vec<Entry>,
     client: u8,
     reply: Reply<'_>,
+    turned: u8,
 ) -> Result<(), NoMemory> {
-    let (timestamp, _, _, answer) = reply;
-    let frame = reply_frame(alloc, client, reply)?;
-    get(trace, client, frame)?;
-    accept(alloc, trace, client, timestamp, answer)
+    let mut frame = reply_frame(alloc, client, reply)?;
+    if let Some(last) = frame.last_mut() {
+        *last ^= turned;
+    }
+    put(
+        trace,
+        EntryKind::Got(Party::Client(client_of(client)), frame),
+    )
 }
 
-/// A client's read is answered from the state of this number.
-pub fn read(
+fn accept(
     alloc: Global,
     trace: &mut Vec<Entry>,
     client: u8,
     timestamp: u64,
-    number: u64,
     answer: &[u8],
 ) -> Result<(), NoMemory> {
-    get_answer(alloc, trace, client, (timestamp, READ_ONLY, number, answer))
+    match decode_result(alloc, answer) {
+        Ok((answer, _)) => put(
+            trace,
+            EntryKind::Accepted(client_of(client), Timestamp(timestamp), answer),
+        ),
+        Err(_) => Err(NoMemory),
+    }
+}
+
+fn install(trace: &mut Vec<Entry>, replica: u8, number: u64) -> Result<(), NoMemory> {
+    put(
+        trace,
+        EntryKind::Installed(ReplicaId(replica), Number(number), [7; 32]),
+    )
+}
+
+fn tick(trace: &mut Vec<Entry>, client: u8) -> Result<(), NoMemory> {
+    put(trace, EntryKind::Tick(Party::Client(client_of(client))))
+}
+
+fn put_step(alloc: Global, trace: &mut Vec<Entry>, step: Step<'_>) -> Result<(), NoMemory> {
+    match step {
+        Step::Invoke(client, timestamp, op) => invoke(alloc, trace, client, timestamp, op),
+        Step::Execute(replicas, number, requests) => {
+            execute(alloc, trace, replicas, number, requests)
+        }
+        Step::Install(replica, number) => install(trace, replica, number),
+        Step::Get(client, reply) => get(alloc, trace, client, reply, 0),
+        Step::GetForged(client, reply) => get(alloc, trace, client, reply, 1),
+        Step::Accept(client, timestamp, answer) => accept(alloc, trace, client, timestamp, answer),
+        Step::Tick(client) => tick(trace, client),
+    }
+}
+
+fn put_steps(alloc: Global, trace: &mut Vec<Entry>, steps: &[Step<'_>]) -> Result<(), NoMemory> {
+    for &step in steps {
+        put_step(alloc, trace, step)?;
+    }
+    Ok(())
 }
 
 fn is_row(
@@ -105,17 +170,14 @@ fn is_row(
     point: &Point,
     (client, timestamp, op, answer, position): Row<'_>,
 ) -> Result<bool, NoMemory> {
-    let mut op_bytes = Vec::new(alloc);
-    encode_op(&point.op, &mut op_bytes)?;
-    let mut answer_bytes = Vec::new(alloc);
-    encode_result(&point.answer, &mut answer_bytes)?;
-    Ok(
-        point.client.number == client
-            && point.timestamp.0 == timestamp
-            && op_bytes.as_slice() == op
-            && answer_bytes.as_slice() == answer
-            && point.position == position,
-    )
+    let stands = point.client.number == client
+        && point.timestamp.0 == timestamp
+        && point.position == position;
+    all_hold(&[
+        Ok(stands),
+        spells_op(alloc, &point.op, op),
+        spells_answer(alloc, &point.answer, answer),
+    ])
 }
 
 fn are_rows(alloc: Global, found: &[Point], rows: &[Row<'_>]) -> Result<bool, NoMemory> {
@@ -127,16 +189,46 @@ fn are_rows(alloc: Global, found: &[Point], rows: &[Row<'_>]) -> Result<bool, No
     Ok(found.len() == rows.len())
 }
 
-/// Whether these are the points of the trace, in this order, where these replicas are faulty.
-pub fn has_points(
+fn finds(
+    alloc: Global,
+    config: &Config,
+    trace: &[Entry],
+    rows: &[Row<'_>],
+) -> Result<bool, NoMemory> {
+    let found = points(alloc, config, trace)?;
+    let is_right = are_rows(alloc, found.as_slice(), rows);
+    drop(found);
+    is_right
+}
+
+fn finds_in_world(
     alloc: Global,
     faulty_replicas: &[u16],
     trace: &[Entry],
     rows: &[Row<'_>],
 ) -> Result<bool, NoMemory> {
-    let Some(config) = world(alloc, faulty_replicas) else {
-        return Err(NoMemory);
+    match world(alloc, faulty_replicas) {
+        Some(config) => {
+            let is_right = finds(alloc, &config, trace, rows);
+            drop(config);
+            is_right
+        }
+        None => Err(NoMemory),
+    }
+}
+
+/// Whether these are the points of the trace of these steps, in this order, where these replicas are faulty.
+pub fn has_points(
+    alloc: Global,
+    faulty_replicas: &[u16],
+    steps: &[Step<'_>],
+    rows: &[Row<'_>],
+) -> Result<bool, NoMemory> {
+    let mut trace = Vec::new(alloc);
+    let is_right = match put_steps(alloc, &mut trace, steps) {
+        Ok(()) => finds_in_world(alloc, faulty_replicas, &trace, rows),
+        Err(NoMemory) => Err(NoMemory),
     };
-    let found = points(alloc, &config, trace)?;
-    are_rows(alloc, found.as_slice(), rows)
+    drop(trace);
+    is_right
 }

@@ -1,12 +1,14 @@
 //! What reads of a space with the tuples ("k") and (true) come to.
 
+use crate::answers::{holds, spells_answer};
 use bumpalo::Bump;
 use read_only::{ReadFault, ReadRequest, Shelf, answer};
 use space::Space;
 use std::alloc::Global;
 use std::test::Fail;
 use terms::{ClientId, Mode, NoMemory, Number, Timestamp};
-use tuple_codec::{Bad, decode_op, encode_result, is_op};
+use test_bytes::read_op;
+use tuple_codec::{Op, is_op};
 use wire::Reply;
 
 static STORED: [&[u8]; 2] = [b"\x21\x01\x02\x00\x01k", b"\x21\x01\x04\x01"];
@@ -14,20 +16,47 @@ static STORED: [&[u8]; 2] = [b"\x21\x01\x02\x00\x01k", b"\x21\x01\x04\x01"];
 const NUMBER: Number = Number(17);
 
 /// A space with the two tuples.
-pub fn new_space(alloc: Global) -> Result<Space, Bad> {
+pub fn new_space(alloc: Global) -> Result<Space, NoMemory> {
     let mut space = Space::new(alloc);
-    for &bytes in &STORED {
-        put(alloc, &mut space, bytes)?;
+    match put_all(alloc, &mut space) {
+        Ok(()) => Ok(space),
+        Err(NoMemory) => {
+            drop(space);
+            Err(NoMemory)
+        }
     }
-    Ok(space)
 }
 
-fn put(alloc: Global, space: &mut Space, bytes: &[u8]) -> Result<(), Bad> {
-    let (op, _) = decode_op(alloc, bytes)?;
-    if space.births_left() {
-        space.apply(0, &op)?;
+fn put_all(alloc: Global, space: &mut Space) -> Result<(), NoMemory> {
+    for &bytes in &STORED {
+        put(alloc, space, bytes)?;
     }
     Ok(())
+}
+
+// Operations and answers are dropped by a call: at the end of a function all kinds of them are told apart.
+fn put(alloc: Global, space: &mut Space, bytes: &[u8]) -> Result<(), NoMemory> {
+    match read_op(alloc, bytes) {
+        Some(op) => {
+            let applied = apply(space, &op);
+            drop(op);
+            applied
+        }
+        None => Err(NoMemory),
+    }
+}
+
+fn apply(space: &mut Space, op: &Op<Global>) -> Result<(), NoMemory> {
+    if !space.births_left() {
+        return Ok(());
+    }
+    match space.apply(0, op) {
+        Ok(answer) => {
+            drop(answer);
+            Ok(())
+        }
+        Err(NoMemory) => Err(NoMemory),
+    }
 }
 
 /// Answers the operation of these bytes to client 1, with the timestamp 9, where they are one.
@@ -54,15 +83,18 @@ pub fn read(
 
 /// Whether the reply is to that request, and says this.
 pub fn says(alloc: Global, reply: &Reply, answer: &[u8]) -> Result<bool, NoMemory> {
-    let mut bytes = Vec::new(alloc);
-    encode_result(&reply.answer, &mut bytes)?;
-    Ok(
-        reply.client.number == 1
-            && reply.timestamp.0 == 9
-            && reply.kind == Mode::ReadOnly
-            && reply.number.0 == NUMBER.0
-            && bytes.as_slice() == answer,
-    )
+    if is_to_request(reply) {
+        spells_answer(alloc, &reply.answer, answer)
+    } else {
+        Ok(false)
+    }
+}
+
+fn is_to_request(reply: &Reply) -> bool {
+    reply.client.number == 1
+        && reply.timestamp.0 == 9
+        && reply.kind == Mode::ReadOnly
+        && reply.number.0 == NUMBER.0
 }
 
 // An operation and its answer, in bytes; none where it is refused.
@@ -124,10 +156,21 @@ fn all_agree(alloc: Global, space: &Space, arena: &mut Bump) -> Result<bool, NoM
     Ok(space.count() == 2)
 }
 
+fn all_agree_in_arena(alloc: Global, space: &Space) -> Result<bool, NoMemory> {
+    let mut arena = Bump::new(alloc);
+    let is_right = all_agree(alloc, space, &mut arena);
+    drop(arena);
+    is_right
+}
+
+fn all_agree_in_space(alloc: Global) -> Result<bool, NoMemory> {
+    let space = new_space(alloc)?;
+    let is_right = all_agree_in_arena(alloc, &space);
+    drop(space);
+    is_right
+}
+
 #[test]
 fn operations(rt: HostRuntime) -> Result<(), Fail> {
-    let space = new_space(rt.alloc())?;
-    let mut arena = Bump::new(rt.alloc());
-    assert!(rt; all_agree(rt.alloc(), &space, &mut arena)?);
-    Ok(())
+    holds(all_agree_in_space(rt.alloc()))
 }

@@ -1,11 +1,13 @@
 //! Reads that memory is refused to, and what is left in the arena.
 
+use crate::answers::holds;
 use crate::reads::answering::{new_space, read, says};
 use bumpalo::Bump;
 use read_only::ReadFault;
 use space::Space;
 use std::alloc::{AllocError, Global};
 use std::test::Fail;
+use terms::NoMemory;
 
 // More than a read takes of the arena, in bytes.
 const AMPLE: usize = 8192;
@@ -30,36 +32,83 @@ fn meagre(alloc: Global, left: usize) -> Result<Bump, AllocError> {
     Ok(arena)
 }
 
+// Whether nothing is found in the arena, or memory runs out in it; none where neither is so.
+fn finds_nothing(alloc: Global, space: &Space, arena: &mut Bump) -> Option<bool> {
+    let answered = read(alloc, space, ABSENT, arena);
+    let found = match &answered {
+        Some(Ok(_)) => Some(true),
+        Some(Err(ReadFault::NoMemory)) => Some(false),
+        Some(Err(ReadFault::NotReadOnly)) | None => None,
+    };
+    drop(answered);
+    found
+}
+
+// The same in an arena that has so many bytes left.
+fn finds_nothing_in(alloc: Global, space: &Space, left: usize) -> Result<Option<bool>, AllocError> {
+    let mut arena = meagre(alloc, left)?;
+    let found = finds_nothing(alloc, space, &mut arena);
+    drop(arena);
+    Ok(found)
+}
+
 // The least number of bytes of an arena in which nothing is found, where with any less it says that memory ran out: so
 // each growth of the operation was refused once.
 fn least_arena(alloc: Global, space: &Space) -> Result<Option<usize>, AllocError> {
     for left in 0..AMPLE {
-        let mut arena = meagre(alloc, left)?;
-        match read(alloc, space, ABSENT, &mut arena) {
-            Some(Ok(_)) => return Ok(Some(left)),
-            Some(Err(ReadFault::NoMemory)) => {}
-            Some(Err(ReadFault::NotReadOnly)) | None => return Ok(None),
+        match finds_nothing_in(alloc, space, left)? {
+            Some(true) => return Ok(Some(left)),
+            Some(false) => {}
+            None => return Ok(None),
         }
     }
     Ok(None)
 }
 
+fn needs_some(alloc: Global, space: &Space) -> Result<bool, NoMemory> {
+    match least_arena(alloc, space)? {
+        Some(left) => Ok(left > 0),
+        None => Ok(false),
+    }
+}
+
+fn needs_some_in_space(alloc: Global) -> Result<bool, NoMemory> {
+    let space = new_space(alloc)?;
+    let is_right = needs_some(alloc, &space);
+    drop(space);
+    is_right
+}
+
 #[test]
 fn growths_in_the_arena(rt: HostRuntime) -> Result<(), Fail> {
-    let space = new_space(rt.alloc())?;
-    let least = least_arena(rt.alloc(), &space)?;
-    assert!(rt; least.is_some_and(|left| left > 0));
-    Ok(())
+    holds(needs_some_in_space(rt.alloc()))
+}
+
+fn is_refused(alloc: Global, space: &Space, arena: &mut Bump) -> bool {
+    let taken = read(alloc, space, TAKE, arena);
+    let is_right = matches!(&taken, Some(Err(ReadFault::NotReadOnly)));
+    drop(taken);
+    is_right
+}
+
+fn is_refused_in_none(alloc: Global, space: &Space) -> Result<bool, NoMemory> {
+    let mut arena = meagre(alloc, 0)?;
+    let is_right = is_refused(alloc, space, &mut arena);
+    drop(arena);
+    Ok(is_right)
+}
+
+fn is_refused_in_space(alloc: Global) -> Result<bool, NoMemory> {
+    let space = new_space(alloc)?;
+    let is_right = is_refused_in_none(alloc, &space);
+    drop(space);
+    is_right
 }
 
 // What is no read is refused as such where there is no memory.
 #[test]
 fn refused_without_memory(rt: HostRuntime) -> Result<(), Fail> {
-    let space = new_space(rt.alloc())?;
-    let mut arena = meagre(rt.alloc(), 0)?;
-    let taken = read(rt.alloc(), &space, TAKE, &mut arena);
-    assert!(rt; matches!(taken, Some(Err(ReadFault::NotReadOnly))));
-    Ok(())
+    holds(is_refused_in_space(rt.alloc()))
 }
 
 fn room(arena: &Bump) -> (usize, usize) {
@@ -88,12 +137,23 @@ fn leaves_all_room(alloc: Global, space: &Space, arena: &mut Bump) -> bool {
         && leaves_room(alloc, space, arena, TAKE, before)
 }
 
+fn leaves_an_arena(alloc: Global, space: &Space) -> Result<bool, NoMemory> {
+    let mut arena = Bump::try_with_capacity(alloc, AMPLE)?;
+    let is_right = leaves_all_room(alloc, space, &mut arena);
+    drop(arena);
+    Ok(is_right)
+}
+
+fn leaves_an_arena_in_space(alloc: Global) -> Result<bool, NoMemory> {
+    let space = new_space(alloc)?;
+    let is_right = leaves_an_arena(alloc, &space);
+    drop(space);
+    is_right
+}
+
 #[test]
 fn the_arena_is_empty_again(rt: HostRuntime) -> Result<(), Fail> {
-    let space = new_space(rt.alloc())?;
-    let mut arena = Bump::try_with_capacity(rt.alloc(), AMPLE)?;
-    assert!(rt; leaves_all_room(rt.alloc(), &space, &mut arena));
-    Ok(())
+    holds(leaves_an_arena_in_space(rt.alloc()))
 }
 
 // Whether both tuples are read, at the second try where memory ran out at the first one.
@@ -106,22 +166,40 @@ fn reads_both(alloc: Global, space: &Space, arena: &mut Bump) -> bool {
 
 // Whether both are read, or None where memory ran out.
 fn read_once(alloc: Global, space: &Space, arena: &mut Bump) -> Option<bool> {
-    match read(alloc, space, ALL, arena) {
-        Some(Ok(reply)) => says(alloc, &reply, BOTH).ok(),
+    let answered = read(alloc, space, ALL, arena);
+    let said = match &answered {
+        Some(Ok(reply)) => says(alloc, reply, BOTH).ok(),
         Some(Err(ReadFault::NoMemory)) => None,
         _ => Some(false),
+    };
+    drop(answered);
+    said
+}
+
+fn reads_both_in_arena(alloc: Global, space: &Space) -> bool {
+    let mut arena = Bump::new(alloc);
+    let is_right = reads_both(alloc, space, &mut arena);
+    drop(arena);
+    is_right
+}
+
+fn new_space_again(alloc: Global) -> Result<Space, NoMemory> {
+    match new_space(alloc) {
+        Ok(space) => Ok(space),
+        Err(NoMemory) => new_space(alloc),
     }
+}
+
+fn reads_both_in_space(alloc: Global) -> Result<bool, NoMemory> {
+    let space = new_space_again(alloc)?;
+    let is_right = reads_both_in_arena(alloc, &space);
+    drop(space);
+    Ok(is_right)
 }
 
 // In a plain run nothing is refused here. `tools/growths` refuses the growth of number N: where that
 // is one of the read's, of the arena or of the reply, this test passes.
 #[test]
 fn growths_in_ordinary_memory(rt: HostRuntime) -> Result<(), Fail> {
-    let space = match new_space(rt.alloc()) {
-        Ok(space) => space,
-        Err(_) => new_space(rt.alloc())?,
-    };
-    let mut arena = Bump::new(rt.alloc());
-    assert!(rt; reads_both(rt.alloc(), &space, &mut arena));
-    Ok(())
+    holds(reads_both_in_space(rt.alloc()))
 }

@@ -1,14 +1,15 @@
 //! The state that a batch of two requests leaves, installed from its pages, which are written by docs/formats.md.
 
-use crate::state::batches::{ROOT_AFTER_ONE, ROOT_AFTER_TWO, beginning, leaves};
-use crate::state::frames::batch_of_two;
+use crate::answers::{all_hold, holds, spells_answer};
+use crate::state::batches::{ROOT_AFTER_ONE, ROOT_AFTER_TWO, beginning, has_root, leaves};
 use execution::Executed;
 use partition_tree::{PAGES, Tree};
 use space::PeekFault;
 use std::alloc::Global;
 use std::test::Fail;
 use terms::{ClientId, Digest, NoMemory, Number};
-use tuple_codec::{Bad, decode_op, encode_result};
+use test_bytes::read_op;
+use tuple_codec::Op;
 
 // A page and its text.
 type Text = (usize, &'static [u8]);
@@ -43,111 +44,163 @@ const LAST_CLIENT: Text = (511, b"\0\0\0\0\0\0\0\x03\0\0\0\0\0\0\0\x011");
 
 // The roots were computed by Python's hashlib, over the pages after one batch with each of these changes, as
 // docs/formats.md has them.
-const ROOT_OF_THREE: Digest = [
+static ROOT_OF_THREE: Digest = [
     0x2d, 0x32, 0x9f, 0x9a, 0x7e, 0x65, 0xe7, 0x2b, 0xbf, 0x01, 0x48, 0x8a, 0x92, 0x45, 0x10, 0x00,
     0x42, 0x35, 0x66, 0xf1, 0x96, 0xb1, 0x20, 0xb4, 0x17, 0xce, 0xc6, 0x80, 0x0c, 0xd7, 0xee, 0x95,
 ];
 
-const ROOT_OF_LATER: Digest = [
+static ROOT_OF_LATER: Digest = [
     0x10, 0x64, 0x71, 0x92, 0x9e, 0x99, 0x55, 0xfa, 0xb0, 0x66, 0x36, 0x84, 0x05, 0xb2, 0xfb, 0x9d,
     0x89, 0x34, 0xfb, 0xce, 0xc6, 0xf9, 0x8f, 0x54, 0x63, 0x21, 0xd3, 0x4c, 0xec, 0x79, 0x0e, 0x1e,
 ];
 
-const ROOT_OF_LAST_CLIENT: Digest = [
+static ROOT_OF_LAST_CLIENT: Digest = [
     0x21, 0x8f, 0x52, 0xdb, 0xcd, 0xbc, 0x78, 0xb0, 0x83, 0x25, 0x15, 0x48, 0xb1, 0xad, 0xdc, 0x7f,
     0x4f, 0x9f, 0xa8, 0xa0, 0x32, 0x9d, 0x1f, 0xe1, 0x89, 0x1d, 0xb3, 0x72, 0x93, 0x9c, 0xe4, 0x7a,
 ];
 
-// A tree of these pages, with one of them changed, where one is.
-fn tree_of(alloc: Global, texts: &[Text], changed: Option<Text>) -> Result<Tree, NoMemory> {
-    let mut tree = Tree::new(alloc)?;
-    set_all(&mut tree, texts, changed)?;
-    Ok(tree)
-}
-
+// Sets these pages, and then the one that is changed, where one is.
 fn set_all(tree: &mut Tree, texts: &[Text], changed: Option<Text>) -> Result<(), NoMemory> {
     for text in texts {
         set(tree, *text)?;
     }
-    if let Some(text) = changed {
-        set(tree, text)?;
+    match changed {
+        Some(text) => set(tree, text),
+        None => Ok(()),
     }
-    Ok(())
 }
 
 fn set(tree: &mut Tree, (page, text): Text) -> Result<(), NoMemory> {
     if page < PAGES {
-        tree.set_page(page, text)?;
+        tree.set_page(page, text)
+    } else {
+        Ok(())
     }
-    Ok(())
 }
 
-// Whether the pages after one batch, changed so, are installed as those of this number.
+// Whether these pages, with one of them changed, where one is, are installed as those of this number.
+fn installs_pages(
+    executed: &mut Executed,
+    alloc: Global,
+    number: u64,
+    texts: &[Text],
+    changed: Option<Text>,
+) -> Result<bool, NoMemory> {
+    let mut pages = Tree::new(alloc)?;
+    match set_all(&mut pages, texts, changed) {
+        Ok(()) => executed.install(Number(number), pages),
+        Err(NoMemory) => {
+            drop(pages);
+            Err(NoMemory)
+        }
+    }
+}
+
+// The same of the pages after one batch.
 fn installs(
     executed: &mut Executed,
     alloc: Global,
     number: u64,
     changed: Option<Text>,
 ) -> Result<bool, NoMemory> {
-    let pages = tree_of(alloc, &AFTER_ONE, changed)?;
-    executed.install(Number(number), pages)
+    installs_pages(executed, alloc, number, &AFTER_ONE, changed)
 }
 
 fn new_state(alloc: Global) -> Result<Box<Executed>, NoMemory> {
-    let mut executed = beginning(alloc, true)?;
-    let _installed = installs(&mut *executed, alloc, 1, None)?;
-    Ok(executed)
+    let mut executed = beginning(alloc, 2)?;
+    match installs(&mut *executed, alloc, 1, None) {
+        Ok(_) => Ok(executed),
+        Err(NoMemory) => {
+            drop(executed);
+            Err(NoMemory)
+        }
+    }
 }
 
 // Whether the state is the one after one batch.
 fn is_after_one(executed: &mut Executed) -> Result<bool, NoMemory> {
-    Ok(
-        executed.number().0 == 1
-            && executed.seen(ClientId { number: 0 }).0 == 1
-            && executed.seen(ClientId { number: 1 }).0 == 2
-            && executed.root()? == ROOT_AFTER_ONE,
-    )
+    let is_of_one = executed.number().0 == 1
+        && executed.seen(ClientId { number: 0 }).0 == 1
+        && executed.seen(ClientId { number: 1 }).0 == 2;
+    all_hold(&[Ok(is_of_one), has_root(executed, &ROOT_AFTER_ONE)])
+}
+
+fn is_installed(alloc: Global) -> Result<bool, NoMemory> {
+    let mut executed = beginning(alloc, 2)?;
+    let installed = installs(&mut *executed, alloc, 1, None);
+    let answer = all_hold(&[installed, is_after_one(&mut *executed)]);
+    drop(executed);
+    answer
 }
 
 #[test]
 fn a_state_is_installed(rt: HostRuntime) -> Result<(), Fail> {
-    let mut executed = beginning(rt.alloc(), true)?;
-    assert!(rt; installs(&mut *executed, rt.alloc(), 1, None)?);
-    assert!(rt; is_after_one(&mut *executed)?);
-    Ok(())
+    holds(is_installed(rt.alloc()))
+}
+
+fn runs_none_again(alloc: Global) -> Result<bool, NoMemory> {
+    let mut executed = new_state(alloc)?;
+    let answer = leaves(&mut *executed, 0, &ROOT_AFTER_TWO);
+    drop(executed);
+    answer
 }
 
 // The next batch has the same requests, which don't run again.
 #[test]
 fn a_batch_runs_on_a_state(rt: HostRuntime) -> Result<(), Fail> {
-    let batch = batch_of_two(rt.alloc())?;
-    let mut executed = new_state(rt.alloc())?;
-    assert!(rt; leaves(&mut *executed, &batch, 0, &ROOT_AFTER_TWO)?);
-    Ok(())
+    holds(runs_none_again(rt.alloc()))
+}
+
+fn answers_op(
+    executed: &Executed,
+    alloc: Global,
+    op: &Op<Global>,
+    answer: &[u8],
+) -> Result<bool, NoMemory> {
+    match executed.space().peek(op) {
+        Ok(given) => {
+            let is_right = spells_answer(alloc, &given, answer);
+            drop(given);
+            is_right
+        }
+        Err(PeekFault::NotReadOnly) => Ok(false),
+        Err(PeekFault::NoMemory) => Err(NoMemory),
+    }
 }
 
 // Whether the space answers the read of these bytes so.
-fn answers(executed: &Executed, alloc: Global, op: &[u8], answer: &[u8]) -> Result<bool, Bad> {
-    let (op, _) = decode_op(alloc, op)?;
-    let mut bytes = Vec::new(alloc);
-    match executed.space().peek(&op) {
-        Ok(given) => encode_result(&given, &mut bytes)?,
-        Err(PeekFault::NotReadOnly) => return Ok(false),
-        Err(PeekFault::NoMemory) => return Err(Bad::NoMemory),
+fn answers(executed: &Executed, alloc: Global, op: &[u8], answer: &[u8]) -> Result<bool, NoMemory> {
+    match read_op(alloc, op) {
+        Some(op) => {
+            let is_right = answers_op(executed, alloc, &op, answer);
+            drop(op);
+            is_right
+        }
+        None => Err(NoMemory),
     }
-    Ok(bytes.as_slice() == answer)
 }
 
 // `rdp (2)` and `rdp (3)`.
-#[test]
-fn a_state_is_read(rt: HostRuntime) -> Result<(), Fail> {
-    let executed = new_state(rt.alloc())?;
+fn is_read(executed: &Executed, alloc: Global) -> Result<bool, NoMemory> {
     let found = b"\x32\x01\x01\0\0\0\0\0\0\0\x02";
     let two = b"\x22\x01\x01\0\0\0\0\0\0\0\x02";
     let three = b"\x22\x01\x01\0\0\0\0\0\0\0\x03";
-    assert_eq!(rt; answers(&*executed, rt.alloc(), two, found), Ok(true));
-    assert_eq!(rt; answers(&*executed, rt.alloc(), three, b"\x33"), Ok(true));
-    Ok(())
+    all_hold(&[
+        answers(executed, alloc, two, found),
+        answers(executed, alloc, three, b"\x33"),
+    ])
+}
+
+fn new_state_is_read(alloc: Global) -> Result<bool, NoMemory> {
+    let executed = new_state(alloc)?;
+    let answer = is_read(&*executed, alloc);
+    drop(executed);
+    answer
+}
+
+#[test]
+fn a_state_is_read(rt: HostRuntime) -> Result<(), Fail> {
+    holds(new_state_is_read(rt.alloc()))
 }
 
 // Whether the pages after one batch, changed so, are installed in place of those, and have this root.
@@ -158,83 +211,115 @@ fn replaces(
     changed: Text,
     root: &Digest,
 ) -> Result<bool, NoMemory> {
-    Ok(installs(executed, alloc, number, Some(changed))? && executed.root()? == *root)
+    let installed = installs(executed, alloc, number, Some(changed));
+    all_hold(&[installed, has_root(executed, root)])
 }
 
 // Nothing is left of the state that was there, whose timestamps were the same or lower.
-#[test]
-fn a_state_is_replaced(rt: HostRuntime) -> Result<(), Fail> {
-    let mut executed = new_state(rt.alloc())?;
-    assert!(rt; replaces(&mut *executed, rt.alloc(), 1, THREE, &ROOT_OF_THREE)?);
-    assert!(rt; replaces_later(&mut *executed, rt.alloc())?);
-    Ok(())
+fn is_replaced(executed: &mut Executed, alloc: Global) -> Result<bool, NoMemory> {
+    all_hold(&[
+        replaces(executed, alloc, 1, THREE, &ROOT_OF_THREE),
+        replaces(executed, alloc, 1, LATER, &ROOT_OF_LATER),
+        Ok(executed.seen(ClientId { number: 0 }).0 == 7),
+    ])
 }
 
-fn replaces_later(executed: &mut Executed, alloc: Global) -> Result<bool, NoMemory> {
-    Ok(
-        replaces(executed, alloc, 1, LATER, &ROOT_OF_LATER)?
-            && executed.seen(ClientId { number: 0 }).0 == 7,
-    )
+fn new_state_is_replaced(alloc: Global) -> Result<bool, NoMemory> {
+    let mut executed = new_state(alloc)?;
+    let answer = is_replaced(&mut *executed, alloc);
+    drop(executed);
+    answer
+}
+
+#[test]
+fn a_state_is_replaced(rt: HostRuntime) -> Result<(), Fail> {
+    holds(new_state_is_replaced(rt.alloc()))
+}
+
+// Whether these pages, changed so, are not installed as those of this number.
+fn is_refused(
+    executed: &mut Executed,
+    alloc: Global,
+    number: u64,
+    texts: &[Text],
+    changed: Option<Text>,
+) -> Result<bool, NoMemory> {
+    Ok(!installs_pages(executed, alloc, number, texts, changed)?)
+}
+
+fn keeps_the_last_client(executed: &mut Executed, alloc: Global) -> Result<bool, NoMemory> {
+    all_hold(&[
+        replaces(executed, alloc, 1, LAST_CLIENT, &ROOT_OF_LAST_CLIENT),
+        is_refused(executed, alloc, 1, &AFTER_ONE, None),
+        Ok(executed.seen(ClientId { number: 255 }).0 == 3),
+        has_root(executed, &ROOT_OF_LAST_CLIENT),
+    ])
+}
+
+fn last_client_is_kept(alloc: Global) -> Result<bool, NoMemory> {
+    let mut executed = beginning(alloc, 256)?;
+    let answer = keeps_the_last_client(&mut *executed, alloc);
+    drop(executed);
+    answer
 }
 
 // The reply to client 255 would be lost.
 #[test]
 fn the_last_client_counts(rt: HostRuntime) -> Result<(), Fail> {
-    let mut executed = Box::new(rt.alloc(), Executed::new(rt.alloc(), 256)?)?;
-    assert!(rt; keeps_the_last_client(&mut *executed, rt.alloc())?);
-    Ok(())
-}
-
-fn keeps_the_last_client(executed: &mut Executed, alloc: Global) -> Result<bool, NoMemory> {
-    Ok(
-        replaces(executed, alloc, 1, LAST_CLIENT, &ROOT_OF_LAST_CLIENT)?
-            && !installs(executed, alloc, 1, None)?
-            && executed.seen(ClientId { number: 255 }).0 == 3
-            && executed.root()? == ROOT_OF_LAST_CLIENT,
-    )
+    holds(last_client_is_kept(rt.alloc()))
 }
 
 // Which page of those after one batch is another one: no reply to client 0, and one of a lower timestamp to client 1.
-static LOWER: [Text; 2] = [(256, b""), (257, b"\0\0\0\0\0\0\0\x01\0\0\0\0\0\0\0\x011")];
+static LOWER: [(u64, Option<Text>); 2] = [
+    (1, Some((256, b""))),
+    (1, Some((257, b"\0\0\0\0\0\0\0\x01\0\0\0\0\0\0\0\x011"))),
+];
 
-// States in which a client's last timestamp is lower change nothing, whatever their numbers.
-#[test]
-fn no_timestamp_falls(rt: HostRuntime) -> Result<(), Fail> {
-    let mut executed = new_state(rt.alloc())?;
-    assert!(rt; refuses_lower_ones(&mut *executed, rt.alloc())?);
-    assert!(rt; refuses_state(&mut *executed, rt.alloc(), 0, &BEGINNING)?);
-    assert!(rt; refuses_state(&mut *executed, rt.alloc(), 2, &FORGETFUL)?);
-    Ok(())
-}
-
-fn refuses_lower_ones(executed: &mut Executed, alloc: Global) -> Result<bool, NoMemory> {
-    for &changed in &LOWER {
-        if !refuses(executed, alloc, 1, Some(changed))? {
+// Whether the pages after one batch, changed so, are refused as those of the number beside, and the state stays.
+fn refuses_all(
+    executed: &mut Executed,
+    alloc: Global,
+    rows: &[(u64, Option<Text>)],
+) -> Result<bool, NoMemory> {
+    for (number, changed) in rows {
+        if !refuses(executed, alloc, *number, &AFTER_ONE, *changed)? {
             return Ok(false);
         }
     }
     Ok(true)
 }
 
-// Whether the pages after one batch, changed so, are refused as those of this number, and the state stays.
+// Whether these pages, changed so, are refused as those of this number, and the state stays.
 fn refuses(
     executed: &mut Executed,
     alloc: Global,
     number: u64,
+    texts: &[Text],
     changed: Option<Text>,
 ) -> Result<bool, NoMemory> {
-    Ok(!installs(executed, alloc, number, changed)? && is_after_one(executed)?)
+    let refused = is_refused(executed, alloc, number, texts, changed);
+    all_hold(&[refused, is_after_one(executed)])
 }
 
-// The same of these pages.
-fn refuses_state(
-    executed: &mut Executed,
-    alloc: Global,
-    number: u64,
-    texts: &[Text],
-) -> Result<bool, NoMemory> {
-    let pages = tree_of(alloc, texts, None)?;
-    Ok(!executed.install(Number(number), pages)? && is_after_one(executed)?)
+fn refuses_lower_ones(executed: &mut Executed, alloc: Global) -> Result<bool, NoMemory> {
+    all_hold(&[
+        refuses_all(executed, alloc, &LOWER),
+        refuses(executed, alloc, 0, &BEGINNING, None),
+        refuses(executed, alloc, 2, &FORGETFUL, None),
+    ])
+}
+
+fn lower_ones_are_refused(alloc: Global) -> Result<bool, NoMemory> {
+    let mut executed = new_state(alloc)?;
+    let answer = refuses_lower_ones(&mut *executed, alloc);
+    drop(executed);
+    answer
+}
+
+// States in which a client's last timestamp is lower change nothing, whatever their numbers.
+#[test]
+fn no_timestamp_falls(rt: HostRuntime) -> Result<(), Fail> {
+    holds(lower_ones_are_refused(rt.alloc()))
 }
 
 // A number, and which page of those after one batch is another one, where one is.
@@ -262,31 +347,25 @@ static WRONG: [(u64, Option<Text>); 13] = [
     (1, Some((1023, b"1"))),
 ];
 
-#[test]
-fn pages_of_no_state(rt: HostRuntime) -> Result<(), Fail> {
-    let mut executed = new_state(rt.alloc())?;
-    assert!(rt; refuses_wrong_ones(&mut *executed, rt.alloc())?);
-    Ok(())
+fn wrong_ones_are_refused(alloc: Global) -> Result<bool, NoMemory> {
+    let mut executed = new_state(alloc)?;
+    let answer = refuses_all(&mut *executed, alloc, &WRONG);
+    drop(executed);
+    answer
 }
 
-fn refuses_wrong_ones(executed: &mut Executed, alloc: Global) -> Result<bool, NoMemory> {
-    for (number, changed) in &WRONG {
-        if !refuses(executed, alloc, *number, *changed)? {
+#[test]
+fn pages_of_no_state(rt: HostRuntime) -> Result<(), Fail> {
+    holds(wrong_ones_are_refused(rt.alloc()))
+}
+
+fn has_pages(executed: &mut Executed) -> Result<bool, NoMemory> {
+    for &text in &AFTER_ONE {
+        if !has_page(executed, text)? {
             return Ok(false);
         }
     }
     Ok(true)
-}
-
-// The pages that are lent are those installed, and those of a checkpoint.
-#[test]
-fn pages_are_lent(rt: HostRuntime) -> Result<(), Fail> {
-    let mut executed = new_state(rt.alloc())?;
-    for &text in &AFTER_ONE {
-        assert!(rt; has_page(&mut *executed, text)?);
-    }
-    assert!(rt; has_its_root(&mut *executed)?);
-    Ok(())
 }
 
 fn has_page(executed: &mut Executed, (page, text): Text) -> Result<bool, NoMemory> {
@@ -294,7 +373,23 @@ fn has_page(executed: &mut Executed, (page, text): Text) -> Result<bool, NoMemor
 }
 
 fn has_its_root(executed: &mut Executed) -> Result<bool, NoMemory> {
-    Ok(executed.checkpoint()?.root() == executed.pages()?.root())
+    let checkpoint = executed.checkpoint()?;
+    let root = checkpoint.root();
+    drop(checkpoint);
+    Ok(root == executed.pages()?.root())
+}
+
+fn new_pages_are_lent(alloc: Global) -> Result<bool, NoMemory> {
+    let mut executed = new_state(alloc)?;
+    let answer = all_hold(&[has_pages(&mut *executed), has_its_root(&mut *executed)]);
+    drop(executed);
+    answer
+}
+
+// The pages that are lent are those installed, and those of a checkpoint.
+#[test]
+fn pages_are_lent(rt: HostRuntime) -> Result<(), Fail> {
+    holds(new_pages_are_lent(rt.alloc()))
 }
 
 // Whether the pages after one batch are installed in a new state, at the second try where memory ran out at the first
@@ -312,19 +407,31 @@ fn installs_again(executed: &mut Executed, alloc: Global) -> Result<bool, NoMemo
     }
 }
 
+// The same at the second try where memory ran out at the first one.
+fn is_after_one_again(executed: &mut Executed) -> Result<bool, NoMemory> {
+    match is_after_one(executed) {
+        Ok(true) => Ok(true),
+        _ => is_after_one(executed),
+    }
+}
+
+fn beginning_again(alloc: Global) -> Result<Box<Executed>, NoMemory> {
+    match beginning(alloc, 2) {
+        Ok(executed) => Ok(executed),
+        Err(NoMemory) => beginning(alloc, 2),
+    }
+}
+
+fn is_installed_again(alloc: Global) -> Result<bool, NoMemory> {
+    let mut executed = beginning_again(alloc)?;
+    let installed = installs_again(&mut *executed, alloc);
+    let answer = all_hold(&[installed, is_after_one_again(&mut *executed)]);
+    drop(executed);
+    answer
+}
+
 // Passes whichever growth is refused, as by `tools/growths`.
 #[test]
 fn refused_memory(rt: HostRuntime) -> Result<(), Fail> {
-    let mut executed = match beginning(rt.alloc(), true) {
-        Ok(executed) => executed,
-        Err(NoMemory) => beginning(rt.alloc(), true)?,
-    };
-    assert!(rt; installs_again(&mut *executed, rt.alloc())?);
-    assert!(rt; is_after_one_again(&mut *executed)?);
-    Ok(())
-}
-
-// The same at the second try where memory ran out at the first one.
-fn is_after_one_again(executed: &mut Executed) -> Result<bool, NoMemory> {
-    Ok(matches!(is_after_one(executed), Ok(true)) || is_after_one(executed)?)
+    holds(is_installed_again(rt.alloc()))
 }
