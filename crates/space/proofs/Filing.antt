@@ -1,4 +1,4 @@
--- Lists of births by keys follow the entries.
+-- Lists of births by numbers and by keys follow the entries.
 use Rattle.std.proofs.Common.{◌≡◌, ◌≢◌, ℕ, zero, suc, ◌<◌, Bool, true, false, cond, List, [], ◌∷◌, ◌++◌, length, get_or, map, Some, refl, sym, ap, subst, ◌∙◌, arith, eq-eqb}
 use Rattle.std.specs.Prelude.{◌==◌, All, AllPairs, filter, find, remove, nat_lt, option_to_list}
 use Rattle.std.specs.Str.{bytes_eq}
@@ -15,8 +15,9 @@ use Rattle.tuple_tree.specs.Items.{none}
 use Rattle.tuple_tree.specs.Values.{TupleTree}
 use Rattle.space.specs.Ages.{without}
 use Rattle.space.specs.Births.{Entry}
-use Rattle.space.specs.Filing.{births_at, births_by, IsFiled}
+use Rattle.space.specs.Filing.{births_at, births_in, births_by, IsFiled, IsNumbered}
 use Rattle.space.specs.Found.{found_at, entries_at}
+use Rattle.space.specs.declared.birth_table.BirthTable.{BirthTable}
 use Rattle.space.specs.declared.lists.Lists.{Lists}
 
 -- ---- the births of the entries that pass a test
@@ -77,6 +78,27 @@ module _ (test : Entry → Bool) where
       go true false ys rs k = ap (λ zs. x.0 ∷ zs) k
       go false true ys rs k = k
       go false false ys rs k = k
+
+-- ---- lists of a number
+
+module _ (number_of : Entry → ℕ) (old : BirthTable) (es : List Entry) (numbered : IsNumbered number_of old es) where
+  pub IsNumbered-push : (new : BirthTable) (e : Entry) (number : ℕ) → number ≡ number_of e
+      → ((n : ℕ) → births_in new n ≡ births_in old n ++ cond (number == n) (e.0 ∷ []) []) → IsNumbered number_of new (es ++ e ∷ [])
+  IsNumbered-push new e number is h n =
+      h n ∙ ap (λ xs. xs ++ cond (number == n) (e.0 ∷ []) []) (numbered n)
+      ∙ ap (λ k. births_by (λ x. number_of x == n) es ++ cond (k == n) (e.0 ∷ []) []) is
+      ∙ sym (births_by_push (λ x. number_of x == n) es e)
+
+  numbered_rising : (n : ℕ) → AllPairs (λ e f. e.0 < f.0) es → AllPairs (λ a b. a < b) (births_in old n)
+  numbered_rising n h = subst (AllPairs (λ a b. a < b)) (sym (numbered n)) (rising_births (λ e. number_of e == n) es h)
+
+  pub IsNumbered-remove : (new : BirthTable) (i : ℕ) (e : Entry) (number : ℕ) → number ≡ number_of e → AllPairs (λ e f. e.0 < f.0) es → i < length es → e ≡ get_or es i e
+      → (AllPairs (λ a b. a < b) (births_in old number) → (n : ℕ) → births_in new n ≡ cond (number == n) (without e.0 (births_in old n)) (births_in old n))
+      → IsNumbered number_of new (remove es i)
+  IsNumbered-remove new i e number is rising within here h n =
+      h (numbered_rising number rising) n ∙ ap (λ xs. cond (number == n) (without e.0 xs) xs) (numbered n)
+      ∙ ap (λ k. cond (k == n) (without e.0 (births_by (λ x. number_of x == n) es)) (births_by (λ x. number_of x == n) es)) is
+      ∙ sym (births_by-remove (λ x. number_of x == n) es i e rising within here)
 
 -- ---- lists of a key
 

@@ -40,12 +40,16 @@ match_is_candidate p t h = and_from (how_many t == how_many p) (fits_first p t) 
 
 -- ---- a template whose first field is no actual
 
-pub open_key : (p : TemplateTree) (t : TupleTree) → template_key p ≡ None → bytes_eq (how_many t ∷ []) (how_many p ∷ []) ≡ is_candidate p t
-open_key none t h = refl
+alone_true : (b : Bool) → b ≡ (b && true)
+alone_true true = refl
+alone_true false = refl
+
+pub open_key : (p : TemplateTree) (t : TupleTree) → template_key p ≡ None → (how_many t == how_many p) ≡ is_candidate p t
+open_key none t h = alone_true (how_many t == 0)
 open_key (item (leaf (actual x)) p) t h = absurd (let g : ⊥ = cc in g)
-open_key (item (leaf any) p) t h = refl
-open_key (item (leaf (formal k)) p) t h = refl
-open_key (item (inner q) p) t h = refl
+open_key (item (leaf any) p) t h = alone_true (how_many t == how_many (item (leaf any) p))
+open_key (item (leaf (formal k)) p) t h = alone_true (how_many t == how_many (item (leaf (formal k)) p))
+open_key (item (inner q) p) t h = alone_true (how_many t == how_many (item (inner q) p))
 
 -- ---- a template whose first field is an actual
 

@@ -2,6 +2,7 @@ pub mod Passing
 pub mod Ages
 pub mod Filing
 pub mod Listed
+pub mod Numbered
 pub mod Listing
 pub mod Paging
 pub mod Keeping

@@ -1,8 +1,7 @@
 -- The tables and the index follow the tuples.
 use Rattle.std.proofs.Common.{◌≡◌, ℕ, suc, ◌+◌, ◌-◌, ◌%◌, ◌≤◌, ◌<◌, Bool, true, false, cond, List, [], ◌∷◌, ◌++◌, length, map, take, get_or, set, Some, refl, sym, ap, subst, ◌∙◌, arith, inl, inr}
-use Rattle.std.specs.Prelude.{◌==◌, ◌&&◌, All, AllPairs, filter, find, remove, nat_lt}
+use Rattle.std.specs.Prelude.{◌==◌, All, AllPairs, filter, find, remove, nat_lt}
 use Rattle.std.specs.Ordering.{nat_cmp, is_eq}
-use Rattle.std.specs.Str.{bytes_eq}
 use Rattle.std.specs.Map.{lookup, remove_entry}
 use Rattle.std.specs.BTreeMap.{is_at, insert_entry}
 use Rattle.std.proofs.lemmas.Bool.{cases_eq}
@@ -13,12 +12,12 @@ use Rattle.space.specs.Applying.{most_tuples, without_first}
 use Rattle.space.specs.Births.{Entry, SpaceState, IsState, tuples_of, first_passing, birth_of, oldest_births, with_birth}
 use Rattle.space.specs.Candidates.{is_candidate, candidates_of}
 use Rattle.space.specs.Counted.{IsIndexed}
-use Rattle.space.specs.Filing.{births_by, page_key, IsIndexOf}
+use Rattle.space.specs.Filing.{births_by, IsIndexOf}
 use Rattle.space.specs.Found.{entries_at}
 use Rattle.space.specs.Pages.{on_page, entries_text, page_text}
 use Rattle.space.specs.declared.index.Index.{Index}
 use Rattle.space.specs.declared.version.Version.{Version}
-use Rattle.space.proofs.Filing.{entries_of_births, find-filter, filter-same, each_found, at_other, at_same}
+use Rattle.space.proofs.Filing.{entries_of_births, find-filter, each_found, at_other, at_same}
 use Rattle.space.proofs.Keying.{match_is_candidate}
 use Rattle.space.proofs.Trees.{IsTaken, first_taken, removed_by_place, inserted_last}
 use Rattle.space.proofs.Keeping.{IsCounted-push, IsCounted-remove, counted_one, birth_by_counts}
@@ -73,15 +72,9 @@ module _ (s : SpaceState) (h : IsState s) where
           ∙ ap (λ (xs : List Entry). cond (is_match p e.1) (e ∷ xs) xs) (passing es)
 
   -- the births of a page lead to its tuples
-  pub page_among : (page : ℕ) → entries_text s.version (entries_at s.entries (births_by (λ e. bytes_eq (page_key e) (page ∷ [])) s.entries)) ≡ page_text s page
+  pub page_among : (page : ℕ) → entries_text s.version (entries_at s.entries (births_by (λ e. e.0 % 256 == page) s.entries)) ≡ page_text s page
   unfolding on_page
-  page_among page =
-      ap (entries_text s.version) (entries_of_births (λ e. bytes_eq (page_key e) (page ∷ [])) s.entries h.rising
-      ∙ filter-same (λ (e : Entry). bytes_eq (page_key e) (page ∷ [])) (λ e. e.0 % 256 == page) s.entries (λ k d l. both ((get_or s.entries k d).0 % 256 == page)))
-    where
-      both : (b : Bool) → (b && true) ≡ b
-      both true = refl
-      both false = refl
+  page_among page = ap (entries_text s.version) (entries_of_births (λ e. e.0 % 256 == page) s.entries h.rising)
 
 -- ---- the oldest match is taken
 

@@ -11,7 +11,7 @@ without birth births = without_first (λ other. other == birth) births
 abbrev pub AreRising : List ℕ → Type 0
 AreRising births = AllPairs (λ a b. a < b) births
 
--- births, the oldest first, and how many more fit behind them
+-- births, the oldest first, and how many more fit after them
 pub record ListedBirths : Type 0 where
   pub births : List ℕ
   pub room : ℕ

@@ -16,7 +16,7 @@ Answers result s client o = IfOk result (λ answer. outcome_of answer ≡ outcom
 abbrev pub AnswersAnyone : {A E : Type 0} → Result (Answer A) E → SpaceState → Operation → Type 0
 AnswersAnyone result s o = (client : ℕ) → Answers result s client o
 
--- The operation is refused as none that only reads, where it is none.
+-- The operation is refused as one that changes something, exactly if it is one.
 abbrev pub RefusesChanges : {V : Type 0} → Result V PeekFault → Operation → Type 0
 RefusesChanges result o = (result ≡ Err NotReadOnly) ↔ (is_read_only o ≡ false)
 

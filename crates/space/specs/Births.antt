@@ -40,7 +40,7 @@ page_count es page = count_by (λ e. e.0 % 256 == page) es
 abbrev pub has_page_room : List Entry → ℕ → Bool
 has_page_room es birth = nat_lt (page_count es (birth % 256)) 64
 
--- the first of the n numbers from start on that passes the test, else the number behind them
+-- the first of the n numbers from start on that passes the test, else the number after them
 unfoldable pub first_passing : (ℕ → Bool) → ℕ → ℕ → ℕ
 first_passing test zero start = start
 first_passing test (suc n) start = if test start then start else first_passing test n (start + 1)

@@ -17,7 +17,7 @@ abbrev pub fits_first : TemplateTree → TupleTree → Bool
 fits_first none t = true
 fits_first (item f p) t = fits_field f t
 
--- a tuple of the template's length, whose first value, where the first field is an actual, equals it
+-- a tuple of the template's length, whose first value, if the first field is an actual, equals it
 abbrev pub is_candidate : TemplateTree → TupleTree → Bool
 is_candidate p t = (how_many t == how_many p) && fits_first p t
 

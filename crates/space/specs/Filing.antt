@@ -1,5 +1,5 @@
--- Lists of births by keys of bytes, and the tuples that they lead to.
-use Rattle.std.specs.Prelude.{◌≡◌, ℕ, ◌%◌, ◌<◌, Bool, List, [], ◌∷◌, ◌++◌, length, map, filter, remove, slice_index_or, All, AllPairs, Option, Some, None, if◌then◌else◌}
+-- Lists of births by small numbers and by keys of bytes, and the tuples that they lead to.
+use Rattle.std.specs.Prelude.{◌≡◌, ℕ, ◌%◌, ◌<◌, ◌==◌, Bool, List, [], ◌∷◌, ◌++◌, length, map, filter, remove, slice_index_or, All, AllPairs, Option, Some, None, if◌then◌else◌}
 use Rattle.std.specs.Str.{bytes_eq}
 use Rattle.std.specs.HashMap.{get_by}
 use Rattle.tuple_tree.specs.Items.{how_many}
@@ -8,6 +8,7 @@ use Rattle.space.specs.Ages.{without, AreRising, ListedBirths}
 use Rattle.space.specs.Births.{Entry}
 use Rattle.space.specs.Candidates.{is_candidate}
 use Rattle.space.specs.Keys.{tuple_key}
+use Rattle.space.specs.declared.birth_table.BirthTable.{BirthTable}
 use Rattle.space.specs.declared.lists.Lists.{Lists}
 use Rattle.space.specs.declared.index.Index.{Index}
 
@@ -27,6 +28,18 @@ room_or_none (Some list) = list.room
 abbrev pub room_at : Lists → List ℕ → ℕ
 room_at l key = room_or_none (get_by (λ k. bytes_eq key k.items) l.lists)
 
+-- the list of a number that a table doesn't reach
+abbrev pub no_list : ListedBirths
+no_list = record { births = []; room = 0 }
+
+-- the births that are listed under a number
+abbrev pub births_in : BirthTable → ℕ → List ℕ
+births_in table n = (slice_index_or table.lists.items n no_list).births
+
+-- how many more births fit under a number
+abbrev pub room_in : BirthTable → ℕ → ℕ
+room_in table n = (slice_index_or table.lists.items n no_list).room
+
 -- the births of the entries that pass a test
 abbrev pub births_by : (Entry → Bool) → List Entry → List ℕ
 births_by test es = map (λ e. e.0) (filter test es)
@@ -35,18 +48,22 @@ births_by test es = map (λ e. e.0) (filter test es)
 abbrev pub IsFiled : (Entry → List ℕ) → Lists → List Entry → Type 0
 IsFiled key_of l es = (key : List ℕ) → births_at l key ≡ births_by (λ e. bytes_eq (key_of e) key) es
 
-abbrev pub page_key : Entry → List ℕ
-page_key e = e.0 % 256 ∷ []
+-- Each entry is listed under its number, in order of age.
+abbrev pub IsNumbered : (Entry → ℕ) → BirthTable → List Entry → Type 0
+IsNumbered number_of table es = (n : ℕ) → births_in table n ≡ births_by (λ e. number_of e == n) es
 
-abbrev pub length_key : Entry → List ℕ
-length_key e = how_many e.1 ∷ []
+abbrev pub page_number : Entry → ℕ
+page_number e = e.0 % 256
+
+abbrev pub value_count : Entry → ℕ
+value_count e = how_many e.1
 
 abbrev pub first_key : Entry → List ℕ
 first_key e = tuple_key e.1
 
 pub record IsIndexOf (index : Index) (es : List Entry) : Type 0 where
-  pub pages : IsFiled page_key index.pages es
-  pub lengths : IsFiled length_key index.lengths es
+  pub pages : IsNumbered page_number index.pages es
+  pub lengths : IsNumbered value_count index.lengths es
   pub firsts : IsFiled first_key index.firsts es
 
 -- a birth is listed, the newest one, under a key
@@ -54,7 +71,7 @@ abbrev pub AddsBirth : List ℕ → ℕ → Lists → Lists → Type 0
 AddsBirth key birth old new =
     (q : List ℕ) → births_at new q ≡ births_at old q ++ (if bytes_eq key q then birth ∷ [] else [])
 
--- a birth is taken from those of a key, where these rise
+-- a birth is taken from those of a key, if these rise
 abbrev pub TakesBirth : List ℕ → ℕ → Lists → Lists → Type 0
 TakesBirth key birth old new =
     AreRising (births_at old key)
@@ -68,10 +85,23 @@ KeepsBirths old new = (q : List ℕ) → births_at new q ≡ births_at old q
 abbrev pub LetsGo : List ℕ → Lists → Lists → Type 0
 LetsGo key old new = births_at old key ≡ [] → room_at new key ≡ 0
 
--- one more birth fits under each key of an entry
+-- the same in a table, by a number
+abbrev pub AddsInTable : ℕ → ℕ → BirthTable → BirthTable → Type 0
+AddsInTable number birth old new =
+    (n : ℕ) → births_in new n ≡ births_in old n ++ (if number == n then birth ∷ [] else [])
+
+abbrev pub TakesFromTable : ℕ → ℕ → BirthTable → BirthTable → Type 0
+TakesFromTable number birth old new =
+    AreRising (births_in old number)
+    → (n : ℕ) → births_in new n ≡ (if number == n then without birth (births_in old n) else births_in old n)
+
+abbrev pub KeepsTable : BirthTable → BirthTable → Type 0
+KeepsTable old new = (n : ℕ) → births_in new n ≡ births_in old n
+
+-- one more birth fits under each number and key of an entry
 abbrev pub HasRoom : Entry → Index → Type 0
 HasRoom e index =
-    (0 < room_at index.pages (page_key e)) × (0 < room_at index.lengths (length_key e))
+    (0 < room_in index.pages (page_number e)) × (0 < room_in index.lengths (value_count e))
     × (0 < room_at index.firsts (first_key e))
 
 -- an index of entries becomes that of these and a newest one
@@ -90,7 +120,7 @@ Unfiles e old new =
 
 -- the births of a page
 abbrev pub births_on : ℕ → List Entry → List ℕ
-births_on page es = births_by (λ e. bytes_eq (page_key e) (page ∷ [])) es
+births_on page es = births_by (λ e. page_number e == page) es
 
 -- these births are those of the tuples that the template may match
 abbrev pub AreCandidates : TemplateTree → List ℕ → List Entry → Type 0

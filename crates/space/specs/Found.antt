@@ -42,7 +42,7 @@ matches_in p es = filter (is_match p) (map (λ e. e.1) es)
 abbrev pub matches_at : TemplateTree → List Entry → List ℕ → List TupleTree
 matches_at p es births = matches_in p (entries_at es births)
 
--- The tuple of the birth is found, where the template matches it.
+-- The tuple of the birth is found, if the template matches it.
 abbrev pub IsMatchAt : TemplateTree → List Entry → ℕ → Option (Bor TupleTree) → Type 0
 IsMatchAt p es birth found = option_map (λ t. (birth, t.now)) found ≡ oldest_in p (found_at es birth)
 

@@ -22,7 +22,7 @@ ReadsKnowNoClient =
     (ts : Contents) (client other : ℕ) (o : Operation) → is_read_only o ≡ true
     → (outcome ts client o ≡ outcome ts other o) × (tuples_after ts client o ≡ ts)
 
--- States are equal where their pages and headers are, and so are the numbers of batches.
+-- States are equal if their pages and headers are, and so are the numbers of batches.
 abbrev pub PagesDetermine : Type 0
 PagesDetermine =
     (s t : SpaceState) (m n : ℕ) → IsStateAt s m → IsStateAt t n → header_text s m ≡ header_text t n

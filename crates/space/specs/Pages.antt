@@ -13,7 +13,7 @@ use Rattle.space.specs.Births.{Entry, SpaceState, IsState}
 use Rattle.space.specs.declared.version.Version.{Version}
 use Rattle.space.specs.declared.version.Version.TheVariants as versions
 
--- how a tuple stands on a page behind its birth number
+-- how a tuple stands on a page after its birth number
 abbrev pub stored_text : Version → TupleTree → List ℕ
 stored_text versions.One t = tuple_spelling t
 stored_text versions.Two t = string (tuple_spelling t)

@@ -21,7 +21,7 @@ pub record IsEntryOf (page least next : ℕ) (e : Entry) : Type 0 where
   pub below : e.0 < next
   pub tuple : IsTuple e.1
 
--- What is read is such a value, by its text in front, and the bytes behind that.
+-- The value that is read is such a one. Its text stands in front, and the bytes after it are left.
 abbrev pub ReadsBy : {V : Type 0} → (V → List ℕ) → (V → Type 0) → List ℕ → Result (V × Bor (List ℕ)) Bad → Type 0
 ReadsBy text IsSuch bytes result = IfOk result (λ x. IsSuch x.0 × (bytes ≡ text x.0 ++ x.1.now))
 
@@ -83,7 +83,7 @@ pub record IsFrontRead
   pub above : All (λ e. e.0 < least) (on_page page new)
   pub tight : (n : ℕ) → All (λ e. e.0 < n) (on_page page new) → least ≤ n
 
--- The tuples of the page were added, where it was read.
+-- The tuples of the page were added, if it was read.
 abbrev pub ReadsPage : {V : Type 0}
     → Version → ℕ → ℕ → List ℕ → Result V Bad → List Entry → List Entry → Type 0
 ReadsPage v page next text result old new = OnOk result (IsPageRead v page next text old new)

@@ -7,7 +7,7 @@ use std::alloc::Global;
 use std::marker::Model;
 use terms::NoMemory;
 
-/// Births, the oldest first. The oldest one is taken without a move of the others.
+/// Births, the oldest first. Taking the oldest moves no other.
 #[derive(Drop)]
 pub struct BirthList {
     births: Vec<u64>,
@@ -31,6 +31,16 @@ impl Model for BirthList {
 }
 
 impl BirthList {
+    /// The list of no births. Takes no memory.
+    pub fn new(alloc: Global) -> BirthList
+        ensures { result.births ≡ [] }
+    {
+        BirthList {
+            births: Vec::new(alloc),
+            taken: 0,
+        }
+    }
+
     /// The list of no births, with room for one.
     pub fn with_room(alloc: Global) -> Result<BirthList, NoMemory>
         ensures births { IfOk result (λ list. list.births ≡ []) }
@@ -56,7 +66,7 @@ impl BirthList {
         Ok(self.births.reserve(1)?)
     }
 
-    /// Adds a birth at the end, where there is room.
+    /// Adds a birth at the end, into room that was reserved.
     pub fn push(&mut self, birth: u64)
         requires { 0 < self.old.room }
         ensures { self.new.births ≡ self.old.births ++ birth ∷ [] }
@@ -64,7 +74,7 @@ impl BirthList {
         self.births.push_reserved(birth);
     }
 
-    /// Takes a birth, where it is there.
+    /// Takes a birth, if the list has it.
     pub fn remove(&mut self, birth: u64)
         ensures { AreRising self.old.births → self.new.births ≡ without birth self.old.births }
     {
@@ -98,7 +108,7 @@ impl BirthList {
         self.taken += 1;
     }
 
-    // Drops the places of those that were taken once these are more than half of all.
+    // Drops the places of the taken births once they are more than half of all places.
     fn trim(&mut self)
         ensures { self.new.births ≡ self.old.births }
     {

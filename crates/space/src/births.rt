@@ -7,7 +7,7 @@ ghost use Rattle.space.specs.Counted.{has_counted_room};
 /// How many pages there are. A birth number lies on the page of its remainder by this number.
 pub const PAGES: usize = 256;
 
-/// How many tuples lie on one page at the most.
+/// One page has at most so many tuples.
 pub const MAX_ON_PAGE: u8 = 64;
 
 /// The table of pages with no tuple.

@@ -1,13 +1,13 @@
-//! Where the tuples of a page, of a number of fields, and of a first value are found.
+//! Finds the births of a page, of a number of fields, and of a first value.
 
 ghost use Rattle.std.specs.Prelude.{◌≡◌, ◌<◌, ◌%◌, [], List, OnOk, IfOk};
-ghost use Rattle.tuple_tree.specs.Items.{how_many};
 ghost use Rattle.space.specs.Births.{Entry};
 ghost use Rattle.space.specs.Filing.{births_on, IsIndexOf, HasRoom, LetsGo, Files, FilesNothing, Unfiles, FindsCandidates};
 ghost use Rattle.space.specs.Keys.{tuple_key};
 
+use crate::birth_table::BirthTable;
 use crate::births::PAGES;
-use crate::keys::{key_of_template, key_of_tuple};
+use crate::keys::{Key, key_of_template, key_of_tuple};
 use crate::lists::Lists;
 use std::alloc::{Allocator, Global};
 use std::collections::BTreeMap;
@@ -17,8 +17,8 @@ use tuple_tree::{Template, Tuple};
 /// The births of the stored tuples by their page, by their number of fields, and by that number with the first value.
 #[derive(Drop)]
 pub struct Index {
-    pages: Lists,
-    lengths: Lists,
+    pages: BirthTable,
+    lengths: BirthTable,
     firsts: Lists,
 }
 
@@ -28,8 +28,8 @@ impl Index {
         ensures { IsIndexOf result [] }
     {
         Index {
-            pages: Lists::new(alloc),
-            lengths: Lists::new(alloc),
+            pages: BirthTable::new(alloc),
+            lengths: BirthTable::new(alloc),
             firsts: Lists::new(alloc),
         }
     }
@@ -40,41 +40,46 @@ impl Index {
     {
         let mut index = Index::new(alloc);
         for (birth, tuple) in tuples {
-            index.reserve(*birth, tuple)?;
-            index.add(*birth, tuple);
+            let first = key_of_tuple(tuple);
+            index.reserve(*birth, tuple, &first)?;
+            index.add(*birth, tuple, &first);
         }
         Ok(index)
     }
 
-    /// Makes room for a tuple. What is listed stays, also at an `Err`.
-    pub fn reserve<A: Allocator>(&mut self, birth: u64, tuple: &Tuple<A>) -> Result<(), NoMemory>
+    /// Makes room for a tuple; `first` is its key. The listed births stay, also at an `Err`.
+    pub fn reserve<A: Allocator>(
+        &mut self,
+        birth: u64,
+        tuple: &Tuple<A>,
+        first: &Key,
+    ) -> Result<(), NoMemory>
+        requires { first.now.items ≡ tuple_key tuple.now }
         ensures ok { OnOk result (HasRoom (birth, tuple.now) self.new) }
         ensures kept { FilesNothing self.old self.new }
     {
-        self.pages.reserve(&[page_of(birth)])?;
-        self.lengths.reserve(&[count_of(tuple)])?;
-        // Last, since the keys of first values are without end: an `Err` leaves no list at a new one.
-        let first = key_of_tuple(tuple);
+        self.pages.reserve(page_of(birth))?;
+        self.lengths.reserve(tuple.len())?;
+        // Last, since there are endless first values: an `Err` must leave no list at a new key.
         self.firsts.reserve(first.as_slice())
     }
 
-    /// Adds the newest tuple, where there is room.
-    pub fn add<A: Allocator>(&mut self, birth: u64, tuple: &Tuple<A>)
-        requires { HasRoom (birth, tuple.now) self.old }
+    /// Adds the newest tuple, into room that was reserved; `first` is its key.
+    pub fn add<A: Allocator>(&mut self, birth: u64, tuple: &Tuple<A>, first: &Key)
+        requires key { first.now.items ≡ tuple_key tuple.now }
+        requires room { HasRoom (birth, tuple.now) self.old }
         ensures { Files (birth, tuple.now) self.old self.new }
     {
-        self.pages.add(&[page_of(birth)], birth);
-        self.lengths.add(&[count_of(tuple)], birth);
-        let first = key_of_tuple(tuple);
+        self.pages.add(page_of(birth), birth);
+        self.lengths.add(tuple.len(), birth);
         self.firsts.add(first.as_slice(), birth);
     }
 
-    /// Lets go of the room for a tuple's first value where no tuple has it. The 256 pages and 33 lengths keep theirs.
-    pub fn prune<A: Allocator>(&mut self, tuple: &Tuple<A>)
+    /// Frees the list of a first value, by its key, if no tuple has it. The 256 pages and 33 lengths keep their lists.
+    pub fn prune(&mut self, first: &Key)
         ensures kept { FilesNothing self.old self.new }
-        ensures gone { LetsGo (tuple_key tuple.now) self.old.firsts self.new.firsts }
+        ensures gone { LetsGo first.now.items self.old.firsts self.new.firsts }
     {
-        let first = key_of_tuple(tuple);
         self.firsts.prune(first.as_slice());
     }
 
@@ -82,46 +87,33 @@ impl Index {
     pub fn remove(&mut self, birth: u64, tuple: &Tuple<Global>)
         ensures { Unfiles (birth, tuple.now) self.old self.new }
     {
-        let page = [page_of(birth)];
-        self.pages.remove(&page, birth);
-        let count = [count_of(tuple)];
-        self.lengths.remove(&count, birth);
+        self.pages.remove(page_of(birth), birth);
+        self.lengths.remove(tuple.len(), birth);
         let first = key_of_tuple(tuple);
         self.firsts.remove(first.as_slice(), birth);
     }
 
     /// The births of a page, 0 to 255.
     pub fn on_page(&self, page: usize) -> &[u64]
-        requires { page < PAGES }
         ensures { (es : List Entry) → IsIndexOf self.now es → result.now ≡ births_on page es }
     {
-        let key = [page as u8];
-        self.pages.get(&key)
+        self.pages.get(page)
     }
 
-    /// The births of the tuples that a template may match: those of its length and of its first value, where its first
-    /// field is an actual.
+    /// The births of the tuples that a template may match: those of its length and, if its first field is an actual, of
+    /// that first value.
     pub fn candidates<A: Allocator>(&self, template: &Template<A>) -> &[u64]
         ensures { FindsCandidates template.now self.now result.now }
     {
         match key_of_template(template) {
             Some(key) => self.firsts.get(key.as_slice()),
-            None => {
-                let count = [template.len() as u8];
-                self.lengths.get(&count)
-            }
+            None => self.lengths.get(template.len()),
         }
     }
 }
 
-fn page_of(birth: u64) -> u8
+fn page_of(birth: u64) -> usize
     ensures { result ≡ birth % 256 }
 {
-    (birth % PAGES as u64) as u8
-}
-
-fn count_of<A: Allocator>(tuple: &Tuple<A>) -> u8
-    ensures { result ≡ how_many tuple.now }
-{
-    tuple.len() as u8
+    (birth % PAGES as u64) as usize
 }

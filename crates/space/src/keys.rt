@@ -10,10 +10,10 @@ use arrayvec::ArrayVec;
 use std::alloc::Allocator;
 use tuple_tree::{Atom, Field, Template, Tuple, Value};
 
-/// How long a key of a first value is at the most: a count and the spelling of a value.
+/// A key has at most so many bytes: a count and the spelling of a value.
 pub const KEY_LEN: usize = 1026;
 
-/// The bytes that stand for a number of fields and a first value; none where there is no first value or it is a tuple.
+/// The bytes that stand for a number of fields and a first value. There are none if no value is first, or a tuple is.
 pub type Key = ArrayVec<u8, KEY_LEN>;
 
 /// The key of a tuple.
@@ -26,7 +26,7 @@ pub fn key_of_tuple<A: Allocator>(tuple: &Tuple<A>) -> Key
     }
 }
 
-/// The key of the tuples that a template may match, where its first field is an actual.
+/// The key of the tuples that a template may match, if its first field is an actual.
 pub fn key_of_template<A: Allocator>(template: &Template<A>) -> Option<Key>
     ensures value { option_map (λ key. key.items) result ≡ template_key template.now }
     ensures valid { IsTemplate template.now }

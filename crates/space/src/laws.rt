@@ -33,13 +33,13 @@ pub fn tuples_follow_states()
         → TuplesFollow s (state_after s client o) client o }
 {}
 
-/// States are equal where their pages and headers are.
+/// States are equal if their pages and headers are.
 pub fn pages_determine()
     ensures { PagesDetermine }
 {}
 
-/// A new space is a state before any batch, and a batch of at most 16 operations leaves a state after one more batch,
-/// where fewer than 2^48 were executed.
+/// A new space is a state before any batch. A batch of at most 16 operations leaves a state after one more batch, if
+/// fewer than 2^48 were executed.
 pub fn batches_leave_states()
     ensures new { IsStateAt empty_state 0 }
     ensures more { BatchesLeaveStates }

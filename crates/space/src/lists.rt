@@ -52,7 +52,7 @@ impl Lists {
         }
     }
 
-    /// Adds a birth, the newest one, where there is room.
+    /// Adds a birth, the newest one, into room that was reserved.
     pub fn add(&mut self, key: &[u8], birth: u64)
         requires { 0 < room_at self.old key.now }
         ensures { AddsBirth key.now birth self.old self.new }
@@ -63,7 +63,7 @@ impl Lists {
         }
     }
 
-    /// Lets a list go that has no births.
+    /// Frees the list of a key if it has no births.
     pub fn prune(&mut self, key: &[u8])
         ensures kept { KeepsBirths self.old self.new }
         ensures gone { LetsGo key.now self.old self.new }
@@ -82,7 +82,7 @@ impl Lists {
         }
     }
 
-    // Takes a birth, and says whether it was the only one.
+    // Takes a birth, and says whether the key has none left.
     fn take(&mut self, key: &[u8], birth: u64) -> bool
         ensures taken { TakesBirth key.now birth self.old self.new }
         ensures emptied { IsTrue result → births_at self.new key.now ≡ [] }

@@ -12,7 +12,7 @@ use terms::NoMemory;
 use tuple_codec::{MAX_ANSWERS, Max, Tuples};
 use tuple_tree::{Template, Tuple};
 
-// The tuple of this birth, where it matches.
+// The tuple of this birth, if it matches.
 fn match_at<'a, A: Allocator>(
     tuples: &'a Stored,
     birth: u64,
@@ -48,7 +48,7 @@ pub fn oldest_match<'a, A: Allocator>(
     None
 }
 
-/// Copies of the oldest matches among the tuples of these births, so many at the most.
+/// Copies of the oldest matches among the tuples of these births, at most `max`.
 pub fn copies_of_matches<A: Allocator>(
     alloc: Global,
     tuples: &Stored,
@@ -72,7 +72,7 @@ pub fn copies_of_matches<A: Allocator>(
     Ok(copies)
 }
 
-/// The births of the oldest matches among the tuples of these births, so many at the most. Takes no memory.
+/// The births of the oldest matches among the tuples of these births, at most `max`. Takes no memory.
 pub fn births_of_matches<A: Allocator>(
     tuples: &Stored,
     births: &[u64],

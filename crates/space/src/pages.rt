@@ -47,7 +47,7 @@ fn put_entry(
     put_stored(version, tuple, out)
 }
 
-// The tuple, as it stands behind its birth.
+// The tuple, as it stands after its birth.
 fn put_stored(version: Version, tuple: &Tuple<Global>, out: &mut Vec<u8>) -> Result<(), NoMemory>
     ensures { OnOk result (out.new.items ≡ out.old.items ++ stored_text version tuple.now) }
 {
@@ -77,7 +77,7 @@ pub fn first_byte(version: Version) -> u8
     }
 }
 
-/// The version by the first byte of a header; none where no version has it.
+/// The version by the first byte of a header; none if no version has it.
 pub fn version_of(first: u8) -> Option<Version>
     ensures found { IfSome result (λ version. version_byte version ≡ first) }
     ensures only { (version : Version) → version_byte version ≡ first → IsSome result }

@@ -21,7 +21,7 @@ const NUMBERS_END: u64 = 1 << 48;
 // At most 16 requests, each of which takes at most 256 births.
 const BIRTHS_A_BATCH: u64 = 4096;
 
-// The tuple at the front, and the bytes behind it.
+// The tuple at the front, and the bytes after it.
 fn read_tuple(alloc: Global, text: &[u8]) -> Result<(Tuple<Global>, &[u8]), Bad>
     ensures found { ReadsStored Version.One text.now result }
     ensures only { ReadsEachStored Version.One text.now result }
@@ -32,7 +32,7 @@ fn read_tuple(alloc: Global, text: &[u8]) -> Result<(Tuple<Global>, &[u8]), Bad>
     }
 }
 
-// The same where the length of its spelling stands before it.
+// The same, with the length of its spelling before it.
 fn read_framed(alloc: Global, text: &[u8]) -> Result<(Tuple<Global>, &[u8]), Bad>
     ensures found { ReadsStored Version.Two text.now result }
     ensures only { ReadsEachStored Version.Two text.now result }
@@ -59,7 +59,7 @@ fn read_stored(alloc: Global, version: Version, text: &[u8]) -> Result<(Tuple<Gl
     }
 }
 
-// The birth and the tuple at the front, and the bytes behind them.
+// The birth and the tuple at the front, and the bytes after them.
 fn read_entry(
     alloc: Global,
     version: Version,
@@ -78,7 +78,7 @@ fn read_entry(
     }
 }
 
-// The same where the birth is one of the page, from `least` on and below `next`.
+// The same, if the birth lies on the page, from `least` on and below `next`.
 fn read_entry_of(
     alloc: Global,
     version: Version,
@@ -112,13 +112,13 @@ fn add_entry(
     }
 }
 
-/// Adds the tuples of a page, by its text in the form of a version, to those of other pages, and says how many they are:
-/// at most 64.
+/// Adds the tuples of a page to those of other pages, and says how many they are, at most 64. The page's text has the
+/// form of a version.
 ///
 /// # Errors
 ///
-/// Malformed where the text is that of no page of a state with this next birth number, and else NoMemory where memory
-/// runs out. What was added by then stays.
+/// Malformed if no page of a state with this next birth number has the text, else NoMemory if memory runs out. The
+/// tuples that were added by then stay.
 pub fn read_page(
     alloc: Global,
     version: Version,
@@ -149,7 +149,7 @@ pub fn read_page(
     Ok(count)
 }
 
-/// What a header says.
+/// The fields of a header.
 #[derive(Clone, Copy)]
 pub struct Header {
     /// The version of the space.
@@ -160,7 +160,7 @@ pub struct Header {
     pub next: u64,
 }
 
-/// What a header says; none where it is no state's.
+/// The fields of a header; none if no state has it.
 pub fn read_header(header: &[u8]) -> Option<Header>
     ensures found { IfSome result (λ h. IsHeader header.now h.version h.number h.next) }
     ensures only { (v : Version) (number next : ℕ) → IsHeader header.now v number next → IsSome result }

@@ -20,6 +20,7 @@ ghost use Rattle.space.specs.Births.{IsState, Follows, TuplesFollow, WantsMemory
 
 use crate::births::{PAGES, empty_pages, next_birth};
 use crate::index::Index;
+use crate::keys::key_of_tuple;
 use crate::matching::{births_of_matches, copies_of_matches, oldest_match};
 use crate::pages::{HEADER_LEN, header_of, text_of};
 use crate::reading::{read_header, read_page};
@@ -119,13 +120,16 @@ impl Space {
     ///
     /// # Errors
     ///
-    /// Malformed where these are those of no state within the limits: births that rise on their page and are below the
-    /// next one, at most 64 tuples on a page and as many in all as the version allows, each tuple spelled, in version 2
-    /// behind its length, at most 4,096 births for each executed batch, and fewer than 2 to the power of 48 batches.
-    /// NoMemory where memory runs out before that is seen;
-    /// the number of texts and the header are judged first.
+    /// Malformed if no state within the limits has these texts and this header. In a state within the limits
+    ///
+    /// - births rise on their page, and are below the next one;
+    /// - at most 64 tuples lie on a page, and in all as many as the version allows;
+    /// - each tuple is spelled, in version 2 after its length;
+    /// - there are at most 4,096 births for each executed batch, and fewer than 2 to the power of 48 batches.
+    ///
+    /// NoMemory if memory runs out before that is seen. The number of texts and the header are judged first.
     pub fn from_pages(alloc: Global, pages: &[&[u8]], header: &[u8]) -> Result<(Space, u64), Bad>
-        // What is read has these pages.
+        // The space that is read has these pages.
         ensures found { IfOk result (λ x. ArePages (texts_of pages.now) header.now x.0 x.1) }
 
         // A wrong number of texts, or a header that is no state's, is refused as such.
@@ -196,7 +200,7 @@ impl Space {
 
     /// The text of page `page`, 0 to 255: its tuples in the order of births, each as 8 bytes of birth number, high byte
     /// first, in version 2 the length of its spelling in 2 bytes, and its spelling. At most 64 * 1,034 bytes. NoMemory
-    /// where memory runs out.
+    /// if memory runs out.
     pub fn page_text(&self, page: usize) -> Result<Vec<u8>, NoMemory>
         requires { page < PAGES }
         ensures { IfOk result (λ text. text.items ≡ page_text self.now page) }
@@ -254,18 +258,19 @@ impl Space {
         note_tuple(tuple);
         let copy = tuple.copy_in(self.alloc)?;
         let birth = next_birth(&self.page_counts, self.next);
-        self.index.reserve(birth, tuple)?;
+        let first = key_of_tuple(tuple);
+        self.index.reserve(birth, tuple, &first)?;
         if let Err(_) = self.tuples.insert(birth, copy) {
-            self.index.prune(tuple);
+            self.index.prune(&first);
             return Err(NoMemory);
         }
-        self.index.add(birth, tuple);
+        self.index.add(birth, tuple, &first);
         self.page_counts[(birth % PAGES as u64) as usize] += 1;
         self.next = birth + 1;
         Ok(())
     }
 
-    // Adds a copy of the tuple where there is room, and says whether there was. An `Err` changes nothing.
+    // Adds a copy of the tuple if there is room, and says whether there was. An `Err` changes nothing.
     fn add<A: Allocator>(&mut self, tuple: &Tuple<A>) -> Result<bool, NoMemory>
         requires { self.old.next < 2 ^ 62 }
         ensures ok { OnOk result (self.new ≡ with_tuple self.old tuple.now) }
@@ -280,8 +285,8 @@ impl Space {
         Ok(true)
     }
 
-    /// The births, the oldest first, of the stored tuples that have as many values as the template has fields and,
-    /// where its first field is an actual, that first value. Takes no memory.
+    /// The births, the oldest first, of the stored tuples that have as many values as the template has fields and, if
+    /// its first field is an actual, that first value. Takes no memory.
     pub fn candidates<A: Allocator>(&self, template: &Template<A>) -> &[u64]
         ensures { result.now ≡ candidates_of template.now self.now }
     {
@@ -311,7 +316,7 @@ impl Space {
         }
     }
 
-    // The births of the oldest matches, so many at the most. Takes no memory.
+    // The births of the oldest matches, at most `max`. Takes no memory.
     fn oldest_births<A: Allocator>(
         &self,
         max: Max,
@@ -344,7 +349,7 @@ impl Space {
         }
     }
 
-    // Reads the oldest matches, so many at the most.
+    // Reads the oldest matches, at most `max`.
     fn read_all<A: Allocator>(
         &self,
         max: Max,
@@ -373,7 +378,7 @@ impl Space {
         }
     }
 
-    // Takes the oldest matches, so many at the most. An `Err` changes nothing.
+    // Takes the oldest matches, at most `max`. An `Err` changes nothing.
     fn take_all<A: Allocator>(
         &mut self,
         max: Max,
@@ -384,7 +389,7 @@ impl Space {
         ensures memory { OnErr result (WantsServed self.old (in_all max.count template.now)) }
         ensures err { OnErr result (self.new ≡ self.old) }
     {
-        // All is copied first, so that want of memory takes none.
+        // It copies all first, so that it takes none if memory runs out.
         let answer = self.read_all(max, template)?;
         let births = self.oldest_births(max, template);
         self.remove_all(births.as_slice());
@@ -404,7 +409,7 @@ impl Space {
         self.oldest_match(template).is_some()
     }
 
-    // Adds a copy of the tuple where nothing matches.
+    // Adds a copy of the tuple if nothing matches.
     fn swap<A: Allocator>(
         &mut self,
         template: &Template<A>,
@@ -426,9 +431,9 @@ impl Space {
         }
     }
 
-    /// Applies an operation of a client, of which only number 0 may upgrade the space. A tuple that is added is copied,
-    /// and so is one that is read; one that `inp` takes is handed out, and those that `inAll` takes are copied first.
-    /// NoMemory comes only where a tuple is to be copied. It changes nothing.
+    /// Applies an operation of a client. Client 0 alone may upgrade the space. The space copies each tuple that it adds
+    /// or reads. `inp` hands out the tuple itself, and `inAll` copies the tuples before it takes them. NoMemory comes
+    /// only if there is a tuple to copy. It changes nothing.
     pub fn apply<A: Allocator>(
         &mut self,
         client: u16,
@@ -528,8 +533,8 @@ impl Space {
         }
     }
 
-    /// Answers an operation that changes nothing, of any client; any other is refused before memory is looked at.
-    /// NoMemory comes only where a match is to be copied.
+    /// Answers an operation that changes nothing, of any client. It refuses any other before it takes memory. NoMemory
+    /// comes only if there is a match to copy.
     pub fn peek<A: Allocator>(&self, op: &Op<A>) -> Result<Answer<Global>, PeekFault>
         ensures answer { AnswersAnyone result self.now (operation_of op.now) }
         ensures not_read_only { RefusesChanges result (operation_of op.now) }

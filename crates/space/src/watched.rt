@@ -49,8 +49,8 @@ impl Watched {
         &self.space
     }
 
-    /// Applies an operation of a client as [`Space::apply`] does. Each page whose text changes is touched afterwards. One that the
-    /// operation can't change is touched only if it was before. An `Err` leaves the space as it was.
+    /// Applies an operation of a client as [`Space::apply`] does. Each page whose text changes is touched afterwards.
+    /// One that the operation can't change is touched only if it was before. An `Err` leaves the space as it was.
     pub fn apply<A: Allocator>(
         &mut self,
         client: u16,

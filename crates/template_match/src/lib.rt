@@ -1,12 +1,12 @@
 //! Which tuples a template matches.
 //!
-//! A template matches a tuple where both have the same number of fields and each field matches (Bessani and others,
-//! DepSpace, EuroSys 2008, section 2): an actual an equal value, a formal each value of its kind, `Any` each value, and
-//! a nested template each nested tuple that it matches. Formals by kind and nesting are this project's own.
+//! A template matches a tuple if both have the same number of fields and each field matches (Bessani and others,
+//! DepSpace, EuroSys 2008, section 2). An actual matches an equal value, a formal each value of its kind, `Any` each
+//! value, and a nested template each nested tuple that it matches. Formals by kind and nesting are this project's own.
 //!
 //! # What is proved
 //!
-//! `matches` holds exactly where the relation `Matches` does; `matching_is_decided` says that the test in the space's
+//! `matches` is true exactly if the relation `Matches` holds. `matching_is_decided` says that the test in the space's
 //! definition is that relation.
 #![tactic(auto)]
 
@@ -14,7 +14,8 @@ ghost use Rattle.std.specs.Prelude.{◌≡◌, IsTrue, ◌↔◌};
 ghost use Rattle.tuple_tree.specs.Values.{kind_of, TupleTree, TemplateTree};
 ghost use Rattle.tuple_tree.specs.TupleView.{value_of, tuple_of};
 ghost use Rattle.tuple_tree.specs.TemplateView.{field_of, template_of};
-ghost use Rattle.template_match.specs.Matches.{Matches, FieldMatches};
+ghost use Rattle.template_match.specs.Matches.{Matches};
+ghost use Rattle.template_match.specs.Plain.{MatchesPlainly, DecidesNested};
 ghost use Rattle.template_match.specs.Tests.{is_match};
 
 use std::alloc::Allocator;
@@ -26,14 +27,15 @@ fn is_of_kind<B: Allocator>(kind: Kind, value: &Value<B>) -> bool
     value.kind() == kind
 }
 
-// Whether a field that is no template does not match; of a nested one nothing is said.
-fn plainly_differs<A: Allocator, B: Allocator>(field: &Field<A>, value: &Value<B>) -> bool
-    ensures { IsTrue result → ¬ (FieldMatches (field_of field.now) (value_of value.now)) }
+// Whether a field that is no template matches. A nested one is only asked for a nested tuple.
+fn matches_plainly<A: Allocator, B: Allocator>(field: &Field<A>, value: &Value<B>) -> bool
+    ensures { IsTrue result ↔ MatchesPlainly (field_of field.now) (value_of value.now) }
 {
     match (field, value) {
-        (Field::Actual(a), Value::Atom(b)) => !a.same(b),
-        (Field::Actual(_), Value::Nested(_)) => true,
-        (Field::Formal(kind), value) => !is_of_kind(*kind, value),
+        (Field::Actual(a), Value::Atom(b)) => a.same(b),
+        (Field::Any, _) => true,
+        (Field::Formal(kind), value) => is_of_kind(*kind, value),
+        (Field::Nested(_), Value::Nested(_)) => true,
         _ => false,
     }
 }
@@ -53,34 +55,32 @@ fn all_match<A: Allocator, B: Allocator>(fields: &[Field<A>], values: &[Value<B>
     if fields.len() != values.len() {
         return false;
     }
-    // Fields that cost little come before nested ones: of two tuples that share a deep tree a number decides.
+    // Fields that cost little come first: where a template and a tuple share a deep tree, a number may decide.
     for k in 0..fields.len() {
-        if plainly_differs(&fields[k], &values[k]) {
+        if !matches_plainly(&fields[k], &values[k]) {
             return false;
         }
     }
     for i in 0..fields.len() {
-        if !field_matches(&fields[i], &values[i]) {
+        if !nested_matches(&fields[i], &values[i]) {
             return false;
         }
     }
     true
 }
 
+// Whether a field that matches plainly matches: only a nested one is looked at again.
 #[cycle(matching)]
-fn field_matches<A: Allocator, B: Allocator>(field: &Field<A>, value: &Value<B>) -> bool
-    ensures { IsTrue result ↔ FieldMatches (field_of field.now) (value_of value.now) }
+fn nested_matches<A: Allocator, B: Allocator>(field: &Field<A>, value: &Value<B>) -> bool
+    ensures { DecidesNested result (field_of field.now) (value_of value.now) }
 {
     match (field, value) {
-        (Field::Actual(a), Value::Atom(b)) => a.same(b),
-        (Field::Any, _) => true,
-        (Field::Formal(kind), value) => is_of_kind(*kind, value),
         (Field::Nested(inner), Value::Nested(nested)) => all_match(inner.fields(), nested.values()),
-        _ => false,
+        _ => true,
     }
 }
 
-/// The test of a match by recursion on the template is true exactly where the template matches.
+/// The test of a match by recursion on the template is true exactly if the template matches.
 pub fn matching_is_decided()
     ensures { (p : TemplateTree) (t : TupleTree) → IsTrue (is_match p t) ↔ Matches p t }
 {}

@@ -52,8 +52,11 @@ invariant_of-self-in-Err g c =
     subst (λ xs. IsIndexed c.self.inside.version xs c.self.inside.next c.self.inside.page_counts c.prune.new.self) (ap (λ s. s.entries) (sym (c.in-Err.ensures {u = tt}).err))
     (record { counts = h.counts; indexed = c.prune.ensures.kept es (c.reserve.ensures.kept es h.indexed) })
 
-pub add-requires : goal.add-requires
-add-requires g c = (c.in_ok-reserve.ensures {u = tt}).ok
+pub add-requires-clause-key : goal.add-requires-clause-key
+add-requires-clause-key g c = c.key_of_tuple-first.ensures
+
+pub add-requires-clause-room : goal.add-requires-clause-room
+add-requires-clause-room g c = (c.in_ok-reserve.ensures {u = tt}).ok
 
 pub invariant_of-self-2 : goal.invariant_of-self-2
 invariant_of-self-2 g c =
