@@ -1,4 +1,4 @@
--- What is heard.
+-- The laws of hearing.
 use Rattle.std.proofs.Common.{◌≡◌, ◌≢◌, refl, ℕ, Bool, true, false, ◌&&◌, cond, if◌then◌else◌, List, Option, Some, None, ap, sym, ◌∙◌, subst}
 use Rattle.std.specs.Bool.{Decides}
 use Rattle.std.specs.Prelude.{option_and_then, not, ◌==◌}
@@ -44,12 +44,12 @@ signs-signature public text s authenticator is =
 abbrev passed : (FrameData → Bool) → FrameData → Option BodyData
 passed test frame = if test frame then Some frame.body else None
 
--- where the bytes are a frame that passes
+-- the bytes are a frame that passes the test
 passes : (test : FrameData → Bool) (o : Option FrameData) (frame : FrameData) → o ≡ Some frame → test frame ≡ true
     → option_and_then (passed test) o ≡ Some frame.body
 passes test o frame is tested = rw (is, tested) refl
 
--- a body comes of such a frame alone
+-- a body is heard only from a frame that passes the test
 comes_of : (test : FrameData → Bool) (o : Option FrameData) (body : BodyData) → option_and_then (passed test) o ≡ Some body
     → (frame : FrameData) × (o ≡ Some frame) × (test frame ≡ true) × (frame.body ≡ body)
 comes_of test None body h = absurd cc
@@ -84,7 +84,7 @@ is_heard_of : (m : Membership) (party : ℕ) (frame : FrameData) → is_from_ano
     → (is_signed frame.body.message ≡ false → is_authentic m.seed party frame ≡ true) → is_heard m party frame ≡ true
 is_heard_of m party frame = by_kind (is_signed frame.body.message) (is_from_another m party frame.body) (is_authentic m.seed party frame) (has_signature m.seed frame)
 
--- what makes a body a signed one
+-- the test of a signed body
 abbrev is_signed_by : Membership → FrameData → Bool
 is_signed_by m frame = is_signed frame.body.message && (has_sender m frame.body && has_signature m.seed frame)
 

@@ -25,7 +25,7 @@ length-joined zero width f wide = omega arith
 length-joined (suc n) width f wide =
     rw (length-append, length-joined n width f (λ k below. wide k (omega arith)), wide n (omega arith)) (omega arith)
 
--- the k-th of them stands behind k others
+-- the k-th part stands after k others
 pub joined-part : (n width : ℕ) (f : ℕ → List ℕ) → ((k : ℕ) → k < n → length (f k) ≡ width) → (k : ℕ) → k < n → take width (drop (width * k) (joined n f)) ≡ f k
 unfolding joined
 joined-part zero width f wide k below = absurd (omega arith)
@@ -45,12 +45,12 @@ joined-part (suc n) width f wide k below =
           rw (drop_at (joined n f) (f n) (width * k) start, take_all width (f n) (omega (arith, wide n)), last) refl
     ]
 
--- what is appended behind the first n of them makes one more
+-- a part appended after the first n makes one more
 pub joined_push : (base : List ℕ) (n : ℕ) (f : ℕ → List ℕ) (items last : List ℕ) → items ≡ base ++ joined n f ++ last → last ≡ f n → items ≡ base ++ joined (n + 1) f
 joined_push base n f items last appended is_next =
     appended ∙ append_assoc base (joined n f) last ∙ ap (λ rest. base ++ (joined n f ++ rest)) is_next ∙ ap (λ rest. base ++ rest) (sym (joined_more n f))
 
--- the same where it is appended in two parts
+-- the same if it is appended in two halves
 pub joined_push_two : (base : List ℕ) (n : ℕ) (f : ℕ → List ℕ) (items first second : List ℕ) → items ≡ base ++ joined n f ++ first ++ second → first ++ second ≡ f n → items ≡ base ++ joined (n + 1) f
 joined_push_two base n f items first second appended is_next =
     joined_push base n f items (first ++ second) (appended ∙ append_assoc (base ++ joined n f) first second) is_next

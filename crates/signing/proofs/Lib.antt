@@ -4,3 +4,4 @@ pub mod Joining
 pub mod Nodes
 pub mod Parts
 pub mod Signed
+pub mod Whether

@@ -1,4 +1,4 @@
--- What a header says of hearing.
+-- The judgement of a frame by its header decides whether a party hears it.
 use Rattle.std.proofs.Common.{◌≡◌, ◌≢◌, inl, ℕ, true, false, List, Some, None, ap, sym, refl, ◌∙◌}
 use Rattle.wire.specs.Messages.{BodyData, FrameData, AuthenticatorData, macs, signature}
 use Rattle.wire.specs.Spelling.{SpellsFrame, is_signed, authenticator_is_signed, body_spelling}

@@ -4,7 +4,7 @@ use Rattle.std.proofs.lemmas.List.{take-append-le, drop-append-le, drop-drop, dr
 use Rattle.signing.specs.Signatures.{part}
 
 module _ (x : ℕ) (xs ys : List ℕ) where
-  -- behind the first byte
+  -- after the first byte
   pub part_front : (at : ℕ) → at + 32 ≤ length xs → part (x ∷ xs ++ ys) (1 + at) ≡ part xs at
   part_front at room =
       let next : 1 + at ≡ suc at = omega arith in
@@ -13,7 +13,7 @@ module _ (x : ℕ) (xs ys : List ℕ) where
       let end : 32 ≤ length (drop at xs) = omega arith in
       rw (next, drop-append-le at xs ys start, take-append-le 32 (drop at xs) ys end) refl
 
-  -- behind the first list
+  -- after the first list
   pub part_back : (n at : ℕ) → n ≡ 1 + length xs → part (x ∷ xs ++ ys) (n + at) ≡ part ys at
   part_back n at whole =
       let before : length (x ∷ xs) ≡ n = omega arith in

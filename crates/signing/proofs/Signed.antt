@@ -1,4 +1,4 @@
--- What is signed verifies.
+-- Each signature that a signer makes verifies.
 use Rattle.std.proofs.Common.{◌≡◌, ℕ, ◌+◌, ◌-◌, ◌*◌, ◌/◌, ◌<◌, List, [], ◌∷◌, ◌++◌, ◌∙◌, length, take, drop, get_or, ap, refl, inl, inr, arith, length-append}
 use Rattle.std.proofs.lemmas.Bool.{cases_eq, eq-eqb, ne_eqb}
 use Rattle.std.proofs.lemmas.Nat.Bits.{bit_at-lt}
@@ -52,7 +52,7 @@ module _ (seed : List ℕ) (leaf : ℕ) where
   length-signature_of text =
       rw (length-append, length-signed_bits (sha256 text), length-siblings) refl
 
-  -- ---- each part of it
+  -- ---- the parts of a signature
 
   module _ (text : List ℕ) where
     part-signed_bit : (bit : ℕ) → bit < 256 → take 64 (drop (64 * bit) (joined 256 (signed_bit seed leaf (sha256 text)))) ≡ signed_bit seed leaf (sha256 text) bit
@@ -84,7 +84,7 @@ module _ (seed : List ℕ) (leaf : ℕ) where
     unfolding signature_of
     leaf-signature_of = refl
 
-    -- ---- what it shows
+    -- ---- the hashes that a signature shows
 
     shown_pair-signature_of : (bit : ℕ) → bit < 256 → shown_pair (signature_of seed leaf text) (sha256 text) bit ≡ public_hash seed leaf bit 0 ++ public_hash seed leaf bit 1
     shown_pair-signature_of bit below =
@@ -108,7 +108,7 @@ module _ (seed : List ℕ) (leaf : ℕ) where
         rw (leaf-signature_of, shown_digest-signature_of)
         (climbed-node (leaf_digest seed) _ leaf 6 shown_sibling-signature_of ∙ ap (node (leaf_digest seed) 6) top)
 
--- What a leaf signs verifies under the public key of its seed.
+-- A signature by a leaf verifies under the public key of its seed.
 pub signature_of-verifies : (seed text : List ℕ) (leaf : ℕ) → leaf < 64 → Verifies (public_key seed) text (signature_of seed leaf text)
 signature_of-verifies seed text leaf below = record {
   formed = record {
@@ -118,7 +118,7 @@ signature_of-verifies seed text leaf below = record {
   root = shown_root-signature_of seed leaf text below;
 }
 
--- A signature from what is appended in turn.
+-- A signature, from the parts that are appended in turn.
 pub signature_of-appended : (seed text hash : List ℕ) (leaf : ℕ) (first second third : List ℕ) → hash ≡ sha256 text → first ≡ leaf ∷ [] → second ≡ first ++ joined 256 (signed_bit seed leaf hash) → third ≡ second ++ joined 6 (sibling_digest (leaf_digest seed) leaf) → third ≡ signature_of seed leaf text
 unfolding signature_of
 signature_of-appended seed text hash leaf first second third hashed one two three =

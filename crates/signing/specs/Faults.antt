@@ -1,4 +1,4 @@
--- The refusals of judging and of opening as those of hearing.
+-- The refusals of judging and of opening, as refusals of hearing.
 use Rattle.wire.specs.declared.fault.NoFrame.{NoFrame}
 use Rattle.wire.specs.declared.fault.NoFrame.TheVariants as no_frame
 use Rattle.authenticator.specs.declared.sealed.OpenFault.{OpenFault}

@@ -1,4 +1,4 @@
--- What the functions give that hear frames and that make and test signatures.
+-- The results of the functions that hear frames, and that make and test signatures.
 use Rattle.std.specs.Prelude.{◌≡◌, ℕ, List, Option, Some, MatchOption, Result, Vec}
 use Rattle.terms.specs.Parties.{party_number}
 use Rattle.terms.specs.declared.parties.Party.{Party}
@@ -15,11 +15,11 @@ use Rattle.signing.specs.Heard.{heard}
 use Rattle.signing.specs.Signatures.{public_key, path_digests, IsSignature, Verifies}
 use Rattle.signing.specs.Signing.{HasNodes}
 
--- the body of the frame is what the party hears
+-- the party hears the body of this frame
 abbrev pub IsHeard : Membership → Party → List ℕ → HeardFrame → Type 0
 IsHeard m party bytes h = heard m (party_number party) bytes ≡ Some (body_data h.frame.body)
 
--- a body that the party hears is given, unless memory runs out
+-- if the party hears a body, it is given, unless memory runs out
 abbrev pub HearsEach : Membership → Party → List ℕ → Result HeardFrame HearFault → Type 0
 HearsEach m party bytes result =
     GivesEach faults.NoMemory (λ h. body_data h.frame.body)
@@ -33,12 +33,12 @@ public_key_of seed signer = public_key (signing_seed seed (party_number signer))
 abbrev pub IsSignedBy : List ℕ → Party → List ℕ → List ℕ → Type 0
 IsSignedBy seed signer text bytes = Verifies (public_key_of seed signer) text bytes
 
--- the bytes where they are a signature, and else none
+-- the bytes if they are a signature, or None
 abbrev pub FindsSignature : List ℕ → Option (List ℕ) → Type 0
 FindsSignature bytes found =
     MatchOption found (¬ IsSignature bytes) (λ s. (s ≡ bytes) × IsSignature bytes)
 
--- the digests beside a leaf's path stand behind the old bytes, upwards
+-- the digests beside a leaf's path follow the old bytes, upwards
 abbrev pub AppendsPath : {A U E : Type 0} → List (List ℕ) → ℕ → Vec ℕ A → Vec ℕ A → Result U E
     → Type 0
 AppendsPath nodes leaf old new result =

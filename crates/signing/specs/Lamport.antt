@@ -1,5 +1,5 @@
 -- One-time keys (Lamport, Constructing digital signatures from a one way function, SRI 1979): a secret for either
--- value of each bit of a hash, and the hash of each secret as what is public. A seed gives the keys of all leaves.
+-- value of each bit of a hash. The hash of each secret is public. A seed gives the keys of all leaves.
 use Rattle.std.specs.Prelude.{ℕ, ◌-◌, ◌/◌, ◌%◌, List, [], ◌∷◌, ◌++◌, slice_index}
 use Rattle.std.specs.Int.{w16, to_be_bytes, bit_at}
 use Rattle.sha2.specs.Sha256.{sha256}

@@ -1,4 +1,4 @@
--- What the words on hearing come to.
+-- The laws of hearing.
 use Rattle.std.specs.Prelude.{◌≡◌, ◌≢◌, ◌↔◌, ◌<◌, ℕ, IsTrue, List, Some}
 use Rattle.wire.specs.Messages.{BodyData, FrameData, signature}
 use Rattle.wire.specs.Spelling.{SpellsFrame, body_spelling, is_signed}
@@ -8,7 +8,7 @@ use Rattle.authenticator.specs.Opening.{Opens}
 use Rattle.signing.specs.Signatures.{signature_of, verifies, Verifies}
 use Rattle.signing.specs.Heard.{has_signature, heard, signed_body}
 
--- a frame of another party that opens is heard, where it is not to be signed or has its sender's signature
+-- a party hears a frame of another party that opens, if it is not to be signed or has its sender's signature
 abbrev pub OpenedIsHeard : Type 0
 OpenedIsHeard =
     (m : Membership) (party : ℕ) (bytes : List ℕ) (frame : FrameData)
@@ -16,8 +16,8 @@ OpenedIsHeard =
     → (IsTrue (is_signed frame.body.message) → IsTrue (has_signature m.seed frame))
     → heard m party bytes ≡ Some frame.body
 
--- the bytes are a frame of this body that opens, with its sender's signature where it is to be signed, and the sender
--- is another party
+-- The bytes are a frame of this body that opens, with its sender's signature if it is to be signed. The sender is
+-- another party.
 pub record OpensAs (m : Membership) (party : ℕ) (bytes : List ℕ) (body : BodyData) : Type 0 where
   pub frame : FrameData
   pub opens : Opens m party bytes frame
@@ -25,7 +25,7 @@ pub record OpensAs (m : Membership) (party : ℕ) (bytes : List ℕ) (body : Bod
   pub body_is : frame.body ≡ body
   pub other : body.sender ≢ party
 
--- nothing else is heard
+-- a party hears no other frames
 abbrev pub HeardWasOpened : Type 0
 HeardWasOpened =
     (m : Membership) (party : ℕ) (bytes : List ℕ) (body : BodyData)
@@ -37,7 +37,7 @@ SignedIsHeard =
     (m : Membership) (party : ℕ) (bytes : List ℕ) (body : BodyData)
     → signed_body m bytes ≡ Some body → body.sender ≢ party → heard m party bytes ≡ Some body
 
--- a view change or new view that is heard is signed
+-- if a party hears a view change or new view, it is signed
 abbrev pub HeardWasSigned : Type 0
 HeardWasSigned =
     (m : Membership) (party : ℕ) (bytes : List ℕ) (body : BodyData)
@@ -53,7 +53,7 @@ pub record IsSignedFrame (m : Membership) (bytes : List ℕ) (body : BodyData) :
   pub signed : IsTrue (has_signature m.seed frame)
   pub body_is : frame.body ≡ body
 
--- nothing else is a signed body
+-- there are no other signed bodies
 abbrev pub SignedWasSigned : Type 0
 SignedWasSigned =
     (m : Membership) (bytes : List ℕ) (body : BodyData)
@@ -68,14 +68,14 @@ signed_frame seed body leaf =
           signature (signature_of (signing_seed seed body.sender) leaf (body_spelling body));
     }
 
--- what a party signs with one of its 64 leaves is a signed body
+-- a frame that a party signs with one of its 64 leaves has a signed body
 abbrev pub SignerIsHeard : Type 0
 SignerIsHeard =
     (m : Membership) (bytes : List ℕ) (body : BodyData) (leaf : ℕ) → leaf < 64
     → IsTrue (has_sender m body) → SpellsFrame bytes (signed_frame m.seed body leaf)
     → signed_body m bytes ≡ Some body
 
--- the test of a signature is true exactly where it verifies
+-- the test of a signature is true exactly if the signature verifies
 abbrev pub VerifyingIsDecided : Type 0
 VerifyingIsDecided =
     (public text signature : List ℕ)

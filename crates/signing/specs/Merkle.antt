@@ -14,8 +14,8 @@ node leaves (suc level) place =
 abbrev pub sibling : ℕ → ℕ
 sibling place = if place % 2 == 0 then place + 1 else place - 1
 
--- the digest so many levels above a leaf, by the siblings on its path: the own digest is the left one where the bit of
--- the leaf's number is 0, lowest bit first
+-- The digest so many levels above a leaf, computed from the siblings on its path. At each level the own digest is the
+-- left one if the bit of the leaf's number is 0, lowest bit first.
 unfoldable pub climbed : (ℕ → List ℕ) → ℕ → List ℕ → ℕ → List ℕ
 climbed siblings leaf digest zero = digest
 climbed siblings leaf digest (suc level) =

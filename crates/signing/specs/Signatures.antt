@@ -9,12 +9,12 @@ use Rattle.signing.specs.Merkle.{node, sibling, climbed}
 abbrev pub public_key : List ℕ → List ℕ
 public_key seed = node (leaf_digest seed) 6 0
 
--- what signs a bit of a hash: the secret of its value, and the public hash of the other value
+-- the signature of a bit of a hash: the secret of its value, and the public hash of the other value
 abbrev pub signed_bit : List ℕ → ℕ → List ℕ → ℕ → List ℕ
 signed_bit seed leaf hash bit =
     secret seed leaf bit (bit_of hash bit) ++ public_hash seed leaf bit (1 - bit_of hash bit)
 
--- what signs each bit of a hash, one after another
+-- the signatures of all bits of a hash, one after another
 abbrev pub signed_bits : List ℕ → ℕ → List ℕ → List ℕ
 signed_bits seed leaf hash = joined 256 (signed_bit seed leaf hash)
 
@@ -26,7 +26,7 @@ sibling_digest leaves leaf level = node leaves level (sibling (leaf / 2 ^ level)
 abbrev pub path_digests : (ℕ → List ℕ) → ℕ → List ℕ
 path_digests leaves leaf = joined 6 (sibling_digest leaves leaf)
 
--- the leaf's number in one byte, what signs each bit of the text's hash, and the siblings on the path, upwards
+-- the leaf's number in one byte, the signatures of all bits of the text's hash, and the siblings on the path, upwards
 unfoldable pub signature_of : List ℕ → ℕ → List ℕ → List ℕ
 signature_of seed leaf text =
     leaf ∷ signed_bits seed leaf (sha256 text) ++ path_digests (leaf_digest seed) leaf
@@ -49,20 +49,20 @@ shown_hash signature bit = part signature (33 + 64 * bit)
 abbrev pub shown_sibling : List ℕ → ℕ → List ℕ
 shown_sibling signature level = part signature (16385 + 32 * level)
 
--- ---- what verifies
+-- ---- verifying
 
--- the public hashes of both values of a bit that a signature of this hash shows, value 0 first
+-- the public hashes of both values of a bit, value 0 first, from a signature of this hash
 abbrev pub shown_pair : List ℕ → List ℕ → ℕ → List ℕ
 shown_pair signature hash bit =
     if bit_of hash bit == 0
     then sha256 (shown_secret signature bit) ++ shown_hash signature bit
     else shown_hash signature bit ++ sha256 (shown_secret signature bit)
 
--- the digest of the leaf by which a signature signs the text
+-- the digest of the leaf, from a signature of the text
 unfoldable pub shown_digest : List ℕ → List ℕ → List ℕ
 shown_digest signature text = sha256 (joined 256 (shown_pair signature (sha256 text)))
 
--- the root that its path leads to
+-- the root, from the path of a signature
 unfoldable pub shown_root : List ℕ → List ℕ → List ℕ
 shown_root signature text =
     climbed (shown_sibling signature) (slice_index signature 0) (shown_digest signature text) 6

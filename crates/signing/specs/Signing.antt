@@ -1,4 +1,4 @@
--- What a signer and a tree of keys keep, apart from where it lies in memory.
+-- The state of a signer and of a tree of keys, apart from where it lies in memory.
 use Rattle.std.specs.Prelude.{◌≡◌, ℕ, ◌+◌, ◌-◌, ◌*◌, ◌^◌, ◌<◌, ◌≤◌, List, [], ◌++◌, slice_index_or}
 use Rattle.sha2.specs.Sha256.{sha256}
 use Rattle.signing.specs.Merkle.{node}

@@ -1,6 +1,6 @@
 //! From bytes to what a party hears.
 
-ghost use Rattle.std.specs.Prelude.{◌≡◌, IfOk, IfErr, IsTrue};
+ghost use Rattle.std.specs.Prelude.{◌≡◌, IfOk, IfErr, is_ok, is_some};
 ghost use Rattle.terms.specs.Parties.{party_number};
 ghost use Rattle.wire.specs.Headers.{header_data};
 ghost use Rattle.signing.specs.Heard.{heard};
@@ -37,6 +37,33 @@ pub fn hear<'b>(
     ensures refused { IfErr result (Refuses ring.old (party_number me) bytes.now) }
     ensures ring { ring.new ≡ ring.old }
 {
+    authenticate(ring, publics, bytes, me)?;
+    let frame = decode_judged(alloc, bytes)?;
+    Ok(HeardFrame { bytes, frame })
+}
+
+/// Whether `me` hears something from the bytes: then [`hear`] gives a frame, unless memory runs out. The bytes are judged
+/// where they lie: nothing is decoded, and no memory is taken but for the keys that the ring keeps.
+pub fn hears(ring: &mut Ring, publics: &PublicKeys, bytes: &[u8], me: Party) -> bool
+    requires { publics.now ≡ ring.old.seed }
+    ensures heard { result ≡ is_some (heard ring.old (party_number me) bytes.now) }
+    ensures ring { ring.new ≡ ring.old }
+{
+    authenticate(ring, publics, bytes, me).is_ok()
+}
+
+// Judges the bytes where they lie: whether `me` hears something from them, and else the first refusal that applies.
+fn authenticate(
+    ring: &mut Ring,
+    publics: &PublicKeys,
+    bytes: &[u8],
+    me: Party,
+) -> Result<(), HearFault>
+    requires { publics.now ≡ ring.old.seed }
+    ensures heard { is_ok result ≡ is_some (heard ring.old (party_number me) bytes.now) }
+    ensures refused { IfErr result (Refuses ring.old (party_number me) bytes.now) }
+    ensures ring { ring.new ≡ ring.old }
+{
     let header = judge(bytes)?;
     if header.sender.number() == me.number() {
         return Err(HearFault::UnknownSender);
@@ -47,8 +74,7 @@ pub fn hear<'b>(
     if !signature_holds(publics, &header) {
         return Err(HearFault::BadSignature);
     }
-    let frame = decode_judged(alloc, bytes)?;
-    Ok(HeardFrame { bytes, frame })
+    Ok(())
 }
 
 // Whether a signature, where the frame has one, is its sender's.

@@ -1,11 +1,11 @@
-//! Why a party hears nothing.
+//! Why a party doesn't hear a frame, that is, doesn't take it as authentic.
 
 use authenticator::OpenFault;
 use terms::NoMemory;
 use thiserror::Error;
 use wire::NoFrame;
 
-/// Why a party hears nothing.
+/// Why a party doesn't hear a frame.
 #[derive(Clone, Copy, Debug, PartialEq, Eq, Error)]
 pub enum HearFault {
     /// The frame, or a view change that it carries, is longer than it may be.
@@ -23,7 +23,7 @@ pub enum HearFault {
     /// The signature is not the sender's.
     #[error("the signature is wrong")]
     BadSignature,
-    /// There was no room for the frame.
+    /// There was no memory for the frame.
     #[error("out of memory")]
     NoMemory,
 }

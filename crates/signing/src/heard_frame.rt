@@ -5,7 +5,7 @@ ghost use Rattle.wire.specs.Views.{frame_data};
 
 use wire::Frame;
 
-/// A frame that a party hears, with its bytes, so that what carries it on need not write it again.
+/// A frame that a party hears, with its bytes, so that whoever carries it on need not write it again.
 #[derive(Drop)]
 pub struct HeardFrame<'b> {
     pub bytes: &'b [u8],

@@ -2,13 +2,13 @@
 
 ghost use Rattle.signing.specs.Laws.{HeardWasOpened, HeardWasSigned, OpenedIsHeard, SignedIsHeard, SignedWasSigned, SignerIsHeard, VerifyingIsDecided};
 
-/// The test of a signature is true exactly where it verifies.
+/// The test of a signature is true exactly if the signature verifies.
 pub fn verifying_is_decided()
     ensures { VerifyingIsDecided }
 {}
 
-/// A party hears exactly the frames of others that open and, where they are to be signed, have their sender's
-/// signature. View changes and new views are heard by all parties but their sender or by none.
+/// A party hears exactly the frames of others that open and, if they are to be signed, have their sender's signature.
+/// A view change or new view is heard by all parties but its sender, or by none.
 pub fn hearing()
     ensures opened_is_heard { OpenedIsHeard }
     ensures heard_was_opened { HeardWasOpened }

@@ -6,11 +6,11 @@
 //!
 //! # What is proved
 //!
-//! What was signed verifies, a `Signer` uses no leaf twice, `verify` is exactly its definition. `hearing` says that a
-//! party hears exactly the frames of others that open and, where they have to be signed, have their sender's signature;
-//! a view change or new view is heard by all others or by none. `hear` gives what is heard, in one call from the bytes
-//! on, and else the first refusal that applies; bytes that are refused take no memory. That nobody else can sign is no
-//! claim of a proof.
+//! Each signature that a `Signer` makes verifies, it uses no leaf twice, and `verify` is exactly its definition.
+//! `hearing` says that a party hears exactly the frames of others that open and, if they have to be signed, have
+//! their sender's signature. A view change or new view is heard by all others or by none. `hear` goes from the bytes
+//! to the frame in one call, or gives the first refusal that applies; refused bytes take no memory. `hears` says
+//! whether a party hears the bytes, and decodes nothing. No proof claims that nobody else can sign.
 #![tactic(auto)]
 
 mod from_bytes;
@@ -23,7 +23,7 @@ mod signature;
 mod signer;
 mod tree;
 
-pub use from_bytes::hear;
+pub use from_bytes::{hear, hears};
 pub use hear_fault::HearFault;
 pub use heard_frame::HeardFrame;
 pub use laws::{hearing, verifying_is_decided};

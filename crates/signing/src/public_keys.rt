@@ -21,7 +21,7 @@ use wire::{Authenticator, Frame, body_bytes};
 /// The most replicas of a configuration.
 const MAX_REPLICAS: usize = 10;
 
-// A public key with what it is derived from, since no contract knows what a lock holds but by its type.
+// A public key with its origin. Contracts know of a locked value only what its type promises.
 #[derive(Clone, Copy, Drop)]
 struct Derived {
     seed: [u8; 32],
@@ -41,7 +41,7 @@ impl Derived {
         }
     }
 
-    // The key, where it is this replica's under this seed.
+    // The key, if it is this replica's under this seed.
     fn key_of(&self, seed: &[u8; 32], signer: Party) -> Option<[u8; 32]>
         ensures { IfSome result (λ key. key ≡ public_key_of seed.now signer) }
     {
@@ -53,9 +53,9 @@ impl Derived {
     }
 }
 
-/// The public keys of the replicas of one configuration. Each is derived from the configuration's seed when something
-/// is first verified by it, which takes as long as a tree of keys, and is then kept for all that share these keys, in
-/// any threads. Where two threads need it first at once, each derives it.
+/// The public keys of the replicas of one configuration. Each is derived from the configuration's seed when it first
+/// verifies a text, which takes as long as a tree of keys. Then it is kept for all owners of these keys, in any
+/// threads. If two threads first need it at once, each derives it.
 #[derive(Drop)]
 pub struct PublicKeys {
     seed: [u8; 32],
@@ -79,7 +79,7 @@ impl PublicKeys {
         Ok(PublicKeys { seed: *seed, kept })
     }
 
-    /// The same keys for one more owner: what one of them derives, all have.
+    /// The same keys for one more owner: a key that one owner derives is there for all.
     pub fn share(&self) -> Result<PublicKeys, NoMemory>
         ensures { IfOk result (λ keys. keys ≡ self.now) }
     {
@@ -107,7 +107,7 @@ impl PublicKeys {
         is_signature(signature) && verify_bytes(&self.public(signer), text, signature)
     }
 
-    /// Whether the frame, which the bytes spell, has a signature of its body by its sender.
+    /// Whether the frame has a signature of its body by its sender. The bytes spell the frame.
     pub fn has_signature(&self, frame: &Frame, bytes: &[u8]) -> bool
         requires { SpellsFrame bytes.now (frame_data frame.now) }
         ensures signed { result ≡ has_signature self.now (frame_data frame.now) }
@@ -127,7 +127,7 @@ impl PublicKeys {
         place.get()?.key_of(&self.seed, signer)
     }
 
-    // Derives a key, and keeps it unless another thread keeps it just now or no replica has this number.
+    // Derives a key and keeps it, unless another thread did so meanwhile or no replica has this number.
     fn derive(&self, signer: Party) -> [u8; 32]
         ensures { result ≡ public_key_of self.now signer }
     {

@@ -1,4 +1,4 @@
-//! The one-time keys that a seed gives.
+//! The one-time keys of a seed.
 
 ghost use Rattle.std.specs.Prelude.{◌≡◌, ◌<◌, ◌≤◌};
 ghost use Rattle.signing.specs.Lamport.{bit_of, leaf_digest, public_hash, secret};
@@ -13,7 +13,7 @@ use std::marker::Model;
 /// The number of bits of a hash.
 pub(crate) const BITS: u16 = 256;
 
-/// The secrets of a seed, as many as are asked for.
+/// The secrets of a seed, each made when it is asked for.
 #[derive(Drop)]
 pub(crate) struct Secrets {
     seed: [u8; 32],
@@ -51,7 +51,7 @@ impl Secrets {
             .mac(&[leaf_high, leaf_low, bit_high, bit_low, value])
     }
 
-    /// What is public of such a secret: its hash.
+    /// The public half of such a secret: its hash.
     pub(crate) fn public_hash(&self, leaf: u8, bit: u16, value: u8) -> [u8; 32]
         ensures { result ≡ public_hash self.now leaf bit value }
     {
@@ -70,7 +70,7 @@ impl Secrets {
         hasher.finalize()
     }
 
-    /// Appends what signs each bit of a hash.
+    /// Appends, for each bit of a hash, the secret of its value and the public hash of the other value.
     pub(crate) fn push_signed(
         &self,
         leaf: u8,

@@ -19,7 +19,7 @@ pub const SIGNATURE_LEN: usize = 16_577;
 /// Where the path begins in a signature.
 const PATH: usize = 16_385;
 
-/// A signature. It may be of any text and key, or of none: that [`verify`] tells.
+/// A signature by its form. [`verify`] tells whether it is one of a text under a key.
 #[derive(Drop)]
 pub struct Signature {
     bytes: Vec<u8>,
@@ -37,8 +37,8 @@ impl Model for Signature {
 }
 
 impl Signature {
-    /// The signature of these bytes, in memory of its own, where they have the length and a leaf from 0 to 63, else
-    /// none. The error is want of memory, which comes only where they are a signature.
+    /// The signature of these bytes, in memory of its own, or `None` if they lack the length or a leaf from 0 to 63.
+    /// The error is out of memory; it comes only if the bytes are a signature.
     pub fn from_bytes(alloc: Global, bytes: &[u8]) -> Result<Option<Signature>, AllocError>
         ensures found { IfOk result (FindsSignature bytes.now) }
         ensures memory { OnErr result (IsSignature bytes.now) }

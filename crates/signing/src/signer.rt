@@ -16,7 +16,7 @@ pub enum SignFault {
     /// Each of the 64 leaves has signed once.
     #[error("all 64 keys are spent")]
     KeysSpent,
-    /// There was no room for the signature; no leaf is spent.
+    /// There was no memory for the signature; no leaf is spent.
     #[error("out of memory")]
     NoMemory,
 }
@@ -32,7 +32,7 @@ impl From<AllocError> for SignFault {
     }
 }
 
-/// Signs up to 64 texts by the leaves of a seed, in order. Its tree is made at the first call that needs it.
+/// Signs up to 64 texts by the leaves of a seed, in order. The first call that needs its tree makes it.
 #[derive(Drop)]
 pub struct Signer {
     seed: [u8; 32],
@@ -83,8 +83,8 @@ impl Signer {
         public
     }
 
-    /// The signature of a text by the next leaf, after which that leaf is used. An error leaves the signer unchanged:
-    /// [`SignFault::KeysSpent`] comes where all 64 leaves are used, and [`SignFault::NoMemory`] only where they aren't.
+    /// The signature of a text by the next leaf, which is then used. An error leaves the signer unchanged:
+    /// [`SignFault::KeysSpent`] comes if all 64 leaves are used, and [`SignFault::NoMemory`] only if they aren't.
     pub fn sign(&mut self, alloc: Global, text: &[u8]) -> Result<Signature, SignFault>
         ensures value { IfOk result (λ s. s ≡ signature_of self.old.seed self.old.used text.now) }
         ensures verifies { IfOk result (λ s. Verifies (public_key self.old.seed) text.now s) }
@@ -105,7 +105,7 @@ impl Signer {
     }
 }
 
-// The tree of the seed, made unless it is there.
+// The tree of the seed, made if it isn't there.
 fn ready(tree: Option<KeyTree>, seed: &[u8; 32]) -> KeyTree
     requires { ForSome tree (λ t. t ≡ seed.now) }
     ensures { result ≡ seed.now }

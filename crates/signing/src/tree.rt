@@ -20,14 +20,14 @@ pub const LEAVES: u8 = 64;
 /// The level of the root.
 pub(crate) const LEVELS: u8 = 6;
 
-/// The place of the first leaf among the nodes: before it are as many places as there are leaves.
+/// The place of the first leaf among the nodes. There are as many places before it as leaves.
 const FIRST_LEAF: usize = LEAVES as usize;
 
 /// The nodes over the leaves of a seed. To make them takes some 115,000 blocks of SHA-256.
 #[derive(Drop)]
 pub struct KeyTree {
     secrets: Secrets,
-    // The root is at 1, and the children of the node at `i` are at `2 * i` and `2 * i + 1`. At 0 is none.
+    // The root is at 1, and the children of the node at `i` are at `2 * i` and `2 * i + 1`. No node is at 0.
     nodes: [[u8; 32]; 128],
 }
 
@@ -61,8 +61,8 @@ impl KeyTree {
         self.nodes[1]
     }
 
-    /// The signature of a text by one leaf, 0 to 63. A leaf that signs two texts gives secrets of both values away: to
-    /// use each once is left to the caller, and a [`Signer`](crate::Signer) does. The error is want of memory for the
+    /// The signature of a text by one leaf, 0 to 63. A leaf that signs two texts gives away secrets of both values,
+    /// so the caller has to use each once, as a [`Signer`](crate::Signer) does. The error is out of memory for the
     /// signature's bytes, and then no secret is given away.
     pub fn sign_with(&self, alloc: Global, leaf: u8, text: &[u8]) -> Result<Signature, AllocError>
         requires { leaf < 64 }
@@ -89,7 +89,7 @@ fn leaf_nodes(secrets: &Secrets) -> [[u8; 32]; 128]
     nodes
 }
 
-// Puts the digests over the leaves in, upwards.
+// Fills in the digests above the leaves, upwards.
 fn join_pairs(nodes: &mut [[u8; 32]; 128])
     ensures { (leaves : ℕ → List ℕ) → HasLeaves leaves nodes.old → HasNodes leaves nodes.new }
 {
@@ -128,7 +128,7 @@ fn push_path(nodes: &[[u8; 32]; 128], leaf: u8, bytes: &mut Vec<u8>) -> Result<(
     Ok(())
 }
 
-// Where the node of a level and a place is among the nodes.
+// The index of a level's node at this place.
 fn node_index(level: u8, place: u8) -> usize
     requires level { level ≤ 6 }
     requires place { place < 2 ^ (6 - level) }

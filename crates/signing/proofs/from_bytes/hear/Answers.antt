@@ -1,75 +1,29 @@
-use Rattle.std.proofs.Common.{◌≡◌, ◌∙◌, Some, ap, sym, subst}
+use Rattle.std.proofs.Common.{◌≡◌, ◌∙◌, Some, sym}
 use Rattle.std.proofs.lemmas.Result.{err_from_is_err_and}
 use Rattle.terms.specs.Parties.{party_number}
 use Rattle.wire.specs.Views.{body_data, frame_data}
-use Rattle.wire.specs.Headers.{header_data}
-use Rattle.signing.specs.Hearing.{Refuses, signature_holds}
-use Rattle.signing.proofs.Heard.{heard_was_opened}
-use Rattle.signing.proofs.Opened.{own_not_heard, refused_not_heard, refused_by_header, heard_by_header, unsigned_by_header, unsigned_not_heard}
+use Rattle.signing.proofs.Whether.{nothing_heard, something_heard, heard_frame, heard_of_frame}
 use Rattle.signing.proofs.from_bytes.hear.Goals as goal
 
-pub returns-in_err-header-clause-all : goal.returns-in_err-header-clause-all
-returns-in_err-header-clause-all c body e = absurd (
-    let w = heard_was_opened c.args.ring.now (party_number c.args.me) c.args.bytes.now body e in
-    let is_ok = c.in_err-header.ensures.only w.frame w.opens.spelled in
-    let k : ⊥ = cc in k
-    )
+pub returns-in_err-authenticate-clause-all : goal.returns-in_err-authenticate-clause-all
+returns-in_err-authenticate-clause-all c body e =
+    absurd (nothing_heard c.args.ring.now (party_number c.args.me) c.args.bytes.now c.in_err-authenticate.ensures.heard body e)
 
-pub returns-then-number-clause-all : goal.returns-then-number-clause-all
-returns-then-number-clause-all c body e = absurd (
-    own_not_heard c.args.ring.now (party_number c.args.me) c.args.bytes.now (header_data c.in_ok-header.header) c.in_ok-header.ensures.found
-    (sym c.number.ensures ∙ c.if-number.true ∙ c.number-2.ensures) body e
-    )
-
-pub returns-in-Some-clause-all : goal.returns-in-Some-clause-all
-returns-in-Some-clause-all c body e = absurd (
-    refused_not_heard c.args.ring.now (party_number c.args.me) c.args.bytes.now (header_data c.in_ok-header.header) c.in_ok-header.ensures.found c.in-Some.fault c.in-Some.ensures.value body e
-    )
-
-pub returns-in-Some-clause-refused : goal.returns-in-Some-clause-refused
-returns-in-Some-clause-refused c =
-    subst (Refuses c.args.ring.now (party_number c.args.me) c.args.bytes.now) (sym c.into.ensures)
-    (refused_by_header c.args.ring.now (party_number c.args.me) c.args.bytes.now (header_data c.in_ok-header.header) c.in_ok-header.ensures.found c.in-Some.fault c.in-Some.ensures.value
-    (λ e. c.if-number.false (c.number.ensures ∙ e ∙ sym c.number-2.ensures)))
-
-pub returns-then-not-signature_holds-clause-all : goal.returns-then-not-signature_holds-clause-all
-returns-then-not-signature_holds-clause-all c body e = absurd (
-    let header = header_data c.in_ok-header.header in
-    unsigned_not_heard c.args.ring.now (party_number c.args.me) c.args.bytes.now header c.in_ok-header.ensures.found c.in_default.ensures.value
-    (ap (λ s. signature_holds s header) (sym c.requires) ∙ sym c.signature_holds.ensures ∙ c.if-not-signature_holds.true) body e
-    )
-
-pub returns-then-not-signature_holds-clause-refused : goal.returns-then-not-signature_holds-clause-refused
-returns-then-not-signature_holds-clause-refused c =
-    let header = header_data c.in_ok-header.header in
-    unsigned_by_header c.args.ring.now (party_number c.args.me) c.args.bytes.now header c.in_ok-header.ensures.found c.in_default.ensures.value
-    (λ e. c.if-number.false (c.number.ensures ∙ e ∙ sym c.number-2.ensures))
-    (ap (λ s. signature_holds s header) (sym c.requires) ∙ sym c.signature_holds.ensures ∙ c.if-not-signature_holds.true)
+pub decode_judged-requires : goal.decode_judged-requires
+decode_judged-requires c =
+    heard_frame c.args.ring.now (party_number c.args.me) c.args.bytes.now c.in_ok-authenticate.ensures.heard
 
 pub returns-in_err-frame-clause-refused : goal.returns-in_err-frame-clause-refused
 returns-in_err-frame-clause-refused c =
     let p = err_from_is_err_and c.from_residual-in_err-frame.result c.from_residual-in_err-frame.ensures.1 in
-    let header = header_data c.in_ok-header.header in
-    let has = c.in_ok-header.ensures.found in
-    rw (p.1, p.2) (
-      has.0.body,
-      heard_by_header c.args.ring.now (party_number c.args.me) c.args.bytes.now header has c.in_default.ensures.value has.0 has.1
-          (λ e. c.if-number.false (c.number.ensures ∙ e ∙ sym c.number-2.ensures))
-          (ap (λ s. signature_holds s header) (sym c.requires) ∙ sym c.signature_holds.ensures ∙ c.if-not-signature_holds.false),
-    )
+    rw (p.1, p.2) (something_heard c.args.ring.now (party_number c.args.me) c.args.bytes.now c.in_ok-authenticate.ensures.heard)
 
 pub returns-clause-heard : goal.returns-clause-heard
 returns-clause-heard c =
-    let header = header_data c.in_ok-header.header in
-    heard_by_header c.args.ring.now (party_number c.args.me) c.args.bytes.now header c.in_ok-header.ensures.found c.in_default.ensures.value (frame_data c.in_ok-frame.frame) c.in_ok-frame.ensures
-    (λ e. c.if-number.false (c.number.ensures ∙ e ∙ sym c.number-2.ensures))
-    (ap (λ s. signature_holds s header) (sym c.requires) ∙ sym c.signature_holds.ensures ∙ c.if-not-signature_holds.false)
+    heard_of_frame c.args.ring.now (party_number c.args.me) c.args.bytes.now c.in_ok-authenticate.ensures.heard (frame_data c.in_ok-frame.frame) c.in_ok-frame.ensures
 
 pub returns-clause-all : goal.returns-clause-all
 returns-clause-all c body e =
-    let header = header_data c.in_ok-header.header in
-    let mine = heard_by_header c.args.ring.now (party_number c.args.me) c.args.bytes.now header c.in_ok-header.ensures.found c.in_default.ensures.value (frame_data c.in_ok-frame.frame) c.in_ok-frame.ensures
-    (λ e. c.if-number.false (c.number.ensures ∙ e ∙ sym c.number-2.ensures))
-    (ap (λ s. signature_holds s header) (sym c.requires) ∙ sym c.signature_holds.ensures ∙ c.if-not-signature_holds.false) in
+    let mine = heard_of_frame c.args.ring.now (party_number c.args.me) c.args.bytes.now c.in_ok-authenticate.ensures.heard (frame_data c.in_ok-frame.frame) c.in_ok-frame.ensures in
     let same : Some (body_data c.in_ok-frame.frame.body) ≡ Some body = sym mine ∙ e in
     cc

@@ -1,0 +1,43 @@
+-- Whether something is heard.
+use Rattle.std.proofs.Common.{◌≡◌, ℕ, true, false, List, Option, Some, None, refl, ap, sym, ◌∙◌}
+use Rattle.std.specs.Prelude.{is_some}
+use Rattle.std.proofs.lemmas.Bool.{false≢true}
+use Rattle.wire.specs.Messages.{BodyData, FrameData}
+use Rattle.wire.specs.Headers.{IsFrame}
+use Rattle.wire.specs.Spelling.{SpellsFrame}
+use Rattle.wire.proofs.Whole.{one_frame}
+use Rattle.authenticator.specs.Membership.{Membership}
+use Rattle.signing.specs.Heard.{heard}
+use Rattle.signing.proofs.Heard.{heard_was_opened}
+
+none_of : (o : Option BodyData) → ((body : BodyData) → o ≡ Some body → ⊥) → false ≡ is_some o
+none_of None never = refl
+none_of (Some body) never = absurd (never body refl)
+
+some_of : (o : Option BodyData) → true ≡ is_some o → (body : BodyData) × (o ≡ Some body)
+some_of None h = absurd (let g : ⊥ = cc in g)
+some_of (Some body) h = (body, refl)
+
+module _ (m : Membership) (party : ℕ) (bytes : List ℕ) where
+  pub hears_nothing : ((body : BodyData) → heard m party bytes ≡ Some body → ⊥) → false ≡ is_some (heard m party bytes)
+  hears_nothing none = none_of (heard m party bytes) none
+
+  pub nothing_heard : false ≡ is_some (heard m party bytes) → (body : BodyData) → heard m party bytes ≡ Some body → ⊥
+  nothing_heard none body e = false≢true (none ∙ ap is_some e)
+
+  pub hears_something : (body : BodyData) → heard m party bytes ≡ Some body → true ≡ is_some (heard m party bytes)
+  hears_something body e = sym (ap is_some e)
+
+  module _ (some : true ≡ is_some (heard m party bytes)) where
+    pub something_heard : (body : BodyData) × (heard m party bytes ≡ Some body)
+    something_heard = some_of (heard m party bytes) some
+
+    pub heard_frame : IsFrame bytes
+    heard_frame =
+        let w = heard_was_opened m party bytes something_heard.0 something_heard.1 in (w.frame, w.opens.spelled)
+
+    -- bytes that are heard spell one frame, whose body is heard
+    pub heard_of_frame : (frame : FrameData) → SpellsFrame bytes frame → heard m party bytes ≡ Some frame.body
+    heard_of_frame frame spelled =
+        let w = heard_was_opened m party bytes something_heard.0 something_heard.1 in
+        something_heard.1 ∙ ap Some (sym w.body_is) ∙ ap (λ (f : FrameData). Some f.body) (one_frame bytes w.frame frame w.opens.spelled spelled)
