@@ -1,4 +1,4 @@
--- What each event leads to.
+-- Each event keeps the fit of state and history.
 use Rattle.std.proofs.Common.{inr, ◌≡◌, Bool, ℕ, suc, ◌+◌, ◌-◌, true, false, List, [], ◌∷◌, Option, Some, None, refl, sym, ap, ◌∙◌, subst, arith}
 use Rattle.std.specs.Prelude.{is_some, map}
 use Rattle.terms.specs.declared.order.Mode.{Mode}
@@ -10,7 +10,7 @@ use Rattle.protocol.specs.System.Trace.Entry.{Invoke, Got, Tick, Sent, Accepted}
 use Rattle.protocol.specs.Client.RightClient.{OpenCall, open_call, MayInput, IsRequest, IsClient, first_mode, reaction}
 use Rattle.protocol.specs.Client.RightClient.Reaction.{nothing, asks, accepts}
 use Rattle.events.specs.declared.output.Output.{Output}
-use Rattle.events.specs.Outputs.{entry_of, behind}
+use Rattle.events.specs.Outputs.{entry_of, after_entries}
 use Rattle.client_cert.specs.State.{CallState, ClientState, me_of, called, went}
 use Rattle.client_cert.specs.Fits.{Runs, Fits}
 use Rattle.client_cert.specs.Steps.{Leads, Weighs, Becomes, Keeps, Asks}
@@ -18,9 +18,9 @@ use Rattle.client_cert.proofs.Holding.{holds_begun, holds_sent}
 use Rattle.client_cert.proofs.Fitting.{gives_request, true_not}
 use Rattle.client_cert.proofs.Stepping.{fits_moved, nothing_given, request_given, answer_given, got_unasked, tick_unasked, tick_asked, stops_got, stops_tick}
 
--- behind one output
-one_output : (c : Configuration) (new : ClientState) (es : List Entry) (e : Entry) (now : List Entry) → es ≡ e ∷ [] → Fits c new (e ∷ now) → Fits c new (behind es now)
-one_output c new es e now is f = subst (λ (xs : List Entry). Fits c new (behind xs now)) (sym is) f
+-- after one output
+one_output : (c : Configuration) (new : ClientState) (es : List Entry) (e : Entry) (now : List Entry) → es ≡ e ∷ [] → Fits c new (e ∷ now) → Fits c new (after_entries es now)
+one_output c new es e now is f = subst (λ (xs : List Entry). Fits c new (after_entries xs now)) (sym is) f
 
 pub got_none_leads : (old new : ClientState) (bytes : List ℕ) → old.stopped ≡ false → old.call ≡ None → Becomes old new None → Leads old (Got (me_of old) bytes) [] new
 got_none_leads old new bytes runs is b c history f = got_unasked c old new history f runs bytes is b
@@ -44,7 +44,7 @@ pub got_asks_leads : (old mid new : ClientState) (call more : CallState) (bytes 
     → mid ≡ record old { call = Some more } → Asks mid modes.Ordered outs new → Leads old (Got (me_of old) bytes) outs new
 got_asks_leads old mid new call more bytes outs runs is w e a c history f = go (subst (λ m. Asks m modes.Ordered outs new) e a)
   where
-    go : Asks (record old { call = Some more }) modes.Ordered outs new → Fits c new (behind (map (entry_of (me_of old)) outs) (Got (me_of old) bytes ∷ history))
+    go : Asks (record old { call = Some more }) modes.Ordered outs new → Fits c new (after_entries (map (entry_of (me_of old)) outs) (Got (me_of old) bytes ∷ history))
     go x =
         let same = same_call more x.call x.was in
         one_output c new (map (entry_of (me_of old)) outs) (Sent (me_of old) x.text) (Got (me_of old) bytes ∷ history) x.given
@@ -84,7 +84,7 @@ pub call_leads : (old mid new : ClientState) (op : Operation) (mode : Mode) (out
     → mid ≡ called (suc old.calls) op old → mode ≡ first_mode op → Asks mid mode outs new → Leads old (Invoke old.number (suc old.calls) op) outs new
 call_leads old mid new op mode outs is none runs e kind a c history f = go (subst (λ m. Asks m mode outs new) e a)
   where
-    go : Asks (called (suc old.calls) op old) mode outs new → Fits c new (behind (map (entry_of (me_of old)) outs) (Invoke old.number (suc old.calls) op ∷ history))
+    go : Asks (called (suc old.calls) op old) mode outs new → Fits c new (after_entries (map (entry_of (me_of old)) outs) (Invoke old.number (suc old.calls) op ∷ history))
     go x =
         let same = same_call (first_call op) x.call x.was in
         let r = x.asks c f.members_are in

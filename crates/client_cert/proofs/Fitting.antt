@@ -1,4 +1,4 @@
--- What an event does to what fits.
+-- Events keep the fit of state and history.
 use Rattle.std.proofs.Common.{◌≡◌, ℕ, ◌+◌, inl, inr, Bool, true, false, List, [], ◌∷◌, Option, Some, None, refl, sym, ap, ◌∙◌, subst}
 use Rattle.std.specs.Prelude.{is_some}
 use Rattle.terms.specs.declared.order.Mode.{Mode}
@@ -41,7 +41,7 @@ opened_is : (c : Configuration) (me t : ℕ) (history : List Entry) (call : Opti
 opened_is c me t history None h = ap is_some h
 opened_is c me t history (Some call) h = ap is_some h.open_is
 
--- between events, of one that goes on
+-- between events, of a client that hasn't stopped
 pub fits_run : (c : Configuration) (client : ClientState) (history : List Entry) → members c ≡ client.membership
     → Holds c (me_of client) history client.calls client.call → Reacts c (me_of client) (reaction c (me_of client)) [] history → Fits c client history
 fits_run c client history known h gave =
@@ -57,7 +57,7 @@ pub fits_new : (c : Configuration) (client : ClientState) → members c ≡ clie
 fits_new c client known calls call =
     fits_run c client [] known (record { last_is = sym calls; call_is = subst (λ o. FitsOpen c (me_of client) [] client.calls o) (sym call) refl }) refl
 
--- what holds of a client that stopped, behind an input that gives nothing more
+-- a client that stopped, after an input without outputs
 pub record Stops (old new : ClientState) : Type 0 where
   pub number : new.number ≡ old.number
   pub membership : new.membership ≡ old.membership

@@ -1,4 +1,4 @@
--- What is heard, as a reply to the call.
+-- The frames that a client hears, as replies to the call.
 use Rattle.std.proofs.Common.{◌≡◌, ℕ, ◌+◌, ◌==◌, ◌&&◌, Bool, true, false, List, Option, Some, None, refl, sym, ap, ◌∙◌}
 use Rattle.std.specs.Prelude.{option_and_then, slice_index}
 use Rattle.std.specs.Bool.{then_some}
@@ -14,18 +14,18 @@ use Rattle.signing.specs.Heard.{heard}
 use Rattle.signing.proofs.Heard.{heard_was_opened}
 use Rattle.protocol.specs.Client.RightClient.{Vote, vote_of}
 use Rattle.client_cert.specs.declared.hearing.Heard.{Heard}
-use Rattle.client_cert.specs.Hearing.{Hears, Answers, reply_body}
+use Rattle.client_cert.specs.Hearing.{HearsVote, Answers, reply_body}
 
 pub none_is : (o : Option Body) → ((body : Body) → o ≡ Some body → ⊥) → o ≡ None
 none_is None h = refl
 none_is (Some body) h = absurd (h body refl)
 
--- what is not heard brings no vote
-pub hears_none : (me t : ℕ) (o : Option Body) → o ≡ None → Hears me t o None
+-- bytes that aren't heard bring no vote
+pub hears_none : (me t : ℕ) (o : Option Body) → o ≡ None → HearsVote me t o None
 hears_none me t o e s = ap (option_and_then (vote_of me t s)) e
 
--- nor does what brings none at any replica
-pub hears_other : (me t : ℕ) (o : Option Body) (body : Body) → o ≡ Some body → ((s : ℕ) → vote_of me t s body ≡ None) → Hears me t o None
+-- a body that is no vote of any replica brings none
+pub hears_other : (me t : ℕ) (o : Option Body) (body : Body) → o ≡ Some body → ((s : ℕ) → vote_of me t s body ≡ None) → HearsVote me t o None
 hears_other me t o body e others s = ap (option_and_then (vote_of me t s)) e ∙ others s
 
 -- ---- replies
@@ -41,11 +41,11 @@ unread me t sender r e s =
     last false y z e = refl
 
 pub hears_reply : (me t : ℕ) (o : Option Body) (sender : ℕ) (r : Reply) (h : Option Heard) → o ≡ Some (reply_body sender r)
-    → Answers me t sender r h → Hears me t o h
+    → Answers me t sender r h → HearsVote me t o h
 hears_reply me t o sender r None e a = hears_other me t o (reply_body sender r) e (unread me t sender r a)
 hears_reply me t o sender r (Some h) e a = e ∙ ap Some (sym a)
 
--- ---- what is no reply
+-- ---- frames that are no replies
 
 -- a message that is no reply brings no vote
 pub other_votes : (me t s sender : ℕ) (x : Message) → ((r : Reply) → x ≡ messages.Reply r → ⊥) → vote_of me t s (record { sender = sender; message = message_data x }) ≡ None
@@ -74,8 +74,8 @@ typed_votes me t s sender (fetch number level index) e = refl
 typed_votes me t s sender (meta number level index digests) e = refl
 typed_votes me t s sender (page number index text) e = refl
 
--- bytes of another type bring none, whatever is heard
-pub hears_no_type : (m : Membership) (me t : ℕ) (bytes : List ℕ) → (slice_index bytes 4 == 0x48) ≡ false → Hears me t (heard m me bytes) None
+-- bytes of another type bring no vote, whatever is heard
+pub hears_no_type : (m : Membership) (me t : ℕ) (bytes : List ℕ) → (slice_index bytes 4 == 0x48) ≡ false → HearsVote me t (heard m me bytes) None
 hears_no_type m me t bytes type s = go (heard m me bytes) refl
   where
     go : (o : Option Body) → heard m me bytes ≡ o → option_and_then (vote_of me t s) o ≡ None

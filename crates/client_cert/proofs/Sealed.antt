@@ -1,4 +1,4 @@
--- What is sealed for all replicas is the client's request.
+-- The body that is sealed for all replicas is the client's request.
 use Rattle.std.proofs.Common.{◌++◌, length-append, Result, Ok, Err, ◌≡◌, ℕ, zero, suc, ◌+◌, ◌*◌, ◌≤◌, ◌<◌, ◌^◌, true, List, [], ◌∷◌, refl, sym, ap, ◌∙◌, subst, map, length, arith, add-one}
 use Rattle.std.specs.Prelude.{nat_lt, IfOk}
 use Rattle.std.specs.Int.{w16, w32, w64, to_be_bytes}
@@ -77,7 +77,7 @@ request_is_short me t mode op is =
 pub never_too_long : (seed : List ℕ) (body : Body) (receivers : List ℕ) → IsShort body → length receivers ≤ 10 → IsTooLong (sealed_for seed body receivers) → ⊥
 never_too_long seed body receivers short few long = let l = short in sealed-short seed body receivers (omega (arith, l, few)) long
 
--- ---- what the program made
+-- ---- the frame that the program makes
 
 range_more : (a n : ℕ) → range_with_len a (n + 1) ≡ range_with_len a n ++ (a + n) ∷ []
 range_more a n = ap (range_with_len a) (add-one n) ∙ go a n

@@ -1,4 +1,4 @@
--- What a whole event does to what fits.
+-- A whole event keeps the fit of state and history.
 use Rattle.std.proofs.Common.{◌≡◌, ℕ, ◌+◌, ◌-◌, true, false, cond, ◌&&◌, ◌==◌, List, [], ◌∷◌, Option, Some, None, refl, sym, ap, ◌∙◌, subst, arith}
 use Rattle.terms.specs.declared.order.Mode.{Mode}
 use Rattle.terms.specs.declared.order.Mode.TheVariants as modes
@@ -14,7 +14,7 @@ use Rattle.protocol.specs.System.Trace.Entry.{Got, Tick, Sent, Accepted}
 use Rattle.protocol.specs.Client.RightClient.{Reacts, reaction}
 use Rattle.protocol.specs.Client.RightClient.Reaction.{nothing, asks, accepts}
 use Rattle.client_cert.specs.declared.hearing.Heard.{Heard}
-use Rattle.client_cert.specs.Hearing.{Hears}
+use Rattle.client_cert.specs.Hearing.{HearsVote}
 use Rattle.client_cert.specs.State.{Ballot, CallState, ClientState, Takes, Turn, turn_of, ballot_of, ballots_of, held, me_of, went}
 use Rattle.client_cert.specs.Fits.{Holds, Fits}
 use Rattle.client_cert.specs.Asking.{AsksWith}
@@ -23,14 +23,14 @@ use Rattle.client_cert.proofs.Holding.{holds_got, holds_noted, holds_tick, holds
 use Rattle.client_cert.proofs.Turning.{turns, reaction_is, no_reaction, no_call_reaction, tick_reaction, no_tick_reaction}
 use Rattle.client_cert.proofs.Fitting.{gives_none, gives_request, gives_answer, fits_run, Stops, fits_stop_got, fits_stop_tick}
 
--- ---- what bytes do to an open call
+-- ---- an open call after bytes
 
-pub weigh_none : (m : Membership) (me t : ℕ) (call : CallState) (bytes : List ℕ) → Hears me t (heard m me bytes) None → Weighs m me t call bytes call nothing
+pub weigh_none : (m : Membership) (me t : ℕ) (call : CallState) (bytes : List ℕ) → HearsVote me t (heard m me bytes) None → Weighs m me t call bytes call nothing
 weigh_none m me t call bytes hears c history known h =
-    let here : Hears me t (heard (members c) me bytes) None = subst (λ (x : Membership). Hears me t (heard x me bytes) None) (sym known) hears in
+    let here : HearsVote me t (heard (members c) me bytes) None = subst (λ (x : Membership). HearsVote me t (heard x me bytes) None) (sym known) hears in
     (holds_got c me me t bytes history call here h, no_reaction c me me t bytes history call here h)
 
--- what a reply leaves is the sender's
+-- the key of the sender's own reply
 same_key : (mode : Mode) (s : ℕ) → (same_mode mode mode && (s == s)) ≡ true
 same_key modes.Ordered s = eq-eqb s s refl
 same_key modes.ReadOnly s = eq-eqb s s refl
@@ -40,14 +40,14 @@ taken call more mode sender ballot takes =
     takes.at mode sender ∙ ap (λ b. cond b (Some ballot) (held (ballots_of mode call) sender)) (same_key mode sender)
 
 pub weigh_reply : (m : Membership) (me t faults : ℕ) (call more : CallState) (bytes : List ℕ) (x : Heard) (ballot : Ballot) (turn : Turn)
-    → Hears me t (heard m me bytes) (Some x)
+    → HearsVote me t (heard m me bytes) (Some x)
     → faults ≡ m.faults
     → ballot ≡ ballot_of (record { mode = x.mode; number = x.number.0; answer = outcome_of x.answer })
     → Takes call x.mode x.sender ballot more
     → turn_of faults more x.mode x.sender ≡ turn
     → Weighs m me t call bytes more (turns turn t more.op (outcome_of x.answer))
 weigh_reply m me t faults call more bytes x ballot turn hears size is takes turned c history known h =
-    let here : Hears me t (heard (members c) me bytes) (Some x) = subst (λ (k : Membership). Hears me t (heard k me bytes) (Some x)) (sym known) hears in
+    let here : HearsVote me t (heard (members c) me bytes) (Some x) = subst (λ (k : Membership). HearsVote me t (heard k me bytes) (Some x)) (sym known) hears in
     let now : Holds c me (Got me bytes ∷ history) t (Some more) =
     holds_noted c me me t bytes history call more x.sender x.mode x.number.0 (outcome_of x.answer) here (rw is at takes) h in (
       now,
@@ -58,7 +58,7 @@ weigh_reply m me t faults call more bytes x ballot turn hears size is takes turn
           ∙ turned),
     )
 
--- what fits a client of this number fits the new one
+-- a history that fits the parts of the old client fits the new one
 pub fits_moved : (c : Configuration) (number t : ℕ) (call : Option CallState) (new : ClientState) (now : List Entry) → members c ≡ new.membership
     → new.number ≡ number → new.calls ≡ t → new.call ≡ call
     → Holds c (256 + number) now t call → Reacts c (256 + number) (reaction c (256 + number)) [] now → Fits c new now
@@ -68,7 +68,7 @@ module _ (c : Configuration) (old new : ClientState) (history : List Entry) (f :
   me : ℕ
   me = me_of old
 
-  -- what fits the old client's number and timestamp fits the new one
+  -- a history that fits the old client's number and timestamp fits the new one
   goes_on : (call : Option CallState) (now : List Entry) → Becomes old new call → Holds c (me_of old) now old.calls call → Reacts c (me_of old) (reaction c (me_of old)) [] now → Fits c new now
   goes_on call now b h gave =
       fits_run c new now (f.members_are ∙ sym b.membership)

@@ -1,4 +1,4 @@
--- What a reply leads to is what the definition says.
+-- The consequence of a reply is that of the definition.
 use Rattle.std.proofs.Common.{◌≡◌, ℕ, zero, suc, ◌+◌, ◌*◌, Bool, true, false, cond, ◌&&◌, not, List, ◌∷◌, Option, Some, None, refl, sym, ap, ◌∙◌}
 use Rattle.std.specs.Prelude.{nat_le, is_some, option_map, option_and_then}
 use Rattle.std.specs.Bool.{then_some}
@@ -45,7 +45,7 @@ branches true answered t op answer = refl
 branches false true t op answer = refl
 branches false false t op answer = refl
 
--- what the counts lead to
+-- the consequence of the counts
 abbrev turn_by : ℕ → Bool → ℕ → ℕ → Turn
 turn_by faults ordered alike answered =
     cond (nat_le (2 * faults + 1) alike) accepts_it (cond (not ordered && nat_le (3 * faults + 1) answered) asks_ordered waits)

@@ -1,4 +1,4 @@
--- What a client asks with.
+-- The requests of a client.
 use Rattle.std.specs.Prelude.{◌≡◌, ◌+◌, ◌*◌, ◌≤◌, ℕ, List, length, Vec}
 use Rattle.std.specs.List.{range_with_len}
 use Rattle.std.specs.declared.alloc.Global.{Global}
@@ -18,9 +18,9 @@ abbrev pub AsksWith : Membership → ℕ → Mode → ℕ → Operation → List
 AsksWith m me mode timestamp op bytes =
     (c : Configuration) → members c ≡ m → IsRequest c me mode (record { timestamp = timestamp; op = op }) bytes
 
--- ---- of private functions
+-- ---- for private functions
 
--- the client of this number asks so
+-- the frame is a request of the client with this number
 abbrev pub AsksAs :
     Membership → ClientId → Mode → Timestamp → Operation → Vec ℕ Global → Type 0
 AsksAs m client mode timestamp op frame =

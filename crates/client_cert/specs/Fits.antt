@@ -1,4 +1,4 @@
--- How what a client holds meets its history.
+-- A client's state fits its history.
 use Rattle.std.specs.Prelude.{◌≡◌, ℕ, false, List, [], Option, Some, None, is_some, option_map}
 use Rattle.terms.specs.declared.order.Mode.{Mode}
 use Rattle.protocol.specs.System.Configuration.{Configuration, members}
@@ -6,7 +6,7 @@ use Rattle.protocol.specs.System.Trace.{Entry}
 use Rattle.protocol.specs.Client.RightClient.{last_call, open_call, went_ordered, latest, reaction, Reacts, IsClient}
 use Rattle.client_cert.specs.State.{CallState, ClientState, me_of, held, ballots_of, ballot_of}
 
--- the open call of this timestamp
+-- the state of the open call with this timestamp
 pub record FitsCall (c : Configuration) (me : ℕ) (history : List Entry) (timestamp : ℕ) (call : CallState) : Type 0 where
   pub open_is : open_call history ≡ Some (record { timestamp = timestamp; op = call.op })
   pub ordered_is : went_ordered history timestamp ≡ call.ordered
@@ -17,12 +17,12 @@ abbrev pub FitsOpen : Configuration → ℕ → List Entry → ℕ → Option Ca
 FitsOpen c me history timestamp None = open_call history ≡ None
 FitsOpen c me history timestamp (Some call) = FitsCall c me history timestamp call
 
--- at any entry, also within an event
+-- at each entry, also within an event
 pub record Holds (c : Configuration) (me : ℕ) (history : List Entry) (timestamp : ℕ) (call : Option CallState) : Type 0 where
   pub last_is : last_call history ≡ timestamp
   pub call_is : FitsOpen c me history timestamp call
 
--- of a client that goes on, between events
+-- between events, of a client that hasn't stopped
 pub record Runs (c : Configuration) (me : ℕ) (client : ClientState) (history : List Entry) : Type 0 where
   pub holds : Holds c me history client.calls client.call
   pub gave : Reacts c me (reaction c me) [] history

@@ -1,4 +1,4 @@
--- What a client hears in a frame. The contracts of private functions speak of these.
+-- The replies that a client hears in frames. The contracts of private functions use these definitions.
 use Rattle.std.specs.Prelude.{◌≡◌, ℕ, ◌+◌, ◌==◌, ◌&&◌, false, List, Option, Some, None, option_and_then, option_map}
 use Rattle.std.specs.declared.alloc.Global.{Global}
 use Rattle.terms.specs.declared.order.Number.{Number}
@@ -25,12 +25,12 @@ abbrev pub body_of : ℕ → ℕ → Heard → Body
 body_of me timestamp h =
     record { sender = h.sender; message = says me timestamp h.mode h.number.0 (outcome_of h.answer) }
 
--- what was heard: a reply to the call, or nothing that is a vote on it
-abbrev pub Hears : ℕ → ℕ → Option Body → Option Heard → Type 0
-Hears me timestamp body None = (s : ℕ) → option_and_then (vote_of me timestamp s) body ≡ None
-Hears me timestamp body (Some h) = body ≡ Some (body_of me timestamp h)
+-- a reply to the call was heard, or nothing that votes on it
+abbrev pub HearsVote : ℕ → ℕ → Option Body → Option Heard → Type 0
+HearsVote me timestamp body None = (s : ℕ) → option_and_then (vote_of me timestamp s) body ≡ None
+HearsVote me timestamp body (Some h) = body ≡ Some (body_of me timestamp h)
 
--- what a reply in a frame says
+-- the body of a reply in a frame
 abbrev pub reply_body : ℕ → Reply → Body
 reply_body sender r =
     record {
@@ -38,24 +38,24 @@ reply_body sender r =
       message = says (256 + r.client.number) r.timestamp.0 r.kind r.number.0 (outcome_of r.answer);
     }
 
--- what it is to the call
+-- the reply answers the call, or it is to another call or client
 abbrev pub Answers : ℕ → ℕ → ℕ → Reply → Option Heard → Type 0
 Answers me timestamp sender r None = ((256 + r.client.number == me) && (r.timestamp.0 == timestamp)) ≡ false
 Answers me timestamp sender r (Some h) = body_of me timestamp h ≡ reply_body sender r
 
--- ---- of the client of this number, as the program has it
+-- ---- of the client with this number, for Rust values
 
--- the frame that is heard from the bytes
+-- the client hears this frame from the bytes, or none
 abbrev pub HearsFrame : Membership → ClientId → List ℕ → Option Frame → Type 0
 HearsFrame m client bytes frame =
     heard m (256 + client.number) bytes ≡ option_map frame_body frame
 
--- the reply to its call that is heard from the bytes
+-- the client hears this reply to its call from the bytes, or none
 abbrev pub HearsReply : Membership → ClientId → Timestamp → List ℕ → Option Heard → Type 0
 HearsReply m client timestamp bytes h =
-    Hears (256 + client.number) timestamp.0 (heard m (256 + client.number) bytes) h
+    HearsVote (256 + client.number) timestamp.0 (heard m (256 + client.number) bytes) h
 
--- what is kept of a reply
+-- the ballot that is kept of a reply
 abbrev pub IsBallotOf : Number → Answer Global → Ballot → Type 0
 IsBallotOf number answer b =
     b ≡ record { number = number.0; text = outcome_spelling (outcome_of answer) }

@@ -1,4 +1,4 @@
--- What a client holds, as plain data, and the changes that its entries make.
+-- The state of a client as plain data, and its changes by entries.
 use Rattle.std.specs.Prelude.{◌≡◌, ℕ, ◌+◌, ◌*◌, ◌^◌, ◌≤◌, Bool, true, false, ◌&&◌, ◌||◌, not, List, [], Option, Some, is_some, nat_le, ◌==◌, bytes_eq, cond, if◌then◌else◌, refl}
 use Rattle.std.specs.Option.{option_map_or}
 use Rattle.std.specs.Map.{lookup}
@@ -29,7 +29,7 @@ pub record CallState : Type 0 where
   pub ordered_ballots : Ballots
   pub read_ballots : Ballots
 
--- a client: its number, whom it knows, its last timestamp, its open call, and whether it stopped
+-- a client: its number, the members that it knows, its last timestamp, its open call, and whether it stopped
 pub record ClientState : Type 0 where
   pub number : ℕ
   pub membership : Membership
@@ -37,7 +37,7 @@ pub record ClientState : Type 0 where
   pub call : Option CallState
   pub stopped : Bool
 
--- The faults and the keys are the members', and while the client goes on, or no call is open, a timestamp is left.
+-- The faults and the keys are the members'. A timestamp is left if the client hasn't stopped, or if no call is open.
 abbrev pub IsOfMembers : ℕ → List ℕ → Membership → ℕ → Option CallState → Bool → Type 0
 IsOfMembers faults seed m calls call stopped =
     (faults ≡ m.faults) × (faults ≤ 3) × (seed ≡ m.seed) × (calls ≤ 2 ^ 62 + 1)
@@ -93,30 +93,30 @@ abbrev pub ballots_of : Mode → CallState → Ballots
 ballots_of modes.Ordered call = call.ordered_ballots
 ballots_of modes.ReadOnly call = call.read_ballots
 
--- what is kept of a vote
+-- the ballot that is kept of a vote
 abbrev pub ballot_of : Vote → Ballot
 ballot_of vote = record { number = vote.number; text = outcome_spelling vote.answer }
 
--- the replies behind one more, which takes the place of its sender's earlier one
+-- the replies and one more, which replaces its sender's earlier one
 pub record Adds (old : Ballots) (sender : ℕ) (ballot : Ballot) (new : Ballots) : Type 0 where
   pub at : (s : ℕ) → held new s ≡ cond (sender == s) (Some ballot) (held old s)
 
--- the call behind one more reply of the mode
+-- the call with one more reply of the mode
 pub record Takes (old : CallState) (mode : Mode) (sender : ℕ) (ballot : Ballot) (new : CallState) : Type 0 where
   pub op : new.op ≡ old.op
   pub ordered : new.ordered ≡ old.ordered
   pub at : (m : Mode) (s : ℕ)
       → held (ballots_of m new) s ≡ cond (same_mode mode m && (sender == s)) (Some ballot) (held (ballots_of m old) s)
 
--- alike in number and answer
+-- the same number and answer
 abbrev pub is_like : Ballot → Option Ballot → Bool
 is_like ballot other = option_map_or (λ o. (o.number == ballot.number) && bytes_eq o.text ballot.text) other false
 
--- how many of n replicas gave the like
+-- how many of n replicas gave this reply
 abbrev pub count_like : Ballots → ℕ → Ballot → ℕ
 count_like ballots n ballot = count_below (λ s. is_like ballot (held ballots s)) n
 
--- how many of n replicas gave the like of what that one gave
+-- how many of n replicas gave the same reply as the sender
 abbrev pub count_alike : Ballots → ℕ → ℕ → ℕ
 count_alike ballots n sender = option_map_or (count_like ballots n) (held ballots sender) 0
 
@@ -124,23 +124,24 @@ count_alike ballots n sender = option_map_or (count_like ballots n) (held ballot
 abbrev pub count_held : Ballots → ℕ → ℕ
 count_held ballots n = count_below (λ s. is_some (held ballots s)) n
 
--- ---- what a reply leads to: nothing, an ordered request, or an acceptance
+-- ---- consequences of a reply: nothing, an ordered request, or an acceptance
 
 pub data Turn : Type 0 where
   waits : Turn
   asks_ordered : Turn
   accepts_it : Turn
 
--- A quorum alike ends a call. One that was not asked for in its order is asked for so once all replicas answered it.
+-- Equal replies of a quorum end a call. If no request went ordered, an ordered one follows once all replicas answered
+-- the read.
 abbrev pub turn_of : ℕ → CallState → Mode → ℕ → Turn
 turn_of faults call mode sender =
     if nat_le (2 * faults + 1) (count_alike (ballots_of mode call) (3 * faults + 1) sender) then accepts_it
     else if not call.ordered && nat_le (3 * faults + 1) (count_held call.read_ballots (3 * faults + 1))
     then asks_ordered else waits
 
--- ---- what entries change
+-- ---- changes by entries
 
--- a call that no reply came to, and whose request was not sent
+-- a call without replies, whose request was not sent
 abbrev pub new_call : Operation → CallState
 new_call op = record { op = op; ordered = false; ordered_ballots = []; read_ballots = [] }
 

@@ -1,4 +1,4 @@
--- What an event does to what fits.
+-- Events keep the fit of state and history.
 use Rattle.std.specs.Prelude.{◌≡◌, ℕ, suc, ◌+◌, false, List, [], ◌∷◌, map, Option, Some, is_some}
 use Rattle.terms.specs.declared.order.Mode.{Mode}
 use Rattle.terms.specs.declared.order.Mode.TheVariants as modes
@@ -27,75 +27,75 @@ abbrev pub input_of : ℕ → Event → Entry
 input_of me (events.Got bytes) = Got me bytes.now
 input_of me events.Retry = Tick me
 
--- whatever history fits, behind the event the longer one does
+-- if a history fits before the event, the longer one fits after it
 abbrev pub Leads : ClientState → Entry → List Output → ClientState → Type 0
 Leads old input outs new =
     (c : Configuration) (history : List Entry) → Fits c old history
     → Fits c new (after_event (me_of old) input outs history)
 
--- a call leads to what it gives
+-- a call leads from the old state to the new one, with these outputs
 abbrev pub CallLeads : {A : Type 0} → ClientState → Op A → List Output → ClientState → Type 0
 CallLeads old op outs new =
     Leads old (Invoke old.number (suc old.calls) (operation_of op)) outs new
 
--- a call for which nothing is given counts as made, where none was open
+-- if no call was open, a call without outputs counts as made
 abbrev pub CallStops : {A : Type 0} → ClientState → Op A → ClientState → Type 0
 CallStops old op new = is_some old.call ≡ false → CallLeads old op [] new
 
--- an event leads to what the step gives
+-- an event leads from the old state to the new one, with these outputs
 abbrev pub EventLeads : ClientState → Event → List Output → ClientState → Type 0
 EventLeads old event outs new = Leads old (input_of (me_of old) event) outs new
 
--- In each configuration of the client's members, each frame that it sends goes exactly to the parties for whom it is: a
+-- In each configuration of the client's members, each frame that the client sends goes exactly to its receivers: a
 -- request to all replicas.
 abbrev pub SendsAsMeant : ClientState → List Output → Type 0
 SendsAsMeant client outs =
     (c : Configuration) → members c ≡ client.membership → AreSentAsMeant c (me_of client) outs
 
--- ---- of private functions
+-- ---- for private functions
 
--- bytes that come lead to what is given
+-- bytes lead from the old state to the new one, with these outputs
 abbrev pub BytesLead : ClientState → List ℕ → List Output → ClientState → Type 0
 BytesLead old bytes outs new = Leads old (Got (me_of old) bytes) outs new
 
--- and so does the time to send again
+-- a retry leads from the old state to the new one, with these outputs
 abbrev pub RetryLeads : ClientState → List Output → ClientState → Type 0
 RetryLeads old outs new = Leads old (Tick (me_of old)) outs new
 
--- what a reply leads to, as the definition has it
+-- the reaction of the definitions to a reply
 abbrev pub reaction_of : ℕ → CallState → Turned → Reaction
 reaction_of timestamp call turned.Nothing = nothing
 reaction_of timestamp call turned.Ask = asks modes.Ordered (record { timestamp = timestamp; op = call.op })
 reaction_of timestamp call (turned.Accept answer) = accepts timestamp (outcome_of answer)
 
--- what bytes do to the open call, and what they are to be answered with
+-- the open call after these bytes, and the reaction to them
 abbrev pub Weighs : Membership → ℕ → ℕ → CallState → List ℕ → CallState → Reaction → Type 0
 Weighs m me timestamp old bytes new given =
     (c : Configuration) (history : List Entry) → members c ≡ m → Holds c me history timestamp (Some old)
     → Holds c me (Got me bytes ∷ history) timestamp (Some new) × (reaction c me (Got me bytes ∷ history) ≡ given)
 
--- the same of the client of this number, as the program has it
+-- the same, of the client with this number, for Rust values
 abbrev pub TurnsTo :
     Membership → ClientId → Timestamp → CallState → List ℕ → CallState → Turned → Type 0
 TurnsTo m client timestamp old bytes new turned =
     Weighs m (256 + client.number) timestamp.0 old bytes new
     (reaction_of timestamp.0 new turned)
 
--- the client changes no more than its call
+-- the client changes only its call
 pub record Becomes (old new : ClientState) (call : Option CallState) : Type 0 where
   pub number : new.number ≡ old.number
   pub membership : new.membership ≡ old.membership
   pub calls : new.calls ≡ old.calls
   pub call_is : new.call ≡ call
 
--- the same, whatever the call, but whether it is open
+-- the client may change its call, but not whether one is open
 pub record Keeps (old new : ClientState) : Type 0 where
   pub number : new.number ≡ old.number
   pub membership : new.membership ≡ old.membership
   pub calls : new.calls ≡ old.calls
   pub is_open : is_some new.call ≡ is_some old.call
 
--- the client gives a request of its open call, and changes no more than that it went
+-- the client sends a request of its open call, and changes nothing but that it went
 pub record Asks (old : ClientState) (mode : Mode) (outs : List Output) (new : ClientState) : Type 0 where
   pub text : List ℕ
   pub call : CallState

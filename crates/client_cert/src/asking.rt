@@ -1,4 +1,4 @@
-//! What a client asks with.
+//! The requests of a client.
 
 ghost use Rattle.std.specs.Prelude.{◌≡◌, ◌≤◌, IfOk, map};
 ghost use Rattle.std.specs.List.{range_with_len};
@@ -15,7 +15,7 @@ use terms::{ClientId, Mode, Party, ReplicaId, Timestamp};
 use tuple_codec::Op;
 use wire::{Body, Message, Request};
 
-/// The operation, which comes back, and the bytes of its request, sealed for all replicas.
+/// Gives the operation back, and the bytes of its request, sealed for all replicas.
 pub(crate) fn seal_request(
     ring: &mut Ring,
     alloc: Global,
@@ -92,7 +92,7 @@ fn note_timestamp(timestamp: Timestamp) -> u64
     timestamp.0
 }
 
-/// The mode in which an operation is asked for first: a read at once from the executed state, any other in its place in
+/// The mode of the first request for an operation: a read at once from the executed state, any other in its place in
 /// the order.
 pub(crate) fn first_mode(op: &Op<Global>) -> Mode
     ensures { result ≡ first_mode (operation_of op.now) }

@@ -9,7 +9,8 @@ use std::alloc::Global;
 use std::marker::Model;
 use terms::Number;
 
-/// A replica's reply, as it is compared with others: the number of its state, and the bytes of its answer.
+/// A replica's reply, in the form in which replies are compared: the number of its state, and the bytes of its
+/// answer.
 #[derive(Drop)]
 pub(crate) struct Ballot {
     number: Number,
@@ -33,7 +34,7 @@ impl Ballot {
         Ballot { number, text }
     }
 
-    // Whether the other is alike in number and answer.
+    // Whether both have the same number and answer.
     fn is_like(&self, other: &Ballot) -> bool
         ensures { result ≡ is_like self.now (Some other.now) }
     {
@@ -66,7 +67,7 @@ impl Ballots {
         }
     }
 
-    /// Keeps a reply in place of that replica's earlier one.
+    /// Keeps a reply, in place of that replica's earlier one.
     pub(crate) fn note(&mut self, sender: u16, ballot: Ballot) -> Result<(), Stop>
         ensures added { OnOk result (Adds self.old sender ballot self.new) }
     {
@@ -76,7 +77,7 @@ impl Ballots {
         }
     }
 
-    /// How many of so many replicas have a reply here.
+    /// How many of the first `replicas` replicas have a reply here.
     pub(crate) fn count(&self, replicas: u16) -> u16
         ensures { result ≡ count_held self.now replicas }
     {
@@ -95,7 +96,7 @@ impl Ballots {
         self.cast.get(&replica).is_some()
     }
 
-    /// How many of so many replicas gave the like of the sender's reply.
+    /// How many of the first `replicas` replicas gave the same reply as the sender.
     pub(crate) fn count_alike(&self, replicas: u16, sender: u16) -> u16
         ensures { result ≡ count_alike self.now replicas sender }
     {
@@ -105,7 +106,7 @@ impl Ballots {
         }
     }
 
-    // How many of so many replicas gave the like of this reply.
+    // How many of the first `replicas` replicas gave this reply.
     fn count_like(&self, replicas: u16, ballot: &Ballot) -> u16
         ensures { result ≡ count_like self.now replicas ballot.now }
     {

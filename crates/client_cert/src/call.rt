@@ -17,7 +17,7 @@ use std::marker::Model;
 use terms::{ClientId, Mode, Timestamp};
 use tuple_codec::Op;
 
-/// What a reply leads to.
+/// The consequence of a reply.
 #[derive(Clone, Copy, Drop)]
 pub(crate) enum Next {
     Wait,
@@ -29,7 +29,7 @@ pub(crate) enum Next {
 #[derive(Drop)]
 pub(crate) struct Call {
     op: Op<Global>,
-    /// Whether its request was sent ordered.
+    /// Whether a request for it was sent ordered.
     ordered: bool,
     ordered_ballots: Ballots,
     read_ballots: Ballots,
@@ -64,7 +64,7 @@ impl Call {
         }
     }
 
-    /// Keeps a reply in place of that replica's earlier one of the mode.
+    /// Keeps a reply, in place of that replica's earlier one in this mode.
     pub(crate) fn note(&mut self, sender: u16, mode: Mode, ballot: Ballot) -> Result<(), Stop>
         ensures taken { OnOk result (Takes self.old mode sender ballot self.new) }
     {
@@ -74,7 +74,7 @@ impl Call {
         }
     }
 
-    /// What the newest reply, the sender's of this mode, leads to.
+    /// The consequence of the newest reply, that of the sender in this mode.
     pub(crate) fn next(&self, faults: u8, mode: Mode, sender: u16) -> Next
         requires few { faults ≤ 3 }
         ensures turn { turn_is result (turn_of faults self.now mode sender) }
@@ -109,8 +109,7 @@ pub(crate) fn is_ordered(mode: Mode) -> bool
     }
 }
 
-/// The call, which comes back, and its request, sealed for all replicas. At an error the call is as it was, but that it
-/// counts as sent.
+/// Gives the call back, and its request, sealed for all replicas. After an error the call only counts as sent.
 pub(crate) fn request(
     ring: &mut Ring,
     alloc: Global,

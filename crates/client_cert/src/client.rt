@@ -22,15 +22,15 @@ use terms::{ClientId, Mode, Timestamp};
 use thiserror::Error;
 use tuple_codec::Op;
 
-/// How many calls a client makes at the most.
+/// Most calls of a client.
 const MAX_CALLS: u64 = 1 << 62;
 
-/// What a client takes.
+/// An input of a client.
 #[derive(Drop)]
 pub enum Event<'a> {
     /// These bytes came.
     Got(&'a [u8]),
-    /// The open call's request is to go again.
+    /// Time went by: the open call's request is to go again.
     Retry,
 }
 
@@ -43,7 +43,7 @@ pub enum InvokeFault {
     /// The client had stopped, or has no timestamp left.
     #[error("stopped")]
     Stopped,
-    /// There was no room for the request, and the client stopped.
+    /// There was no memory for the request, and the client stopped.
     #[error("out of memory")]
     NoMemory,
 }
@@ -120,8 +120,8 @@ impl Client {
     ///
     /// # Errors
     ///
-    /// The first that applies. Busy comes exactly where a call is open, and changes nothing. Stopped comes where the
-    /// client had stopped, or made 2^62 calls, and NoMemory where there is no room for the request. At both the call
+    /// The first that applies. Busy comes exactly if a call is open, and changes nothing. Stopped comes if the client
+    /// had stopped, or made 2^62 calls, and NoMemory if there is no memory for the request. After either the call
     /// counts as made: it is open, and the client has stopped.
     #[tactic(auto, using(crate::proofs::Calling::call_leads, crate::proofs::Calling::call_ends, crate::proofs::Calling::call_fails))]
     pub fn invoke(&mut self, alloc: Global, op: Op<Global>) -> Result<Outputs, InvokeFault>
@@ -136,7 +136,7 @@ impl Client {
         ensures number { self.new.number ≡ self.old.number }
     {
         if self.call.is_some() {
-            // By a call, for the same reason as in `put`.
+            // Dropped by a call, for the same reason as in `put`.
             drop(op);
             return Err(InvokeFault::Busy);
         }
@@ -158,7 +158,7 @@ impl Client {
         }
     }
 
-    // A call begins.
+    // Begins a call.
     fn begin(&mut self, alloc: Global, op: Op<Global>)
         requires none { is_some self.old.call ≡ false }
         requires room { self.old.calls < 2 ^ 62 }
@@ -168,12 +168,12 @@ impl Client {
         put(&mut self.call, Some(Call::new(alloc, op)));
     }
 
-    /// What the client gives for its next input.
+    /// The outputs of the client for its next input.
     ///
     /// # Errors
     ///
-    /// NoMemory where memory runs out, with which the client stops, and Stopped exactly where it had stopped before.
-    /// Both come only if a call is open.
+    /// NoMemory if memory runs out, and then the client stops. Stopped exactly if it had stopped before. Both come
+    /// only if a call is open.
     #[tactic(auto, using(crate::proofs::Stepping::stops_got, crate::proofs::Stepping::stops_tick))]
     pub fn step(&mut self, alloc: Global, event: Event<'_>) -> Result<Outputs, Stop>
         ensures leads { IfOk result (λ outs. EventLeads self.old event.entry outs.items self.new) }
@@ -244,7 +244,7 @@ impl Client {
         }
     }
 
-    // The open call's request, if there is one, of a client that goes on.
+    // The open call's request, if there is one, of a client that hasn't stopped.
     #[tactic(auto, using(crate::proofs::Calling::retry_none_leads, crate::proofs::Calling::retry_leads))]
     fn retry(&mut self, alloc: Global) -> Result<Outputs, Stop>
         requires { self.old.stopped ≡ false }
@@ -288,8 +288,8 @@ impl Client {
     }
 }
 
-// Puts this in the place of the open call. What stood there is dropped here alone, since a function has steps for each
-// kind of operation wherever it drops a call.
+// Replaces the open call. The old one is dropped only here: wherever a function drops a call, its proof has steps for
+// each kind of operation.
 fn put(place: &mut Option<Call>, call: Option<Call>)
     ensures { place.new ≡ call }
 {

@@ -1,4 +1,4 @@
-//! What a client hears.
+//! The replies that a client hears.
 
 ghost use Rattle.std.specs.Prelude.{◌≡◌, ◌+◌, ◌==◌, ◌≤◌, IfOk, slice_index};
 ghost use Rattle.client_cert.specs.Steps.{TurnsTo};
@@ -23,7 +23,7 @@ pub(crate) struct Heard {
     pub(crate) answer: Answer<Global>,
 }
 
-/// What bytes lead to.
+/// The consequence of bytes.
 #[derive(Drop)]
 pub(crate) enum Turned {
     Nothing,
@@ -31,7 +31,7 @@ pub(crate) enum Turned {
     Accept(Answer<Global>),
 }
 
-/// Weighs bytes that came against the open call.
+/// Counts the bytes as a reply to the open call, if they are one, and tells the consequence.
 pub(crate) fn weigh(
     ring: &mut Ring,
     publics: &PublicKeys,
@@ -68,8 +68,8 @@ pub(crate) fn weigh(
     }
 }
 
-// The reply to the client's call of this timestamp that the bytes are, if they are one. The type is tested first: what
-// is no reply is not looked at.
+// The reply to the client's call of this timestamp that the bytes spell, if they do. The type is tested first: other
+// frames are not opened.
 fn hear_reply(
     ring: &mut Ring,
     publics: &PublicKeys,
@@ -111,7 +111,7 @@ fn has_reply_type(bytes: &[u8]) -> bool
     }
 }
 
-// The frame that the client hears from the bytes, if it hears one.
+// The frame that the client hears from the bytes, if any.
 fn hear_frame(
     ring: &mut Ring,
     publics: &PublicKeys,
@@ -135,7 +135,7 @@ fn hear_frame(
     }
 }
 
-// The reply, if it is to the client's call of this timestamp.
+// The reply, if it answers the client's call of this timestamp.
 fn reply_to(client: ClientId, timestamp: Timestamp, sender: u16, reply: Reply) -> Option<Heard>
     ensures { Answers (256 + client.number) timestamp.0 sender reply result }
 {

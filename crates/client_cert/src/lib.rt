@@ -1,30 +1,36 @@
 //! A client of the replicated space, over frames (Castro and Liskov, TOCS 2002, on the client and on read-only
 //! operations).
 //!
-//! All replicas are asked, for a read first by a read-only request. An answer is accepted at the reply that makes the
-//! latest ones of a quorum, `2f + 1` replicas, alike in mode, in answer and in the number of the state. Where each
-//! replica has answered a read and no quorum alike, it falls back to an ordered request of the same timestamp; so does
-//! each open call at [`Event::Retry`].
+//! A client asks all replicas, for a read first by a read-only request. It accepts an answer once the latest replies
+//! of a quorum, `2f + 1` replicas, agree in mode, in answer and in the number of the state. If each replica has
+//! answered a read and no quorum agrees, the client falls back to an ordered request of the same timestamp. Each open
+//! call does so at [`Event::Retry`].
 //!
 //! # What is proved
 //!
-//! Whatever history fits a client, the longer one behind an event fits it afterwards: [`Client::new`] fits the empty
-//! history, [`Client::invoke`] and [`Client::step`] hand it on, by what they give and also where they refuse; a history
-//! that fits is a correct client's (`IsClient`). A call while one is open is refused and changes nothing. Where memory
-//! runs out the client has stopped: it gives nothing, then and later. Frames that are no replies are not looked at.
-//! Each request goes exactly to the parties for whom it is, which are all replicas.
+//! If a history fits a client before an event, the longer history fits it after the event. [`Client::new`] fits the
+//! empty history, and [`Client::invoke`] and [`Client::step`] keep the fit, also when they refuse. Each history that
+//! fits is a correct client's (`IsClient`). A call while another is open is refused and changes nothing. If memory
+//! runs out, the client has stopped: it gives nothing, then and later. The client opens no frames but replies. Each
+//! request goes exactly to all replicas.
 //!
-//! # What a reply costs
+//! # The cost of a reply
 //!
-//! Its frame is opened once, and its answer encoded once, into the bytes that are kept. These are compared with the
-//! latest reply of each replica, where the numbers agree. A reply to an earlier call, or to another client, is opened
-//! and let go.
+//! The client opens its frame once, and encodes its answer once, into the bytes that it keeps. It compares these with
+//! the latest reply of each replica if the numbers agree. A reply to an earlier call, or to another client, is opened
+//! and dropped.
 //!
-//! # What strangers can make it keep
+//! # Memory that strangers can take
 //!
-//! Keys of its [`Ring`](authenticator::Ring), which bounds them, and nothing else of frames without a replica's MAC. Of
-//! replies it keeps the latest of each replica and mode, while the call is open: at most `2 (3f + 1)` answers, of at
-//! most 65,538 bytes each.
+//! Only the keys of its [`Ring`](authenticator::Ring), which bounds them; the client keeps nothing of frames without
+//! a replica's MAC. Of replies it keeps the latest of each replica and mode, while the call is open: at most `2 (3f +
+//! 1)` answers, of at most 65,538 bytes each.
+//!
+//! # How it is made
+//!
+//! - The latest replies of each mode lie in a map of their own, in order of arrival.
+//! - Four functions decide what the definition's `reaction` asks for: `first_mode`, `Call::next`, `Ballot::is_like` and
+//!   `retry`. `proofs/Turning.antt` proves that their turn (`turn_of`) is the definition's.
 #![tactic(auto)]
 
 mod asking;

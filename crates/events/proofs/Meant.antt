@@ -1,4 +1,4 @@
--- For whom the frames are that a party posts.
+-- The receivers of the frames that a party sends.
 use Rattle.std.proofs.Common.{◌≡◌, ◌≢◌, ℕ, zero, suc, ◌+◌, ◌-◌, ◌<◌, ◌≤◌, Bool, not, cond, List, [], ◌∷◌, ◌++◌, filter, length, Some, refl, sym, ap, ◌∙◌, arith}
 use Rattle.std.specs.Prelude.{◌==◌}
 use Rattle.std.specs.List.{range_with_len}
@@ -60,9 +60,9 @@ without me start (suc k) n (suc total) e t =
 others_are : (c : Configuration) (me : ℕ) → me < replicas c → others c me ≡ range_with_len 0 me ++ range_with_len (suc me) (replicas c - suc me)
 others_are c me l = without me 0 me (replicas c - suc me) (replicas c) (omega arith) (omega arith)
 
--- ---- what is posted
+-- ---- outgoing frames
 
--- the frame that the bytes of a post spell
+-- the frame that the bytes of an outgoing frame spell
 posted_frame : (c : Configuration) (me : ℕ) (message : Message) (parties bytes : List ℕ) → IsPosted c me message parties bytes
     → (frame : Frame) × SpellsFrame bytes frame × (receivers_in c me bytes ≡ meant_for c me frame.authenticator) × (receivers_of frame.authenticator ≡ parties)
 posted_frame c me message parties bytes posted =

@@ -1,4 +1,4 @@
--- The test of a configuration. The contracts of private functions speak of it.
+-- The test of a configuration. The contracts of private functions use it.
 use Rattle.std.specs.Prelude.{ℕ, Bool, true, ◌&&◌, not, List, [], ◌∷◌, length, nat_le, nat_lt}
 use Rattle.quorum.specs.Quorum.{member}
 use Rattle.protocol.specs.System.Configuration.{Configuration, replicas}
@@ -12,7 +12,7 @@ each_once bound (x ∷ xs) = (nat_lt x bound && not (member xs x)) && each_once 
 abbrev pub is_within : ℕ → ℕ → Bool
 is_within most n = nat_le 1 n && nat_le n most
 
--- the configuration is valid, its seed apart
+-- the configuration is valid, except perhaps for its seed
 abbrev pub is_configuration : Configuration → Bool
 is_configuration c =
     ((((is_within 3 c.faults && is_within 256 c.clients) && is_within 16 c.period)

@@ -1,4 +1,4 @@
--- Codes of entries, by which a proof tells them apart.
+-- Codes of entries, by which a proof distinguishes them.
 use Rattle.std.specs.Prelude.{◌≡◌, ◌⊎◌, ℕ, List, refl}
 use Rattle.std.specs.Coded.{Coded, code_by, coded_list, coded⊎, coded×, coded_ℕ}
 use Rattle.std.proofs.Common.{inl, inr}

@@ -1,4 +1,4 @@
--- What a configuration of the program stands for.
+-- The model of the program's configuration.
 use Rattle.std.specs.Prelude.{◌≡◌, ℕ, List, Result, IfOk, IsOk, Vec}
 use Rattle.std.specs.declared.alloc.Global.{Global}
 use Rattle.protocol.specs.System.Configuration.{Configuration, IsConfiguration}
@@ -21,13 +21,13 @@ config_data c =
     configuration_of c.faults c.clients c.seed c.period c.faulty_replicas.items
     c.faulty_clients.items
 
--- what is made of these is their configuration
+-- the program makes the configuration of these numbers
 abbrev pub MakesConfig :
     ℕ → ℕ → List ℕ → ℕ → Vec ℕ Global → Vec ℕ Global → Result Configuration BadConfig → Type 0
 MakesConfig faults clients seed period replicas named result =
     IfOk result (λ c. c ≡ configuration_of faults clients seed period replicas.items named.items)
 
--- one is made where it is valid
+-- the program makes one if it is valid
 abbrev pub MakesValid :
     ℕ → ℕ → List ℕ → ℕ → Vec ℕ Global → Vec ℕ Global → Result Configuration BadConfig → Type 0
 MakesValid faults clients seed period replicas named result =

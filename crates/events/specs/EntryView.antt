@@ -1,4 +1,4 @@
--- What an entry of the program stands for.
+-- The model of the program's entries.
 use Rattle.terms.specs.Parties.{party_number}
 use Rattle.tuple_codec.specs.OperationView.{operation_of, outcome_of}
 use Rattle.protocol.specs.System.Trace.{Entry}

@@ -1,4 +1,4 @@
--- The outputs of a step as entries, how an event lengthens a history, and to whom its frames go.
+-- The outputs of a step as entries, how an event extends a history, and to whom its frames go.
 use Rattle.std.specs.Prelude.{◌≡◌, ℕ, ◌-◌, List, [], ◌∷◌, map, ⊤}
 use Rattle.std.specs.Option.{option_map_or}
 use Rattle.terms.specs.Parties.{party_number}
@@ -19,14 +19,14 @@ entry_of me (outputs.Installed number root) = Installed me number.0 root
 entry_of me (outputs.Send receivers frame) = Sent me frame.items
 entry_of me (outputs.Accepted timestamp answer) = Accepted (me - 256) timestamp.0 (outcome_of answer)
 
--- the history behind a list of entries, the oldest first
-abbrev pub behind : List Entry → List Entry → List Entry
-behind [] history = history
-behind (e ∷ entries) history = behind entries (e ∷ history)
+-- the history after a list of entries, the oldest first
+abbrev pub after_entries : List Entry → List Entry → List Entry
+after_entries [] history = history
+after_entries (e ∷ entries) history = after_entries entries (e ∷ history)
 
--- the history behind an event: its input, and its outputs, the oldest first
+-- the history after an event: its input, and its outputs, the oldest first
 abbrev pub after_event : ℕ → Entry → List Output → List Entry → List Entry
-after_event me input outs history = behind (map (entry_of me) outs) (input ∷ history)
+after_event me input outs history = after_entries (map (entry_of me) outs) (input ∷ history)
 
 -- ---- to whom frames go
 

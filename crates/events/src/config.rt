@@ -12,14 +12,14 @@ use std::marker::Model;
 use terms::FIRST_CLIENT;
 use thiserror::Error;
 
-/// Numbers that make no configuration.
+/// Numbers that make no valid configuration.
 #[derive(Clone, Copy, Debug, PartialEq, Eq, Error)]
 #[error("the configuration is out of range")]
 pub struct BadConfig;
 
-/// How many replicas may be faulty, which parties are, and what all are given (Castro and Liskov, TOCS 2002, on the
-/// system model). It is valid: 1 to 3 faults, 1 to 256 clients, a checkpoint each 1 to 16 batches, at most so many
-/// faulty replicas as there are faults, and no party is named twice or is none.
+/// How many replicas may be faulty, which parties are, and the values that all parties share (Castro and Liskov, TOCS
+/// 2002, on the system model). It is valid: 1 to 3 faults, 1 to 256 clients, a checkpoint every 1 to 16 batches, at
+/// most as many faulty replicas as faults, and no party is named twice or does not exist.
 #[derive(Drop)]
 pub struct Config {
     faults: u8,
@@ -42,11 +42,11 @@ impl Model for Config {
 }
 
 impl Config {
-    /// The configuration of these.
+    /// The configuration of these numbers.
     ///
     /// # Errors
     ///
-    /// [`BadConfig`] exactly where it would not be valid.
+    /// [`BadConfig`] exactly if it would not be valid.
     pub fn new(
         faults: u8,
         clients: u16,
@@ -101,14 +101,14 @@ impl Config {
         self.clients
     }
 
-    /// From which all keys are derived.
+    /// The seed of all keys.
     pub fn seed(&self) -> &[u8; 32]
         ensures value { result.now ≡ self.now.seed }
     {
         &self.seed
     }
 
-    /// How many batches lie from one checkpoint to the next, 1 to 16.
+    /// The number of batches from one checkpoint to the next, 1 to 16.
     pub fn period(&self) -> u8
         ensures value { result ≡ self.now.period }
         ensures valid { IsConfiguration self.now }
@@ -116,14 +116,14 @@ impl Config {
         self.period
     }
 
-    /// Whether the party of this number is a replica that is not named as faulty.
+    /// Whether the number is that of a replica that is not named as faulty.
     pub fn is_correct_replica(&self, party: u16) -> bool
         ensures value { result ≡ is_correct_replica self.now party }
     {
         party < 3 * u16::from(self.faults) + 1 && !has(self.faulty_replicas.as_slice(), party)
     }
 
-    /// Whether the party of this number is a client that is not named as faulty.
+    /// Whether the number is that of a client that is not named as faulty.
     pub fn is_correct_client(&self, party: u16) -> bool
         ensures value { result ≡ is_correct_client self.now party }
     {
@@ -164,7 +164,7 @@ fn is_within(number: u16, most: u16) -> bool
     number >= 1 && number <= most
 }
 
-// Whether the numbers are below the bound and differ. It looks no deeper into the list than that many numbers.
+// Whether the numbers are below the bound and differ. It reads at most so many numbers of the list as the bound.
 fn names_each_once(list: &[u16], bound: u16) -> bool
     ensures { result ≡ each_once bound list.now }
 {

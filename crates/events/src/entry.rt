@@ -13,9 +13,9 @@ use tuple_codec::{Answer, Op};
 pub enum EntryKind {
     /// A client calls an operation.
     Invoke(ClientId, Timestamp, Op<Global>),
-    /// These bytes came to the party.
+    /// The party received these bytes.
     Got(Party, Vec<u8>),
-    /// The party was told that time went by.
+    /// A timeout of the party.
     Tick(Party),
     /// A replica executed the batch of this text at the number.
     Executed(ReplicaId, Number, Vec<u8>),
@@ -46,14 +46,14 @@ impl Model for Entry {
 }
 
 impl Entry {
-    /// The entry that says this.
+    /// An entry of this kind.
     pub fn new(kind: EntryKind) -> Entry
         ensures says { result ≡ entry_of_kind kind }
     {
         Entry { kind }
     }
 
-    /// What it says.
+    /// The kind of the entry.
     pub fn kind(&self) -> &EntryKind
         ensures says { entry_of_kind result.now ≡ self.now }
     {

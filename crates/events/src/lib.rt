@@ -1,11 +1,17 @@
-//! What the parties of the replicated space share: the configuration, the entries of traces, and what a step gives.
+//! What the parties of the replicated space share: the configuration, the entries of traces, and the outputs of a step.
 //!
 //! # What is proved
 //!
-//! [`Config::new`] makes exactly the valid configurations, and its readers answer what the definitions ask of a
-//! configuration. An [`Entry`] is the protocol's entry, and an [`Output`] of a party is the entry that it puts into the
-//! party's history. An entry drops to whom a frame goes; `AreSentAsMeant` says that each frame goes exactly to the
-//! parties for whom it is: those with a MAC in it, or all replicas but the sender of a signed one.
+//! [`Config::new`] makes exactly the valid configurations, and its methods answer as the definitions of a
+//! configuration. An [`Entry`] is the protocol's entry, and an [`Output`] of a party is the entry that it adds to the
+//! party's history. An entry does not tell to whom a frame goes; `AreSentAsMeant` says that each frame goes exactly to
+//! the parties for whom it is: those with a MAC in it, or all replicas but the sender of a signed one.
+//!
+//! # How it is made
+//!
+//! - Each call that gives outputs promises `AreSentAsMeant` of them. A frame's bytes say for whom it is: `meant_for` of
+//!   the protocol.
+//! - `entry_of` is the entry for which an output stands (`specs/Outputs.antt`).
 #![tactic(auto)]
 
 mod config;

@@ -1,4 +1,4 @@
-//! What a step gives.
+//! The outputs of a step.
 
 ghost use Rattle.std.specs.Prelude.{◌≡◌, ◌++◌, ◌∷◌, [], OnOk, IfErr};
 
@@ -7,14 +7,14 @@ use terms::{Digest, NoMemory, Number, Party, Timestamp};
 use thiserror::Error;
 use tuple_codec::Answer;
 
-/// What a step gives, one thing after another.
+/// An output of a step.
 #[derive(Drop)]
 pub enum Output {
     /// A replica executed the batch of this text at the number.
     Executed(Number, Vec<u8>),
     /// A replica installed the state of this number and root.
     Installed(Number, Digest),
-    /// The bytes of a frame, and whom they are for.
+    /// The bytes of a frame, and its receivers.
     Send(Vec<Party>, Vec<u8>),
     /// A client accepted the answer to its call of this timestamp.
     Accepted(Timestamp, Answer<Global>),
@@ -23,10 +23,10 @@ pub enum Output {
 /// The outputs of one step, in order.
 pub type Outputs = Vec<Output>;
 
-/// Why a step gave nothing.
+/// Why a step has no outputs.
 #[derive(Clone, Copy, Debug, PartialEq, Eq, Error)]
 pub enum Stop {
-    /// There was no room for the step, and the party stopped.
+    /// Memory ran out in the step, and the party stopped.
     #[error("out of memory")]
     NoMemory,
     /// The party had stopped before.
@@ -67,7 +67,7 @@ impl From<NoMemory> for Stop {
     }
 }
 
-/// Adds an output behind the others.
+/// Appends an output.
 pub fn give(outputs: &mut Outputs, output: Output) -> Result<(), Stop>
     ensures given { OnOk result (outputs.new.items ≡ outputs.old.items ++ output ∷ []) }
     ensures memory { IfErr result (λ stop. stop ≡ Stop.NoMemory) }

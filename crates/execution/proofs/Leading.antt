@@ -1,4 +1,4 @@
--- What frames run.
+-- The requests that frames run.
 use Rattle.std.proofs.Common.{◌≡◌, ℕ, suc, ◌+◌, ◌≤◌, ◌<◌, List, [], ◌++◌, map, drop, get_or, length, Bor, sym, ap, ◌∙◌, subst, append-nil, append_assoc, drop-cons, add-one}
 use Rattle.std.specs.Prelude.{fold}
 use Rattle.std.proofs.lemmas.List.{map-append}
@@ -20,7 +20,7 @@ use Rattle.execution.specs.Touching.{RepliesState, Changes}
 abbrev pub texts : List (Bor (List ℕ)) → List (List ℕ)
 texts xs = map (λ f. f.now) xs
 
--- What is left to run leads to where all of it leads.
+-- Running the rest leads to the end of the whole.
 pub record Left (clients number : ℕ) (xs : List (Bor (List ℕ))) (x y : SoFar) (i : ℕ) : Type 0 where
   pub states : (c : Configuration) (n : ℕ) → c.clients ≡ clients
       → fold (run_frame c number) (state_of n x) (texts xs) ≡ fold (run_frame c number) (state_of n y) (texts (drop i xs))
@@ -71,7 +71,7 @@ executes old new number batch frames x y was none same next is run = λ c e.
           ∙ ap (λ (s : State). map told_of (ran_in c (suc old.state.number) s (requests_of batch))) was;
     }
 
--- ---- what changes
+-- ---- changes
 
 pub changes_on : (w w' w'' : WatchedState) (r r' r'' : RepliesState) → Changes w r w' r' → Changes w' r' w'' r'' → Changes w r w'' r''
 changes_on w w' w'' r r' r'' one two = record {

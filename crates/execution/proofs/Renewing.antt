@@ -1,4 +1,4 @@
--- Pages that are renewed.
+-- The renewal of pages.
 use Rattle.std.proofs.Common.{◌≡◌, ◌≢◌, ℕ, zero, suc, ◌+◌, ◌-◌, ◌≤◌, ◌<◌, ◌⊎◌, inl, inr, Bool, true, false, List, [], ◌∷◌, ◌++◌, length, map, get_or, refl, sym, ap, ◌∙◌, subst, arith, ◌==◌, eqb-true}
 use Rattle.std.specs.Prelude.{nat_lt}
 use Rattle.std.specs.List.{All, range_with_len}
@@ -16,7 +16,7 @@ use Rattle.protocol.specs.Replica.State.{State, kept_of, page_text, all_pages, p
 use Rattle.execution.specs.Running.{state_with}
 use Rattle.execution.specs.Touching.{RepliesState, HasPages, AreRenewed, IsAmong, is_touched, is_page_touched}
 
--- ---- what is among pages
+-- ---- members of pages
 
 among_left : (i : ℕ) (ps : List Page) (p : Page) → IsAmong i ps → IsAmong i (ps ++ p ∷ [])
 among_left i [] p h = absurd h
@@ -149,7 +149,7 @@ has_none w r tree e spaces replies = record {
     go i true m = ap (λ xs. get_or xs i []) e ∙ get_or-replicate 1024 i [] [] (ltb-true i 1024 m)
     go i false m = let k = ltb-false i 1024 m in let long : length tree ≡ 1024 = ap length e ∙ empty_long in get_or_past tree i [] (omega arith)
 
--- ---- all pages that are touched are set
+-- ---- all touched pages are set
 
 tuples_touched : (w : WatchedState) (r : RepliesState) (i : ℕ) → i < 256 → is_page_touched w r i ≡ is_space_touched w i
 tuples_touched w r i l = rw (lt-ltb i 256 l) refl

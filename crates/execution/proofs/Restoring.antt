@@ -8,7 +8,7 @@ use Rattle.space.specs.Births.{SpaceState}
 use Rattle.space.specs.Pages.{ArePages as AreSpacePages, IsStateAt, header_text, texts_of}
 use Rattle.reply_cache.specs.Replies.{Replies}
 use Rattle.reply_cache.specs.Pages.{ArePages as AreReplyPages}
-use Rattle.protocol.specs.Replica.State.{State, IsState, page_text, all_pages, pages_of}
+use Rattle.protocol.specs.Replica.State.{State, IsReplicatedState, page_text, all_pages, pages_of}
 use Rattle.protocol.proofs.Words.Paging.{header_at}
 use Rattle.space.specs.Watching.{WatchedState}
 use Rattle.execution.specs.Running.{state_with}
@@ -18,7 +18,7 @@ use Rattle.execution.specs.Installing.{HasPagesAt, AreTexts, NoneBehind, NoneFal
 use Rattle.execution.proofs.Renewing.{has_all, all_of, page_there, tuples_at, replies_at, rest_at}
 use Rattle.execution.proofs.Measuring.{pages_determine}
 
--- ---- texts that are collected
+-- ---- collected texts
 
 -- the texts below an index are those of the pages from the first on
 pub record AreFilled (pages : List (List ℕ)) (first : ℕ) (texts : List (List ℕ)) (end : ℕ) : Type 0 where
@@ -40,7 +40,7 @@ filled_more pages first texts i x l e h = record {
     go j m (inl f) = subst (λ (k : ℕ). get_or (set (texts_of texts) i x.now) k [] ≡ get_or pages (first + k) []) (sym f) (get_or-set_same (texts_of texts) i x.now [] (let a = h.all in omega arith) ∙ e)
     go j m (inr d) = get_or-set_other (texts_of texts) i j x.now [] d ∙ h.each j (omega arith)
 
--- ---- what a state's pages are
+-- ---- the pages of a state
 
 page_is : (number : ℕ) (pages : List (List ℕ)) (st : State) → HasPagesAt number pages st → (i : ℕ) → i < 1024 → get_or pages i [] ≡ page_text st i
 page_is number pages st h i l = ap (λ ps. get_or ps i []) (sym h.pages) ∙ page_there st i l
@@ -68,7 +68,7 @@ reply_pages number pages texts st are h = record {
   each = λ i l. are.each i l ∙ page_is number pages st h (256 + i) (omega arith) ∙ replies_at st i l;
 }
 
--- ---- what pages are a state's
+-- ---- which pages are a state's
 
 pub has_pages : (number n : ℕ) (pages texts more : List (List ℕ)) (header : List ℕ) (s : SpaceState) (r : Replies) → length pages ≡ 1024 → NoneBehind pages
     → AreTexts pages 0 texts → header ≡ get_or pages 512 [] → AreSpacePages texts header s n → n ≡ number → AreTexts pages 256 more → AreReplyPages more r
@@ -108,19 +108,19 @@ has_pages number n pages texts more header s r long none are at space e ares rep
             subst (λ (j : ℕ). get_or pages j [] ≡ page_text st j) f (middle (i - 256) (omega arith))
         go false x false y = high i (ltb-false i 512 y) l (cases_eq i 512)
 
--- ---- the one state that pages are those of
+-- ---- the one state with given pages
 
 pub none_replaces : (old st : State) (number : ℕ) (pages : List (List ℕ)) → HasPagesAt number pages st → (NoneFalls old st → ⊥) → NoneReplaces old number pages
 none_replaces old st number pages h falls other has none = falls (subst (NoneFalls old) (pages_determine other st has.state h.state (has.pages ∙ sym h.pages)) none)
 
--- ---- what is kept of a state that was read
+-- ---- the invariant of a state that was read
 
 pub keeps_read : (number clients : ℕ) (pages : List (List ℕ)) (w : WatchedState) (r : RepliesState) (s : SpaceState) (q : Replies)
     → clients ≤ 256 → w.state ≡ s → r.replies ≡ q → HasPagesAt number pages (state_with number s q) → IsExecuted number clients pages w r
 keeps_read number clients pages w r s q few e f h =
     let same : state_with number s q ≡ state_with number w.state r.replies = rw (e, f) refl in
     record {
-      state = subst IsState same h.state;
+      state = subst IsReplicatedState same h.state;
       few = few;
       pages = has_all number w r pages (sym h.pages ∙ ap pages_of same);
     }

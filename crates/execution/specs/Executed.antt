@@ -1,5 +1,5 @@
--- A replica's executed state as plain data, and what executing a batch does to it (Castro and Liskov, TOCS 2002, on
--- normal-case operation).
+-- A replica's executed state as plain data, and how a batch changes it (Castro and Liskov, TOCS 2002, on normal-case
+-- operation).
 use Rattle.std.specs.Prelude.{◌≡◌, ℕ, suc, List, map, refl}
 use Rattle.std.specs.Coded.{Coded, code_by, coded×, coded_ℕ}
 use Rattle.tuple_codec.specs.OperationView.{outcome_of}
@@ -11,12 +11,12 @@ use Rattle.protocol.specs.System.Configuration.{Configuration}
 use Rattle.protocol.specs.Replica.State.{State, Ran as RanData, execute, ran_in}
 use Rattle.execution.specs.declared.running.Ran.{Ran}
 
--- the state, and how many clients there are
+-- the state, and the number of clients
 pub record ExecutedData : Type 0 where
   pub state : State
   pub clients : ℕ
 
--- A client, and what is kept for it of its request that ran: all that a reply to it says.
+-- A client, and the kept reply to its request that ran.
 abbrev pub told : Ran → ℕ × Kept
 told r = (r.client.number, record { timestamp = r.timestamp.0; number = r.number.0; outcome = outcome_of r.answer })
 
@@ -24,13 +24,13 @@ told r = (r.client.number, record { timestamp = r.timestamp.0; number = r.number
 abbrev pub told_of : RanData → ℕ × Kept
 told_of r = (r.call.client, r.kept)
 
--- The state after the batch is the definition's, and so is what is told of the requests that ran, in order.
+-- The state after the batch is the definition's, and so are the replies to the requests that ran, in order.
 pub record IsAfter (c : Configuration) (old : ExecutedData) (batch : List ℕ) (told : List (ℕ × Kept))
     (new : ExecutedData) : Type 0 where
   pub state : new.state ≡ execute c old.state batch
   pub ran : told ≡ map told_of (ran_in c (suc old.state.number) old.state (requests_of batch))
 
--- It is so in each configuration of so many clients.
+-- It is so in each configuration with so many clients.
 abbrev pub Executes : ExecutedData → List ℕ → List (ℕ × Kept) → ExecutedData → Type 0
 Executes old batch told new = (c : Configuration) → c.clients ≡ old.clients → IsAfter c old batch told new
 

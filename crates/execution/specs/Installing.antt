@@ -1,22 +1,22 @@
--- The state that pages are those of, and whether it may take another's place.
+-- The state that has given pages, and whether it may replace another.
 use Rattle.std.specs.Prelude.{◌≡◌, ℕ, ◌+◌, ◌≤◌, ◌<◌, List, [], length, slice_index_or}
-use Rattle.protocol.specs.Replica.State.{State, IsState, last_time, pages_of}
+use Rattle.protocol.specs.Replica.State.{State, IsReplicatedState, last_time, pages_of}
 
 -- The state has this number and these pages.
 pub record HasPagesAt (n : ℕ) (texts : List (List ℕ)) (st : State) : Type 0 where
-  pub state : IsState st
+  pub state : IsReplicatedState st
   pub number : st.number ≡ n
   pub pages : pages_of st ≡ texts
 
--- Of no client the last timestamp falls, so that no request that ran is new again.
+-- No client's last timestamp falls, so no executed request is new again.
 abbrev pub NoneFalls : State → State → Type 0
 NoneFalls old new = (client : ℕ) → last_time old client ≤ last_time new client
 
--- No state of this number with these pages may take the old one's place.
+-- No state of this number with these pages may replace the old one.
 abbrev pub NoneReplaces : State → ℕ → List (List ℕ) → Type 0
 NoneReplaces old number pages = (st : State) → HasPagesAt number pages st → NoneFalls old st → ⊥
 
--- ---- what the private functions speak of
+-- ---- words of private functions
 
 -- No state of this number has these pages.
 abbrev pub AreNoStates : ℕ → List (List ℕ) → Type 0
@@ -27,6 +27,6 @@ pub record AreTexts (pages : List (List ℕ)) (first : ℕ) (texts : List (List 
   pub all : length texts ≡ 256
   pub each : (i : ℕ) → i < 256 → slice_index_or texts i [] ≡ slice_index_or pages (first + i) []
 
--- The pages behind the header have no text.
+-- The pages after the header have no text.
 abbrev pub NoneBehind : List (List ℕ) → Type 0
 NoneBehind pages = (page : ℕ) → 512 < page → page < 1024 → slice_index_or pages page [] ≡ []

@@ -1,4 +1,4 @@
--- What the private functions that note and renew pages speak of: which pages may have changed.
+-- Words of the private functions that note and renew pages: which pages may have changed.
 use Rattle.std.specs.Prelude.{◌≡◌, ℕ, ◌+◌, ◌-◌, ◌<◌, ◌⊎◌, Bool, true, false, List, [], ◌∷◌, length, slice_index_or, nat_lt, if◌then◌else◌, All, refl}
 use Rattle.std.specs.Coded.{Coded, code_by, coded×, coded_list, coded_bool}
 use Rattle.space.specs.Births.{IsState as IsSpace}
@@ -23,13 +23,13 @@ replies_state_code =
 abbrev pub is_touched : RepliesState → ℕ → Bool
 is_touched r client = slice_index_or r.touched client false
 
--- A page that isn't touched afterwards wasn't before, and has the same text.
+-- A page that isn't touched afterwards wasn't touched before, and has the same text.
 abbrev pub TouchesReplies : RepliesState → RepliesState → Type 0
 TouchesReplies old new =
     (client : ℕ) → client < 256 → is_touched new client ≡ false
     → (is_touched old client ≡ false) × (reply_page new.replies client ≡ reply_page old.replies client)
 
--- What requests do to both: they touch what they change, and leave a space and replies.
+-- How requests change both: they touch what they change, and leave a space and replies.
 pub record Changes (w : WatchedState) (r : RepliesState) (w' : WatchedState) (r' : RepliesState) : Type 0 where
   pub space : TouchesChanges w w'
   pub replies : TouchesReplies r r'
@@ -38,7 +38,7 @@ pub record Changes (w : WatchedState) (r : RepliesState) (w' : WatchedState) (r'
 
 -- ---- the tree
 
--- It has the text of each page that isn't touched, but for the header.
+-- The tree has the text of each page that isn't touched, except for the header.
 pub record HasPages (tree : List (List ℕ)) (w : WatchedState) (r : RepliesState) : Type 0 where
   pub long : length tree ≡ 1024
   pub tuples : (page : ℕ) → page < 256 → is_space_touched w page ≡ false
@@ -64,6 +64,6 @@ pub record AreRenewed (st : State) (touched : ℕ → Bool) (pages : List Page) 
   pub texts : All (λ page. page.text.items ≡ page_text st page.index) pages
   pub among : (index : ℕ) → index < end → touched index ≡ true → IsAmong index pages
 
--- Where the pages before have those below an index, those afterwards have that of the index too.
+-- If the earlier pages have those below an index, the later ones have that of the index too.
 abbrev pub Renews : State → (ℕ → Bool) → ℕ → List Page → List Page → Type 0
 Renews st touched index old new = AreRenewed st touched old index → AreRenewed st touched new (index + 1)

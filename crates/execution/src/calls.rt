@@ -18,8 +18,7 @@ pub struct Call {
     pub op: Op<Global>,
 }
 
-/// The call that a frame spells, where it is an ordered request of one of so many clients. NoMemory where memory runs
-/// out.
+/// The call that a frame spells, if it is an ordered request of one of so many clients. NoMemory if memory runs out.
 pub fn read_call(alloc: Global, frame: &[u8], clients: u16) -> Result<Option<Call>, NoMemory>
     requires { IsFrame frame.now }
     ensures found { IfOk result (λ call. IsCallOf clients frame.now (option_map call_data call)) }

@@ -2,7 +2,7 @@
 
 ghost use Rattle.std.specs.Prelude.{◌≡◌, ◌+◌, ◌^◌, ◌<◌, ◌≤◌, true, false, map, option_map, IfOk};
 ghost use Rattle.reply_cache.specs.ReplyView as reply_view;
-ghost use Rattle.protocol.specs.Replica.State.{IsState, opening, kept_of, last_time, pages_of, root_of};
+ghost use Rattle.protocol.specs.Replica.State.{IsReplicatedState, opening, kept_of, last_time, pages_of, root_of};
 ghost use Rattle.execution.specs.Executed.{Executes, told};
 ghost use Rattle.execution.specs.Installing.{HasPagesAt, NoneFalls, NoneReplaces};
 ghost use Rattle.execution.specs.contracts.executed.Executed.{the_row};
@@ -30,7 +30,7 @@ pub struct Executed {
     replies: WatchedReplies,
     number: Number,
     clients: u16,
-    // The pages at the last checkpoint, so that it has the text of each page that isn't touched since.
+    // The pages at the last checkpoint. So it has the text of each page that no request touched since.
     tree: Tree,
 }
 
@@ -51,7 +51,7 @@ impl Model for Executed {
 }
 
 impl Executed {
-    /// The state before the first batch, of so many clients. NoMemory where memory runs out.
+    /// The state before the first batch, with so many clients. NoMemory if memory runs out.
     pub fn new(alloc: Global, clients: u16) -> Result<Executed, NoMemory>
         requires { clients ≤ 256 }
         ensures { IfOk result (λ e. e ≡ record { state = opening; clients = clients }) }
@@ -85,7 +85,7 @@ impl Executed {
 
     /// Tells a proof that this is a state. It does nothing.
     pub fn is_state(&self)
-        ensures { IsState self.now.state }
+        ensures { IsReplicatedState self.now.state }
     {
         let _number = &self.number;
     }
@@ -98,27 +98,27 @@ impl Executed {
         self.replies.replies().last(client)
     }
 
-    /// The timestamp of the client's last request that ran, 0 where there is none. Takes no memory.
+    /// The timestamp of the client's last request that ran, 0 if there is none. Takes no memory.
     pub fn seen(&self, client: ClientId) -> Timestamp
         ensures { result.0 ≡ last_time self.now.state client.number }
     {
         Timestamp(self.replies.replies().seen(client))
     }
 
-    /// The space, which reads are answered from.
+    /// The space, from which reads are answered.
     pub fn space(&self) -> &Space
         ensures { result.now ≡ self.now.state.space }
     {
         self.space.space()
     }
 
-    /// Executes the next batch, by its text: each of its requests in order whose timestamp is above its client's last,
-    /// which it tells. A text that is no batch has no requests.
+    /// Executes the next batch, by its text: in order, each of its requests whose timestamp is above its client's last.
+    /// Returns the requests that ran. A text that is no batch has no requests.
     ///
     /// # Errors
     ///
-    /// NoMemory where memory runs out. What is left then has the batch's number and what some of its requests left, so
-    /// it is no batch's state: its holder stops for good.
+    /// NoMemory if memory runs out. The value has then the batch's number and the effects of some of its requests. So
+    /// it is no batch's state, and its holder stops for good.
     pub fn execute(&mut self, batch: &[u8]) -> Result<Vec<Ran>, NoMemory>
         requires { self.old.state.number + 1 < 2 ^ 48 }
         ensures executed { IfOk result
@@ -141,10 +141,10 @@ impl Executed {
         Ok(ran)
     }
 
-    /// Puts the state of this number that has these pages in the place of the one that is there, and says whether it
-    /// did: there is such a state, and no client's last timestamp falls, so that no request that ran is new again. The
-    /// tree is kept, so that the next checkpoint writes those pages alone that later requests touch. Where it says
-    /// false nothing changes, nor where memory runs out (NoMemory).
+    /// Replaces the state by the one with this number and these pages. Returns whether it did: whether there is such a
+    /// state, and no client's last timestamp falls, so that no executed request is new again. The tree is kept, so the
+    /// next checkpoint writes only the pages that later requests touch. Nothing changes if it returns false, or if
+    /// memory runs out (NoMemory).
     pub fn install(&mut self, number: Number, pages: Tree) -> Result<bool, NoMemory>
         ensures installed { (result ≡ Ok true) → HasPagesAt number.0 pages self.new.state }
         ensures rises { (result ≡ Ok true) → NoneFalls self.old.state self.new.state }
@@ -169,8 +169,8 @@ impl Executed {
         Ok(true)
     }
 
-    /// The tree over the pages of the state. Those pages alone are written and hashed that requests may have changed
-    /// since the last call. NoMemory where memory runs out.
+    /// The tree over the pages of the state. It writes and hashes only the pages that requests may have changed since
+    /// the last call. NoMemory if memory runs out.
     pub fn pages(&mut self) -> Result<&Tree, NoMemory>
         ensures pages { IfOk result (λ pages. pages.now ≡ pages_of self.old.state) }
         ensures* same { sem 𝓛 (Rests the_row self.entry (λ new. new ≡ self.old)) }
@@ -185,8 +185,7 @@ impl Executed {
         Ok(&self.tree)
     }
 
-    /// The pages of the state, as by [`Executed::pages`], which later batches leave as they are. NoMemory where memory
-    /// runs out.
+    /// The pages of the state, as by [`Executed::pages`]. Later batches don't change them. NoMemory if memory runs out.
     pub fn checkpoint(&mut self) -> Result<Snapshot, NoMemory>
         ensures pages { IfOk result (λ pages. pages ≡ pages_of self.old.state) }
         ensures same { self.new ≡ self.old }
@@ -194,7 +193,7 @@ impl Executed {
         self.pages()?.snapshot()
     }
 
-    /// The root of the tree over the pages of the state. NoMemory where memory runs out.
+    /// The root of the tree over the pages of the state. NoMemory if memory runs out.
     pub fn root(&mut self) -> Result<Digest, NoMemory>
         ensures root { IfOk result (λ root. root ≡ root_of self.old.state) }
         ensures same { self.new ≡ self.old }

@@ -13,14 +13,14 @@ use std::alloc::Global;
 use terms::{ClientId, Number};
 use tuple_codec::Bad;
 
-/// The page of the header. Those of tuples and of replies stand before it, 256 each.
+/// The page of the header, after those of tuples and of replies, 256 each.
 const HEADER: usize = 512;
 
-/// The space and the replies of the state of this number that has these pages.
+/// The space and the replies of the state with this number and these pages.
 ///
 /// # Errors
 ///
-/// Malformed where no state of that number has them. NoMemory where memory runs out before that is seen.
+/// Malformed if no state of that number has these pages. NoMemory if memory runs out before that is seen.
 pub fn read_pages(alloc: Global, number: Number, pages: &Tree) -> Result<(Space, ReplyCache), Bad>
     ensures found { IfOk result
         (λ x. HasPagesAt number.0 pages.now (state_with number.0 x.0 x.1)) }
@@ -52,7 +52,7 @@ pub fn none_falls(old: &ReplyCache, new: &ReplyCache) -> bool
     true
 }
 
-// Whether the pages behind the header have no text.
+// Whether the pages after the header have no text.
 fn are_none_behind(pages: &Tree) -> bool
     ensures { IsTrue result ↔ NoneBehind pages.now }
 {

@@ -2,7 +2,7 @@
 
 ghost use Rattle.execution.specs.Laws.{PagesAreShort, PagesDetermine};
 
-/// States are equal where their pages are.
+/// States with equal pages are equal.
 pub fn pages_determine()
     ensures { PagesDetermine }
 {}

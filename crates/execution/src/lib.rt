@@ -4,14 +4,28 @@
 //!
 //! # What is proved
 //!
-//! `execute` is the protocol's definition: it leaves the state that a batch leaves, and tells of each request that ran,
-//! in order, what a reply to it says, in every configuration of so many clients; a request whose timestamp isn't above
-//! its client's last doesn't run again. `space` lends the executed space. `pages`, `checkpoint` and `root` are the
-//! pages of the state and their root, though only pages that a request may have changed since the last call are written
-//! and hashed again. `install` puts the state of a number in its place exactly where it is given the pages of one in
-//! which no client's last timestamp is lower, want of memory aside, and else changes nothing. An [`Executed`] always is
-//! a state (`IsState`). Laws: `pages_determine` (equal pages are equal states), `pages_are_short` (66,176 bytes at the
-//! most).
+//! `execute` is the protocol's definition, in every configuration with so many clients: it leaves the state after the
+//! batch, and returns the replies to the requests that ran, in order. A request whose timestamp isn't above its
+//! client's last doesn't run again. `space` lends the executed space.
+//!
+//! `pages`, `checkpoint` and `root` are the pages of the state and their root, though only pages that a request may
+//! have changed since the last call are written and hashed again. `install` replaces the state exactly if some state of
+//! the number has the given pages and lowers no client's last timestamp, unless memory runs out; else it changes
+//! nothing.
+//!
+//! An [`Executed`] always is a state (`IsState`). Laws: `pages_determine` (equal pages are equal states),
+//! `pages_are_short` (at most 66,176 bytes).
+//!
+//! # How it is made
+//!
+//! - Requests touch pages (`Watched` of `space`, `WatchedReplies`), and `Executed::pages` writes and hashes those.
+//! - An `upgrade` of client 0 touches all 256 pages of tuples, whichever version the space has. So the next checkpoint
+//!   writes and hashes each page once, however many upgrades came before it. Other batches of a period of 16 can touch
+//!   as many.
+//! - `install` keeps the tree that it reads as its own (`read_pages` in `src/installing.rt`). `HasPagesAt` and
+//!   `NoneFalls` are its conditions.
+//! - An installed state lowers no client's last timestamp, so no request that ran is new again. So a primary that
+//!   installs a state gives no request a second number.
 #![tactic(auto)]
 
 mod calls;

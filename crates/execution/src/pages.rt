@@ -1,4 +1,4 @@
-//! The pages of the executed state, renewed in a tree where they may have changed.
+//! The pages of the executed state. A tree of them is renewed page by page, if they may have changed.
 
 ghost use Rattle.std.specs.Prelude.{◌≡◌, ◌<◌, IfOk, OnOk};
 ghost use Rattle.protocol.specs.Replica.State.{page_text, pages_of};
@@ -15,7 +15,7 @@ use terms::{ClientId, NoMemory, Number};
 /// How many pages may have a text: 256 of tuples, 256 of replies, and the header.
 const TEXTS: usize = 513;
 
-/// Gives a tree the pages of the state, where it may have others. An `Err` changes nothing.
+/// Gives a tree the pages of the state that may differ. An `Err` changes nothing.
 pub fn renew(
     alloc: Global,
     tree: &mut Tree,
@@ -55,7 +55,7 @@ fn touched_pages(
     Ok(pages)
 }
 
-// Adds a page with its text, where it may have changed.
+// Adds a page with its text, if it may have changed.
 fn add_page(
     space: &Watched,
     replies: &WatchedReplies,

@@ -13,8 +13,8 @@ use std::alloc::Global;
 use terms::{ClientId, NoMemory, Number, Timestamp};
 use tuple_codec::Answer;
 
-/// A request that ran: its client and timestamp, the number of its batch, and what was answered. A reply to it says
-/// this.
+/// A request that ran, with the contents of a reply to it: its client and timestamp, the number of its batch, and the
+/// answer.
 #[derive(Drop)]
 pub struct Ran {
     pub client: ClientId,
@@ -23,7 +23,7 @@ pub struct Ran {
     pub answer: Answer<Global>,
 }
 
-/// Runs the request that a frame spells, if it is an ordered one of one of the clients, above its client's last.
+/// Runs the request that a frame spells, if it is an ordered request of a client, above its last one.
 fn run_frame(
     alloc: Global,
     space: &mut Watched,
@@ -59,7 +59,7 @@ fn run_frame(
     Ok(())
 }
 
-/// Runs the requests of frames one after another. An `Err` may leave what some of them leave.
+/// Runs the requests of frames one after another. An `Err` may leave the effects of some of them.
 pub fn run_frames(
     alloc: Global,
     space: &mut Watched,

@@ -41,7 +41,7 @@ adds_goes log v e old len pre false is =
       rw is (ap length all),
     )
 
--- whatever the book is, the exchange adds the event to all that was seen, or finds that the history is longer
+-- for each book, the exchange adds the event to all that were seen, or finds a longer history
 pub adds_moves : (v : List (List Entry)) (e : List Entry) (old : ℕ) → length v ≡ old
     → Moves IsCounted shown moved 0 (v, (no_nib, None)) (λ n. either (n == old) (old + 1) n) (Adds (step 0 old (old + 1) e) (v, (no_nib, None)))
 adds_moves v e old len cs log kept pre away =

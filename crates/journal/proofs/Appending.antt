@@ -1,11 +1,11 @@
--- What an append leaves, of the entries of the journal and of the histories of the shares, the oldest first.
+-- The entries of the journal and the histories of the shares after an append, the oldest first.
 use Rattle.std.proofs.Common.{◌≡◌, ℕ, ◌+◌, ◌≤◌, ◌==◌, true, List, [], ◌++◌, length, Option, Some, None, ap, sym, ◌∙◌, subst, arith, length-append}
 use Rattle.std.specs.Prelude.{reverse, IfSome}
 use Rattle.std.proofs.lemmas.List.{length-reverse}
 use Rattle.protocol.specs.System.Configuration.{Configuration, is_correct}
 use Rattle.protocol.specs.System.Trace.{Entry, party_of, history_of}
 use Rattle.protocol.specs.System.Run.{IsRun}
-use Rattle.events.specs.Outputs.{behind}
+use Rattle.events.specs.Outputs.{after_entries}
 use Rattle.journal.specs.Carrying.{Carried, IsCarriedFrom}
 use Rattle.journal.specs.Codes.{journaled_from, part_from}
 use Rattle.journal.specs.Comparing.{ordering_of, IsKept}
@@ -24,10 +24,10 @@ kept_empty c entries limit none = subst (λ (xs : List Entry). IsKept c xs limit
   room = omega arith;
 })
 
-pub right_longer : (c : Configuration) (p : ℕ) (h es : List Entry) → IsRight c p (behind es (reverse h)) → IsRight c p (reverse (h ++ es))
+pub right_longer : (c : Configuration) (p : ℕ) (h es : List Entry) → IsRight c p (after_entries es (reverse h)) → IsRight c p (reverse (h ++ es))
 right_longer c p h es right = subst (IsRight c p) (sym (turned_longer h es)) right
 
--- what contracts see of the longer ones
+-- the values that contracts see of the longer ones
 pub journal_longer : (j : Journaled) (t new es : List Entry) (limit : ℕ) → record { trace = reverse t; limit = limit } ≡ j → new ≡ t ++ es → record { trace = reverse new; limit = limit } ≡ longer j es
 journal_longer j t new es limit is more =
     ap (λ (xs : List Entry). journaled_from (reverse xs, limit)) more
@@ -46,7 +46,7 @@ module _ (c : Configuration) (p : ℕ) (t h es : List Entry) (agrees : history_o
   plainly : history_of p t ≡ h
   plainly = filtered_back (λ (e : Entry). party_of e == p) t h agrees
 
-  pub kept_longer : (limit : ℕ) (from : Option ℕ) → IsKept c t limit → is_correct c p ≡ true → IsRight c p (behind es (reverse h)) → IsCarriedFrom c (reverse t) from es → length (reverse t) + length es ≤ limit
+  pub kept_longer : (limit : ℕ) (from : Option ℕ) → IsKept c t limit → is_correct c p ≡ true → IsRight c p (after_entries es (reverse h)) → IsCarriedFrom c (reverse t) from es → length (reverse t) + length es ≤ limit
       → IsKept c (t ++ es) limit
   kept_longer limit from kept correct right by room = record {
     run = subst (IsRun c) (sym (turned_longer t es)) (run_longer c p es (reverse t) (reverse h) kept.run agrees correct event right);

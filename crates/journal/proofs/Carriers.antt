@@ -13,12 +13,12 @@ use Rattle.wire.proofs.Saying.{reads_frames}
 use Rattle.protocol.specs.System.Configuration.{Configuration}
 use Rattle.protocol.specs.System.Trace.{Entry, is_output, Has, Always}
 use Rattle.protocol.specs.System.Trace.Entry.{Invoke, Got, Tick, Executed, Installed, Sent, Accepted}
-use Rattle.events.specs.Outputs.{behind}
+use Rattle.events.specs.Outputs.{after_entries}
 use Rattle.journal.specs.Carrying.{is_faulty, is_exempt, Sends, IsCarriedAt, Carried, IsSentAt, IsSentFrom, ComesFrom, IsCarriedFrom}
 use Rattle.journal.specs.Histories.{IsOutputOf, IsEventOf}
 use Rattle.journal.proofs.Turned.{reverse_first}
 
--- ---- what stands in a list
+-- ---- items of a list
 
 has_there : (P : Entry → Type 0) (xs : List Entry) (k : ℕ) (e : Entry) → slice_get xs k ≡ Some e → P e → Has P xs
 has_there P [] k e is p = absurd cc
@@ -39,7 +39,7 @@ has_turned P [] h = absurd h
 has_turned P (x ∷ xs) (inl p) = subst (Has P) (sym (reverse_first xs x)) (has_back P (reverse xs) (x ∷ []) (inl p))
 has_turned P (x ∷ xs) (inr h) = subst (Has P) (sym (reverse_first xs x)) (has_front P (reverse xs) (x ∷ []) (has_turned P xs h))
 
--- ---- what was sent at a position was sent before
+-- ---- bytes that were sent at a position were sent before
 
 sent_there : (past : List Entry) (k : ℕ) (bytes : List ℕ) → IsSentAt (reverse past) k bytes → Has (Sends bytes) past
 sent_there past k bytes h = go (slice_get (reverse past) k) refl h
@@ -71,11 +71,11 @@ output_carried c past (Installed r i root) is = tt
 output_carried c past (Sent p bytes) is = tt
 output_carried c past (Accepted k t answer) is = tt
 
-outputs_carried : (c : Configuration) (p : ℕ) (es past : List Entry) → Each (IsOutputOf p) es → Always (IsCarriedAt c) past → Always (IsCarriedAt c) (behind es past)
+outputs_carried : (c : Configuration) (p : ℕ) (es past : List Entry) → Each (IsOutputOf p) es → Always (IsCarriedAt c) past → Always (IsCarriedAt c) (after_entries es past)
 outputs_carried c p [] past are h = h
 outputs_carried c p (e ∷ es) past are h = outputs_carried c p es (e ∷ past) are.1 (output_carried c past e are.0.1, h)
 
-pub carried_longer : (c : Configuration) (p : ℕ) (es past : List Entry) (from : Option ℕ) → Carried c past → IsEventOf p es → IsCarriedFrom c past from es → Carried c (behind es past)
+pub carried_longer : (c : Configuration) (p : ℕ) (es past : List Entry) (from : Option ℕ) → Carried c past → IsEventOf p es → IsCarriedFrom c past from es → Carried c (after_entries es past)
 carried_longer c p [] past from carried event by = absurd event
 carried_longer c p (e ∷ es) past from carried event by = record {
   each = outputs_carried c p es (e ∷ past) event.2 (input_carried c past from e by, carried.each);

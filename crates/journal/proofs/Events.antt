@@ -1,11 +1,12 @@
--- An event of one party, in its own history and in those of others. The order of entries plays no part in most of these.
+-- An event of one party, in its own history and in those of others. The order of entries plays no part in most of
+-- these lemmas.
 use Rattle.std.proofs.Common.{◌≡◌, ℕ, Bool, true, false, cond, ◌==◌, ◌||◌, List, [], ◌∷◌, ◌++◌, refl, ap, sym, ◌∙◌}
 use Rattle.std.specs.List.{list_any}
 use Rattle.std.proofs.lemmas.Bool.{eq-eqb, eqb-true, false_from_ne_true}
 use Rattle.std.proofs.lemmas.List.Elements.{filter-append}
 use Rattle.wire.specs.Lists.{Each}
 use Rattle.protocol.specs.System.Trace.{Entry, party_of, history_of}
-use Rattle.events.specs.Outputs.{behind}
+use Rattle.events.specs.Outputs.{after_entries}
 use Rattle.journal.specs.Comparing.{ordering_of}
 use Rattle.journal.specs.Histories.{IsOutputOf, IsEventOf}
 use Rattle.protocol.specs.System.Reads.{orders, without_reads}
@@ -57,18 +58,18 @@ no_ordering (x ∷ es) e =
     let both = none_first (orders x) (list_any orders es) e in
     ap (λ b. cond b (x ∷ without_reads es) (without_reads es)) both.0 ∙ no_ordering es both.1
 
--- ---- behind what is there
+-- ---- entries after others
 
-pub history_behind : (p : ℕ) (es past : List Entry) → history_of p (behind es past) ≡ behind (history_of p es) (history_of p past)
+pub history_behind : (p : ℕ) (es past : List Entry) → history_of p (after_entries es past) ≡ after_entries (history_of p es) (history_of p past)
 history_behind p [] past = refl
 history_behind p (e ∷ es) past = history_behind p es (e ∷ past) ∙ one (party_of e == p) e (history_of p es) (history_of p past)
   where
-    one : (b : Bool) (e : Entry) (xs past : List Entry) → behind xs (cond b (e ∷ past) past) ≡ behind (cond b (e ∷ xs) xs) past
+    one : (b : Bool) (e : Entry) (xs past : List Entry) → after_entries xs (cond b (e ∷ past) past) ≡ after_entries (cond b (e ∷ xs) xs) past
     one true e xs past = refl
     one false e xs past = refl
 
-pub own_behind : (p : ℕ) (es past : List Entry) → IsEventOf p es → history_of p (behind es past) ≡ behind es (history_of p past)
-own_behind p es past event = history_behind p es past ∙ ap (λ (xs : List Entry). behind xs (history_of p past)) (own_event p es event)
+pub own_behind : (p : ℕ) (es past : List Entry) → IsEventOf p es → history_of p (after_entries es past) ≡ after_entries es (history_of p past)
+own_behind p es past event = history_behind p es past ∙ ap (λ (xs : List Entry). after_entries xs (history_of p past)) (own_event p es event)
 
-pub other_behind : (p q : ℕ) (es past : List Entry) → (p ≡ q → ⊥) → IsEventOf p es → history_of q (behind es past) ≡ history_of q past
-other_behind p q es past apart event = history_behind q es past ∙ ap (λ (xs : List Entry). behind xs (history_of q past)) (other_event p q es apart event)
+pub other_behind : (p q : ℕ) (es past : List Entry) → (p ≡ q → ⊥) → IsEventOf p es → history_of q (after_entries es past) ≡ history_of q past
+other_behind p q es past apart event = history_behind q es past ∙ ap (λ (xs : List Entry). after_entries xs (history_of q past)) (other_event p q es apart event)

@@ -1,4 +1,4 @@
--- What is known by the tie, or compared whole, of lists that are turned.
+-- Lists that are known equal by the tie, or compared whole, with the newest entry first.
 use Rattle.std.proofs.Common.{◌≡◌, ◌==◌, ℕ, List, Option, ap, sym, ◌∙◌}
 use Rattle.std.specs.Prelude.{reverse}
 use Rattle.protocol.specs.System.Trace.{Entry, party_of, history_of}

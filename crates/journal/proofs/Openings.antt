@@ -1,4 +1,4 @@
--- The shares of a new journal, one after another, and what is known of faulty parties.
+-- The shares of a new journal, one after another, and the marks of faulty parties.
 use Rattle.std.proofs.Common.{◌≡◌, ℕ, zero, suc, ◌+◌, ◌-◌, ◌<◌, ◌≤◌, ◌⊎◌, ⊎_elim, Bool, true, false, cond, ◌||◌, ◌&&◌, not, List, [], ◌∷◌, ◌++◌, length, map, slice_get, Option, Some, None, refl, sym, ap, ◌∙◌, arith, append_assoc, length-append}
 use Rattle.std.specs.Prelude.{unwrap_or, nat_le, nat_lt}
 use Rattle.std.specs.List.{range_with_len}

@@ -6,7 +6,7 @@ use Rattle.std.proofs.lemmas.Grind.{common_steps}
 drop_whole : {A : Type 0} (n : ℕ) (xs : List A) → length xs ≤ n → drop n xs ≡ []
 drop_whole n xs h = grind (arith, common_steps)
 
--- past the trace, the history is the projection where all of it was met
+-- past the trace's end, the history is the projection exactly if all of it was met
 pub ends : {A : Type 0} (F : List A → List A) → F [] ≡ [] → (trace history : List A) (i at : ℕ) (G : Type 0) → length trace ≤ i → at ≤ length history
     → ((F (drop i trace) ≡ drop at history) ↔ G) → (IsTrue (nat_eq at (length history)) → G) × (G → IsTrue (nat_eq at (length history)))
 ends F empty trace history i at G past within both =

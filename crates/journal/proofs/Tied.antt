@@ -1,4 +1,4 @@
--- The history of events, and what was seen of it.
+-- The history of events, and the beginnings of it that were seen.
 use Rattle.std.proofs.Common.{◌≡◌, ℕ, zero, suc, ◌≤◌, Bool, true, false, cond, List, [], ◌∷◌, ◌++◌, length, drop, slice_get, Some, refl, ap, sym, ◌∙◌, subst, arith, append_assoc, ⊎_elim}
 use Rattle.std.specs.Prelude.{slice_set}
 use Rattle.std.specs.List.{list_any}
@@ -46,14 +46,14 @@ set_other (x ∷ xs) (suc i) (suc j) n apart = set_other xs i j n (λ e. apart (
 -- ---- of each kind of entries
 
 module _ (of : Kind) (none : (p : ℕ) → of p [] ≡ []) (app : (p : ℕ) (xs ys : List Entry) → of p (xs ++ ys) ≡ of p xs ++ of p ys) where
-  -- the rest behind a beginning, where the party has nothing behind its last event
+  -- the rest after a beginning, if the party has nothing after its last event
   rest_none : (p k : ℕ) (xs ys : List (List Entry)) → k ≤ length xs → of p (entries_in (drop k (xs ++ ys))) ≡ [] → of p (entries_in ys) ≡ []
   rest_none p zero xs ys le h =
       back_none (of p (entries_in xs)) (of p (entries_in ys)) (sym (app p (entries_in xs) (entries_in ys)) ∙ (ap (of p) (sym (in_append xs ys)) ∙ h))
   rest_none p (suc k) [] ys le h = absurd (omega arith)
   rest_none p (suc k) (x ∷ xs) ys le h = rest_none p k xs ys (omega arith) h
 
-  -- what was seen up to the party's last event has all that the party has
+  -- a beginning up to the party's last event has all of the party's entries
   pub seen_whole : (events seen : List (List Entry)) (lasts : List ℕ) (p : ℕ) → AreLast of events lasts → Reaches seen events (slice_get lasts p) → of p (entries_in events) ≡ of p (entries_in seen)
   seen_whole events seen lasts p last reach =
       let none0 : of p (entries_in (drop reach.count events)) ≡ [] = last p reach.count reach.count_is in
@@ -64,7 +64,7 @@ module _ (of : Kind) (none : (p : ℕ) → of p [] ≡ []) (app : (p : ℕ) (xs 
       ∙ (app p (entries_in seen) (entries_in reach.begins.0)
       ∙ (ap (λ (l : List Entry). of p (entries_in seen) ++ l) rest ∙ append-nil (of p (entries_in seen)))))
 
-  -- an event that has nothing of the kind changes nothing behind the last one
+  -- after an event without entries of the kind, the last one stays the last
   last_stays : (p k : ℕ) (events : List (List Entry)) (event : List Entry) → of p event ≡ [] → of p (entries_in (drop k events)) ≡ [] → of p (entries_in (drop k (events ++ event ∷ []))) ≡ []
   last_stays p zero events event nothing h =
       ap (of p) (in_last events event) ∙ (app p (entries_in events) event ∙ (ap (λ (l : List Entry). l ++ of p event) h ∙ nothing))

@@ -5,7 +5,7 @@ use Rattle.std.proofs.lemmas.List.{append-nil, reverse-append, reverse-reverse, 
 use Rattle.std.proofs.lemmas.List.Elements.{filter-append}
 use Rattle.std.proofs.lemmas.Grind.{reverse_onto}
 use Rattle.protocol.specs.System.Trace.{Entry}
-use Rattle.events.specs.Outputs.{behind}
+use Rattle.events.specs.Outputs.{after_entries}
 
 pub reverse_first : {A : Type 0} (xs : List A) (x : A) → reverse (x ∷ xs) ≡ reverse xs ++ x ∷ []
 reverse_first xs x = reverse_onto xs x []
@@ -13,13 +13,13 @@ reverse_first xs x = reverse_onto xs x []
 pub turned_length : (xs : List Entry) → length (reverse xs) ≡ length xs
 turned_length xs = length-reverse xs
 
-pub behind_is : (es past : List Entry) → behind es past ≡ reverse es ++ past
+pub behind_is : (es past : List Entry) → after_entries es past ≡ reverse es ++ past
 behind_is [] past = refl
 behind_is (e ∷ es) past =
     behind_is es (e ∷ past) ∙ (sym (append_assoc (reverse es) (e ∷ []) past) ∙ ap (λ (xs : List Entry). xs ++ past) (sym (reverse_first es e)))
 
--- with more entries behind, the turned list is longer by them
-pub turned_longer : (xs es : List Entry) → reverse (xs ++ es) ≡ behind es (reverse xs)
+-- the reverse of a longer list
+pub turned_longer : (xs es : List Entry) → reverse (xs ++ es) ≡ after_entries es (reverse xs)
 turned_longer xs es = reverse-append xs es ∙ sym (behind_is es (reverse xs))
 
 pub filter_turned : (test : Entry → Bool) (xs : List Entry) → filter test (reverse xs) ≡ reverse (filter test xs)
@@ -36,7 +36,7 @@ filter_turned test (x ∷ xs) =
 pub same_turned : (xs ys : List Entry) → reverse xs ≡ reverse ys → xs ≡ ys
 same_turned xs ys e = sym (reverse-reverse xs) ∙ (ap reverse e ∙ reverse-reverse ys)
 
--- what a filter leaves is a list, both turned or neither
+-- a filter on a list and on its reverse
 pub filtered_turned : (test : Entry → Bool) (xs ys : List Entry) → filter test xs ≡ ys → filter test (reverse xs) ≡ reverse ys
 filtered_turned test xs ys e = filter_turned test xs ∙ ap reverse e
 

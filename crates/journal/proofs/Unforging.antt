@@ -1,4 +1,5 @@
--- Where no party is faulty and what was got was sent, each frame that was seen, alone or carried, is from its sender.
+-- If no party is faulty and received frames were sent, each frame that was seen, alone or carried, is from its
+-- sender.
 use Rattle.std.proofs.Common.{◌≡◌, ℕ, ◌-◌, ◌⊎◌, inl, inr, Bool, true, false, cond, ◌==◌, ◌||◌, ◌&&◌, not, Option, Some, None, List, [], ◌∷◌, refl, ap, sym, ◌∙◌, subst}
 use Rattle.std.specs.Option.{option_map_or}
 use Rattle.wire.specs.Lists.{Each}
@@ -11,15 +12,15 @@ use Rattle.protocol.specs.System.Trace.{Entry, party_of, history_of, Once, Alway
 use Rattle.protocol.specs.System.Trace.Entry.{Invoke, Got, Tick, Executed, Installed, Sent, Accepted}
 use Rattle.protocol.specs.Replica.RightReplica.{Point, HasSeen, SafeReplica, MaySend}
 use Rattle.protocol.specs.Client.RightClient.{OpenCall, SafeClient}
-use Rattle.protocol.proofs.Evidence.Correctness.{replicas_are_safe, clients_are_safe, asks_its_call}
 use Rattle.protocol.proofs.Words.Elements.{each_has}
 use Rattle.protocol.proofs.Words.Linking.{heard_said, signed_said}
+use Rattle.protocol.proofs.Words.Reacting.{is_replica_right, is_client_right, asks_its_call}
 use Rattle.protocol.proofs.Words.Temporal.{once_weaker, once_in_trace}
 use Rattle.journal.specs.Carrying.{is_faulty, is_exempt, Sends, IsCarriedAt}
 use Rattle.journal.specs.Laws.{CarriedIsUnforged}
 use Rattle.journal.proofs.Events.{own_entry}
 
--- ---- what is exempt is no frame
+-- ---- exempt bytes are no frame
 
 either_true : (a b : Bool) → (a || b) ≡ true → (a ≡ true) ⊎ (b ≡ true)
 either_true true b e = inl refl
@@ -46,7 +47,7 @@ exempt_says c bytes replicas clients exempt = go (said bytes) refl
         let faulty : is_faulty c body.sender ≡ true = ap (λ (o : Option Body). option_map_or (λ b. is_faulty c b.sender) o true) (sym is) ∙ exempt in
         absurd (cc (none_faulty c body.sender replicas clients))
 
--- ---- what was seen
+-- ---- frames that were seen
 
 -- whoever the frame names as sender sent such a body
 abbrev IsSent : List Entry → List ℕ → Type 0
@@ -79,12 +80,12 @@ abbrev asked : ℕ → Mode → OpenCall → Body
 asked p mode call = record { sender = p; message = Request call.timestamp mode call.op }
 
 module _ (c : Configuration) (replicas : c.faulty_replicas ≡ []) (clients : c.faulty_clients ≡ []) where
-  -- what is got
+  -- frames in received bytes
   got_sent : (past : List Entry) (p : ℕ) (bytes frame : List ℕ) → AllSent past → IsCarriedAt c past (Got p bytes) → Has (λ x. x ≡ frame) (frames_in bytes) → IsSent past frame
   got_sent past p bytes frame all (inl sent) there = all frame (seen_of_sent past bytes frame sent there)
   got_sent past p bytes frame all (inr exempt) there = λ body says. absurd (nothing_said bytes frame (exempt_says c bytes replicas clients exempt) there body says)
 
-  -- what is known of a trace and of each end of it
+  -- the properties of a trace and of each earlier one
   pub record Stands (trace : List Entry) : Type 0 where
     pub safe : (p : ℕ) → is_correct_replica c p ≡ true → SafeReplica c p (history_of p trace)
     pub asks : (p : ℕ) → is_correct_client c p ≡ true → SafeClient c p (history_of p trace)
@@ -106,7 +107,7 @@ module _ (c : Configuration) (replicas : c.faulty_replicas ≡ []) (clients : c.
     carried = s.carried.1;
   }
 
-  -- what a correct replica sends it says itself, and what it carries was seen
+  -- a correct replica sends a frame as its own sender, and it has seen the frames that it carries
   replica_sent : (past : List Entry) (p : ℕ) (bytes frame : List ℕ) → AllSent past → SafeReplica c p (history_of p (Sent p bytes ∷ past)) → Has (λ x. x ≡ frame) (frames_in bytes) → IsSent (Sent p bytes ∷ past) frame
   replica_sent past p bytes frame all safe there =
       let own : SafeReplica c p (Sent p bytes ∷ history_of p past) = subst (SafeReplica c p) (own_entry p (Sent p bytes) past refl) safe in
@@ -150,7 +151,7 @@ module _ (c : Configuration) (replicas : c.faulty_replicas ≡ []) (clients : c.
           inl (ap (λ (b : Body). b.sender) whole, here)
       go mode call is (inr inside) = absurd (subst (Has (λ x. x ≡ frame)) (ap (λ (o : Option Body). option_map_or (λ b. carried b.message) o []) is) inside)
 
-  -- what a correct party sends
+  -- frames in bytes that a correct party sends
   party_sent : (past : List Entry) (p : ℕ) (bytes frame : List ℕ) → AllSent past → Stands (Sent p bytes ∷ past) → Has (λ x. x ≡ frame) (frames_in bytes) → IsSent (Sent p bytes ∷ past) frame
   party_sent past p bytes frame all s there = go (either_true (is_correct_replica c p) (is_correct_client c p) s.parties.0)
     where
@@ -197,8 +198,8 @@ module _ (c : Configuration) (replicas : c.faulty_replicas ≡ []) (clients : c.
 
 pub unforged : CarriedIsUnforged
 unforged c trace replicas clients run carried = all_unforged c replicas clients trace (record {
-  safe = λ p at. replicas_are_safe c p (history_of p trace) (run.replicas p at);
-  asks = λ p at. clients_are_safe c p (history_of p trace) (run.clients p at);
+  safe = λ p at. is_replica_right c p (history_of p trace) (run.replicas p at);
+  asks = λ p at. is_client_right c p (history_of p trace) (run.clients p at);
   parties = run.parties;
   carried = carried.each;
 })

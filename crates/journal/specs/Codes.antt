@@ -1,4 +1,4 @@
--- Codes of what contracts see of journals, shares and ties, by which a proof tells them apart.
+-- Codes of the values of journals, shares and ties that contracts see. A proof tells them apart by these.
 use Rattle.std.specs.Prelude.{◌≡◌, ℕ, List, refl}
 use Rattle.std.specs.Coded.{Coded, code_by, coded_list, coded×, coded_ℕ}
 use Rattle.protocol.specs.System.Trace.{Entry}

@@ -1,8 +1,8 @@
--- What contracts see of a journal and of its shares, and what an event does to them.
+-- The values of a journal and of its shares that contracts see, and their changes by an event.
 use Rattle.std.specs.Prelude.{◌≡◌, ℕ, ◌+◌, ◌≤◌, List, [], length, map, Option}
 use Rattle.protocol.specs.System.Configuration.{Configuration}
 use Rattle.protocol.specs.System.Trace.{Entry, history_of}
-use Rattle.events.specs.Outputs.{behind}
+use Rattle.events.specs.Outputs.{after_entries}
 use Rattle.journal.specs.Carrying.{IsCarriedFrom}
 use Rattle.journal.specs.Histories.{correct_parties, correct_replicas}
 use Rattle.protocol.specs.System.Reads.{without_reads}
@@ -38,18 +38,18 @@ pub record IsOpening (c : Configuration) (limit : ℕ) (journal : Journaled) (sh
   pub shares_are : shares ≡ map fresh (correct_parties c)
   pub orders_are : orders ≡ map fresh (correct_replicas c)
 
--- with the entries behind what is there
+-- the journal after these entries
 abbrev pub longer : Journaled → List Entry → Journaled
-longer journal entries = record journal { trace = behind entries journal.trace }
+longer journal entries = record journal { trace = after_entries entries journal.trace }
 
 abbrev pub longer_part : Part → List Entry → Part
-longer_part part entries = record part { history = behind entries part.history }
+longer_part part entries = record part { history = after_entries entries part.history }
 
--- the journal has just the share's history of its party
+-- the journal's history of the party is the share's
 abbrev pub Agrees : Journaled → Part → Type 0
 Agrees journal share = history_of share.party journal.trace ≡ share.history
 
--- and what the event got is carried
+-- the same, and the frame that the event received was sent or may come from anywhere
 abbrev pub InStep : Configuration → Journaled → Part → Option ℕ → List Entry → Type 0
 InStep c journal share from entries = Agrees journal share × IsCarriedFrom c journal.trace from entries
 

@@ -1,5 +1,5 @@
--- What ties a journal to its shares: a history of events that stands in the proofs alone, and beginnings of it that
--- were seen. An event is a list of its entries. Here the oldest stands first.
+-- The tie of a journal to its shares: a history of events that only proofs know, and beginnings of it that were seen.
+-- An event is a list of its entries. Here the oldest stands first.
 use Rattle.std.specs.Prelude.{ℕ, ◌≡◌, ◌==◌, ◌≤◌, true, List, [], ◌∷◌, ◌++◌, length, drop, slice_get, slice_set, MatchBool, if◌then◌else◌, Option, Some, IfSome}
 use Rattle.std.specs.List.{list_any}
 use mathlib.Core.List.{IsPrefix}
@@ -9,7 +9,7 @@ use Rattle.journal.specs.Comparing.{ordering_of}
 use Rattle.journal.specs.Histories.{IsEventOf}
 use Rattle.protocol.specs.System.Reads.{orders, without_reads}
 
--- the first word is the number of events. A book has two words, of which this one leaves the second at 0
+-- The first word is the number of events. A book has two words; the second stays 0.
 abbrev pub IsCounted : List Cell → List (List Entry) → Type 0
 IsCounted cells events = cells ≡ (length events, true) ∷ (0, true) ∷ []
 
@@ -19,7 +19,7 @@ head_of b = record { tracked = true; key = 0; book = b }
 abbrev pub no_book : Book
 no_book = record { number = 0; log_name = 0; cells_name = 0 }
 
--- the event was added to all that had been seen; or the history was longer, and was seen
+-- the event was added to the events seen before, or the history was longer, and is now seen
 abbrev pub Adds : Step (List Entry) → View (List Entry) ℕ → ℕ → View (List Entry) ℕ → Type 0
 Adds s v found w = MatchBool (found == s.old) (w.0 ≡ v.0 ++ s.ask ∷ []) (length w.0 ≡ found)
 
@@ -28,8 +28,8 @@ abbrev pub entries_in : List (List Entry) → List Entry
 entries_in [] = []
 entries_in (event ∷ events) = event ++ entries_in events
 
--- What ties a journal: its events, and for each party the number of events up to its last one, and up to its last one
--- of ordering.
+-- The tie of a journal: its events, and for each party the number of events up to its last one, and up to its last
+-- one of ordering.
 pub record Knot : Type 0 where
   pub events : List (List Entry)
   pub lasts : List ℕ
@@ -39,7 +39,7 @@ pub record Knot : Type 0 where
 abbrev pub Kind : Type 0
 Kind = ℕ → List Entry → List Entry
 
--- behind those many events the party has no entry of the kind
+-- after so many events the party has no entry of the kind
 abbrev pub AreLast : Kind → List (List Entry) → List ℕ → Type 0
 AreLast of events lasts =
     (p last : ℕ) → slice_get lasts p ≡ Some last → of p (entries_in (drop last events)) ≡ []
@@ -53,18 +53,18 @@ pub record IsTied (knot : Knot) (entries : List Entry) : Type 0 where
 abbrev pub Ties : Option Knot → List Entry → Type 0
 Ties tie entries = IfSome tie (λ knot. IsTied knot entries)
 
--- the events that were seen have these entries of the kind
+-- the events that were seen have this history, of the entries of the kind
 abbrev pub Marks : Kind → Option (List (List Entry)) → ℕ → List Entry → Type 0
 Marks of seen p history = IfSome seen (λ events. of p (entries_in events) ≡ history)
 
--- What was seen begins the whole, and has as many events as there are up to a party's last one.
+-- The events that were seen begin the whole, and are at least as many as those up to a party's last one.
 pub record Reaches (seen whole : List (List Entry)) (last : Option ℕ) : Type 0 where
   pub count : ℕ
   pub count_is : last ≡ Some count
   pub few : count ≤ length seen
   pub begins : IsPrefix seen whole
 
--- where the journal is so tied, what was seen of the party is all that the journal has
+-- if the journal is so tied, the events that were seen have all entries of the kind
 abbrev pub Shows : Kind → Option Knot → Option (List (List Entry)) → ℕ → Type 0
 Shows of tie seen p =
     (entries history : List Entry) → Ties tie entries → Marks of seen p history → of p entries ≡ history
@@ -83,11 +83,11 @@ pub record TiesLonger (p : ℕ) (event entries : List Entry) (tie : Option Knot)
   pub history : Marks history_of seen p (history_of p entries ++ event)
   pub ordering : Marks ordering_of seen p (ordering_of p entries ++ without_reads event)
 
--- whatever journal was tied, behind an event of the party the longer one is
+-- if a journal was tied before an event of the party, the longer one is after it
 abbrev pub KeepsTies : ℕ → List Entry → Option Knot → Option Knot → Option (List (List Entry)) → Type 0
 KeepsTies p event old new seen =
     (entries : List Entry) → IsEventOf p event → Ties old entries → TiesLonger p event entries new seen
 
--- the history is the party's in a journal that is so tied
+-- the history is the party's, in a journal that is so tied
 abbrev pub IsTiedHistory : Option Knot → ℕ → List Entry → Type 0
 IsTiedHistory tie p history = (entries : List Entry) × Ties tie entries × (history_of p entries ≡ history)

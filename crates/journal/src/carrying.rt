@@ -1,4 +1,4 @@
-//! Whether what was got was sent.
+//! Whether received bytes were sent before.
 
 ghost use Rattle.std.specs.Prelude.{◌≡◌, ◌↔◌, IfOk, IsTrue};
 ghost use Rattle.protocol.specs.System.Configuration.{is_correct};
@@ -18,7 +18,7 @@ use wire::judge;
 /// The parties that the configuration names as faulty.
 #[derive(Drop)]
 pub(crate) struct Faulty<N: Naming> {
-    // By the party's number.
+    // A mark for each party, by its number.
     marks: Vec<bool>,
     naming: PhantomData<N>,
     ghost right: { AreFaulty N.config marks.items },
@@ -34,7 +34,7 @@ impl<N: Naming> Faulty<N> {
         })
     }
 
-    // Whether the party of this number is one of them.
+    // Whether the configuration names the party of this number as faulty.
     fn names(&self, party: u16) -> bool
         ensures { result ≡ is_faulty N.config party }
     {
@@ -44,7 +44,7 @@ impl<N: Naming> Faulty<N> {
         }
     }
 
-    // Whether the bytes are no frame, or their body names one of them as its sender.
+    // Whether the bytes are no frame, or their body names a faulty sender.
     fn exempts(&self, bytes: &[u8]) -> bool
         ensures { result ≡ is_exempt N.config bytes.now }
     {
@@ -54,7 +54,7 @@ impl<N: Naming> Faulty<N> {
         }
     }
 
-    /// Whether what the event got was sent at that position of the trace, or may come from anywhere.
+    /// Whether the bytes that the event received were sent at that position of the trace, or may come from anywhere.
     pub(crate) fn let_come(&self, trace: &[Entry], from: Option<u64>, event: &[Entry]) -> bool
         ensures { IsTrue result ↔ IsCarriedTo N.config trace.now from event.now }
     {
@@ -99,7 +99,7 @@ fn is_party(config: &Config, party: u16) -> bool
         || party >= FIRST_CLIENT && party < FIRST_CLIENT + config.clients()
 }
 
-/// Whether the party of this number is one that the configuration doesn't name as faulty.
+/// Whether the configuration has a party of this number and doesn't name it as faulty.
 pub(crate) fn is_correct(config: &Config, party: u16) -> bool
     ensures { result ≡ is_correct config.now party }
 {

@@ -15,7 +15,7 @@ use std::alloc::Global;
 use terms::{ClientId, Digest, NoMemory, Number, Party, ReplicaId, Timestamp};
 use tuple_codec::{Answer, Op};
 
-/// The number of the party at which the entry stands.
+/// The number of the party whose entry it is.
 pub(crate) fn party_of(entry: &Entry) -> u16
     ensures { result ≡ party_of entry.now }
 {
@@ -83,7 +83,7 @@ pub(crate) fn copy_entries(alloc: Global, entries: &[Entry]) -> Result<Vec<Entry
     Ok(copies)
 }
 
-/// Equal entries, those of reads left out.
+/// Equal entries, without those of reads.
 pub(crate) fn copy_ordering(alloc: Global, entries: &[Entry]) -> Result<Vec<Entry>, NoMemory>
     ensures { IfOk result (λ copies. copies.items ≡ without_reads entries.now) }
 {

@@ -7,10 +7,11 @@ use thiserror::Error;
 /// Why a journal took no entries.
 #[derive(Clone, Copy, Debug, PartialEq, Eq, Error)]
 pub enum AppendFault {
-    /// The share is not what the journal has of its party, its two shares differ, or what was got was not sent there.
+    /// The journal's history of the party differs from its share, its two shares differ, or the received bytes were
+    /// not sent there.
     #[error("not in the journal")]
     NotInJournal,
-    /// There is no room for the entries.
+    /// The journal has no room for the entries.
     #[error("the journal is full")]
     JournalFull,
     #[error("out of memory")]

@@ -1,5 +1,5 @@
-//! One history of events for a journal and its shares. It stands in the proofs alone: when the program runs there is a
-//! count of events.
+//! One history of events for a journal and its shares. Only proofs know the events: the running program has a count
+//! of them.
 
 ghost use Rattle.std.specs.Prelude.{◌≡◌, ◌<◌, ◌^◌, ◌++◌, ◌∷◌, [], length, IsTrue};
 ghost use mathlib.Core.List.{IsPrefix};
@@ -10,7 +10,7 @@ use events::Entry;
 use logbook::{Gain, Offer, Plain, Play, Rule, Seen, Start, Word};
 use std::marker::{Model, PhantomData};
 
-// An event in the history: its entries. None is made when the program runs.
+// An event in the history: its entries. The running program makes none.
 #[derive(Drop)]
 pub struct Event {
     entries: Vec<Entry>,
@@ -67,7 +67,7 @@ impl Play<Event, u64> for Add {
     ghost then = { Adds };
 }
 
-// What the step asks for: the event.
+// The request of the step: the event.
 impl Plain<Vec<Entry>, Event, u64> for Add {
     ghost use Rattle.std.specs.Prelude.{None};
 
@@ -76,7 +76,7 @@ impl Plain<Vec<Entry>, Event, u64> for Add {
     ghost state = { λ v. None };
 }
 
-/// A book with an empty history, for one journal. It has no name yet: contracts see which book it is.
+/// A book with an empty history, for one journal. It has no name yet; contracts see which book it is.
 #[derive(Drop)]
 pub struct Opened {
     head: Word<Event, u64, Law>,
@@ -105,7 +105,7 @@ impl Opened {
         }
     }
 
-    /// The book under its name, and the front that has seen nothing.
+    /// The book under its name, and the front of no events.
     pub(crate) fn named<N: Naming>(self) -> (Book<N>, Front<N>)
         requires { self ≡ N.book }
         ensures { result.1 ≡ [] }
@@ -155,7 +155,7 @@ impl<N: Naming> Model for Front<N> {
 }
 
 impl<N: Naming> Front<N> {
-    /// How many events it has.
+    /// How many events this beginning has.
     pub(crate) fn count(&self) -> u64
         ensures { result ≡ length self.now }
     {

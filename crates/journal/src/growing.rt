@@ -14,7 +14,7 @@ use std::alloc::Global;
 use std::mem;
 use terms::{NoMemory, Party};
 
-/// Puts the entries, an event of the party, behind the trace and the party's history.
+/// Appends the entries, an event of the party, to the trace and to the party's history.
 pub(crate) fn grow_both<N: Naming>(
     alloc: Global,
     trace: &mut Vec<Entry>,
@@ -40,7 +40,7 @@ pub(crate) fn grow_both<N: Naming>(
     Ok(front)
 }
 
-/// The same, and those of ordering behind the replica's ordering.
+/// The same, and appends the entries of ordering to the replica's ordering.
 pub(crate) fn grow_three<N: Naming>(
     alloc: Global,
     trace: &mut Vec<Entry>,

@@ -2,8 +2,8 @@
 
 ghost use Rattle.journal.specs.Laws.{CarriedIsUnforged};
 
-/// Where no party is faulty, a run in which what was got was sent is unforged: what a frame carries was got or sent
-/// by who sent it, and what a correct party sends names it as sender.
+/// If no party is faulty, a run in which all received frames were sent is unforged. That is: the sender of each
+/// frame, alone or carried, sent it, and whatever a correct party sends names it as sender.
 pub fn carried_is_unforged()
     ensures unforged { CarriedIsUnforged }
 {}

@@ -1,7 +1,7 @@
-//! The journal, which lies behind one lock.
+//! The journal, which a cluster keeps behind one lock.
 
 ghost use Rattle.std.specs.Prelude.{◌≡◌, ◌↔◌, ◌≤◌, [], reverse, length, IfOk, IfSome, OnOk, OnErr, IsTrue};
-ghost use Rattle.events.specs.Outputs.{behind};
+ghost use Rattle.events.specs.Outputs.{after_entries};
 ghost use Rattle.protocol.specs.System.Run.{IsRun};
 ghost use Rattle.journal.specs.Carrying.{Carried, IsCarriedFrom};
 ghost use Rattle.journal.specs.Faults.{Tells};
@@ -53,12 +53,12 @@ impl<N: Naming> Model for Journal<N> {
 }
 
 impl<N: Naming> Journal<N> {
-    /// An empty journal of up to so many entries, a share for each correct party, and one of its ordering for each
-    /// correct replica. Nothing ties them, so an append compares them whole.
+    /// An empty journal of at most `limit` entries, a share for each correct party, and one of its ordering for each
+    /// correct replica. Nothing ties them, so each append compares them whole.
     ///
     /// # Errors
     ///
-    /// Want of memory.
+    /// Out of memory.
     pub fn new(
         alloc: Global,
         config: &Config,
@@ -70,11 +70,11 @@ impl<N: Naming> Journal<N> {
         Self::open(alloc, config, limit, None, None)
     }
 
-    /// The same, tied by a book that is new: an append takes no longer where much was appended before.
+    /// The same, tied by a new book: an append takes no longer after many others.
     ///
     /// # Errors
     ///
-    /// Want of memory.
+    /// Out of memory.
     pub fn tied(
         alloc: Global,
         opened: Opened,
@@ -123,8 +123,8 @@ impl<N: Naming> Journal<N> {
         self.entries.len() as u64
     }
 
-    /// The trace is a run's, in which what was got was sent, and the limit is kept. Does nothing: it is called where a
-    /// proof needs one of these.
+    /// The trace is a run's, in which received frames were sent, and the limit is kept. Does nothing: a caller calls
+    /// it if a proof needs one of these.
     pub fn note_run(&self)
         ensures run { IsRun N.config self.now.trace }
         ensures carried { Carried N.config self.now.trace }
@@ -133,7 +133,8 @@ impl<N: Naming> Journal<N> {
         let _ = &self.limit;
     }
 
-    /// The trace, the oldest entry first, of which none stays. It is a run's, in which what was got was sent.
+    /// The trace, the oldest entry first, which leaves the journal. It is a run's, in which received frames were
+    /// sent.
     pub fn take(&mut self, alloc: Global) -> Vec<Entry>
         ensures trace { reverse result.items ≡ self.old.trace }
         ensures run { IsRun N.config (reverse result.items) }
@@ -144,7 +145,7 @@ impl<N: Naming> Journal<N> {
         mem::replace(&mut self.entries, Vec::new(alloc))
     }
 
-    /// Whether the share's history is what the journal has of its party.
+    /// Whether the share's history is the journal's history of its party.
     pub fn agrees(&self, share: &Share<N>) -> bool
         ensures { IsTrue result ↔ Agrees self.now share.now }
     {
@@ -157,7 +158,7 @@ impl<N: Naming> Journal<N> {
         )
     }
 
-    // Whether the share of ordering has what the share has, which the journal has.
+    // Whether the share of ordering has the entries of ordering of the share, which agrees with the journal.
     fn are_alike(&self, share: &Share<N>, order: &OrderShare<N>) -> bool
         requires { Agrees self.now share.now }
         ensures { IsTrue result ↔ AreAlike share.now order.now }
@@ -172,7 +173,8 @@ impl<N: Naming> Journal<N> {
             )
     }
 
-    // Whether the journal has the share's history, and what the event got is carried.
+    // Whether the share's history is the journal's, and the bytes that the event received were sent or may come from
+    // anywhere.
     fn is_in_step(&self, share: &Share<N>, from: Option<u64>, entries: &[Entry]) -> bool
         ensures { IsTrue result ↔ InStep N.config self.now share.now from entries.now }
     {
@@ -192,13 +194,14 @@ impl<N: Naming> Journal<N> {
         entries.len() <= self.limit as usize - self.entries.len()
     }
 
-    /// Appends an event of the share's party, the oldest entry first. At `from` the frame was sent that it got.
+    /// Appends an event of the share's party, the oldest entry first. `from` is the position at which the received
+    /// frame was sent.
     ///
     /// # Errors
     ///
-    /// NotInJournal exactly where the journal has another history of the party, or what was got was not sent there
-    /// and may not come from anywhere; JournalFull exactly where else the limit would be passed; and want of memory.
-    /// Nothing is changed then.
+    /// NotInJournal exactly if the journal has another history of the party, or the received bytes were not sent
+    /// there and may not come from anywhere. JournalFull exactly if neither holds and the limit would be passed.
+    /// NoMemory if memory runs out. An error changes nothing.
     pub fn append(
         &mut self,
         alloc: Global,
@@ -207,7 +210,7 @@ impl<N: Naming> Journal<N> {
         entries: Vec<Entry>,
     ) -> Result<(), AppendFault>
         requires event { IsEventOf share.old.party entries.items }
-        requires right { IsRight N.config share.old.party (behind entries.items share.old.history) }
+        requires right { IsRight N.config share.old.party (after_entries entries.items share.old.history) }
         ensures taken { OnOk result (self.new ≡ longer self.old entries.items) }
         ensures kept { OnOk result (share.new ≡ longer_part share.old entries.items) }
         ensures refused { OnErr result (self.new ≡ self.old) }
@@ -238,12 +241,12 @@ impl<N: Naming> Journal<N> {
         }
     }
 
-    /// The same of an ordering thread, whose share of ordering lies behind another lock: it has to have the share's
-    /// history without reads, and grows by what the event has of ordering.
+    /// The same for an ordering thread, whose share of ordering has a lock of its own. That share must have the
+    /// share's history without reads, and the event's entries of ordering are appended to it.
     ///
     /// # Errors
     ///
-    /// As of `append`; NotInJournal also where the two shares differ.
+    /// As of `append`; NotInJournal also if the two shares differ.
     pub fn append_order(
         &mut self,
         alloc: Global,
@@ -254,7 +257,7 @@ impl<N: Naming> Journal<N> {
     ) -> Result<(), AppendFault>
         requires event { IsEventOf share.old.party entries.items }
         requires right { AreAlike share.old order.old
-            → IsRight N.config share.old.party (behind entries.items share.old.history) }
+            → IsRight N.config share.old.party (after_entries entries.items share.old.history) }
         ensures taken { OnOk result (self.new ≡ longer self.old entries.items) }
         ensures kept { OnOk result (share.new ≡ longer_part share.old entries.items) }
         ensures ordered { OnOk result (order.new ≡ longer_part order.old (without_reads entries.items)) }

@@ -1,4 +1,4 @@
-//! Whether a journal and its shares have the same: known by the tie, or else compared whole.
+//! Whether a journal and its shares agree: known by the tie, or else found by comparing them whole.
 
 ghost use Rattle.std.specs.Prelude.{◌≡◌, ◌↔◌, IsTrue, reverse};
 ghost use Rattle.terms.specs.Parties.{party_number};
@@ -14,7 +14,7 @@ use crate::tie::{Tie, is_known, is_ordering_known};
 use events::Entry;
 use terms::Party;
 
-/// Whether the history is what the trace has of the party.
+/// Whether the history is the trace's history of the party.
 pub(crate) fn agree<N: Naming>(
     tie: &Option<Tie<N>>,
     trace: &[Entry],
@@ -29,7 +29,7 @@ pub(crate) fn agree<N: Naming>(
     is_known(tie, party, seen) || is_history(trace, party.number(), history)
 }
 
-/// Whether the ordering is what the history, which the trace has of the party, has without reads.
+/// Whether the ordering is the history without reads. The history is the trace's of the party.
 pub(crate) fn are_alike<N: Naming>(
     tie: &Option<Tie<N>>,
     party: Party,

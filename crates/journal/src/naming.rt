@@ -1,9 +1,9 @@
-//! Which configuration a cluster is of.
+//! The configuration and the book of a cluster.
 
 use std::marker::Brand;
 
-/// Names the configuration, and the book, of all that the locks of a cluster hold: nothing is known of a value behind
-/// a lock but its type. It stands in contracts alone. A program picks it by passing [`Brand`].
+/// Names the configuration, and the book, of all values behind the locks of a cluster. Contracts know of a locked
+/// value only its type. The name stands in contracts alone; a program picks it by passing [`Brand`].
 pub trait Naming {
     ghost use Rattle.protocol.specs.System.Configuration.{Configuration};
     ghost use Rattle.logbook.specs.Pages.{Book};

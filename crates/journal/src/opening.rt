@@ -16,7 +16,7 @@ use events::Config;
 use std::alloc::Global;
 use terms::{FIRST_CLIENT, NoMemory};
 
-/// A share for each correct party, which saw an empty journal.
+/// A share for each correct party, tied to an empty journal.
 pub(crate) fn new_shares<N: Naming>(
     alloc: Global,
     config: &Config,
@@ -51,7 +51,7 @@ pub(crate) fn new_order_shares<N: Naming>(
     Ok(shares)
 }
 
-// Adds a share for each correct one of the parties from one number up to another.
+// Adds a share for each correct party from one number up to another.
 fn add_shares<N: Naming>(
     alloc: Global,
     config: &Config,

@@ -1,4 +1,4 @@
-//! What an ordering thread keeps of the journal.
+//! The part of the journal that an ordering thread keeps.
 
 ghost use Rattle.std.specs.Prelude.{◌≡◌, [], true, reverse, IfSome};
 ghost use Rattle.terms.specs.Parties.{party_number};
@@ -13,7 +13,7 @@ use std::marker::{Model, PhantomData};
 use std::mem;
 use terms::Party;
 
-/// A correct replica's entries without those of reads, which its read thread appends beside.
+/// A correct replica's entries without those of reads, which its read thread appends.
 #[derive(Drop)]
 pub struct OrderShare<N: Naming> {
     pub(crate) party: Party,
@@ -42,7 +42,7 @@ impl<N: Naming> Model for OrderShare<N> {
 }
 
 impl<N: Naming> OrderShare<N> {
-    // The share of a replica that has done nothing, and what it saw of an empty journal.
+    // The share of a replica that has done nothing, with the events of an empty journal.
     pub(crate) fn new(alloc: Global, party: Party, seen: Option<Front<N>>) -> OrderShare<N>
         requires party { is_correct_replica N.config (party_number party) ≡ true }
         requires seen { IfSome seen (λ front. front ≡ []) }
@@ -64,7 +64,7 @@ impl<N: Naming> OrderShare<N> {
         OrderShare::new(alloc, party, None)
     }
 
-    /// The share, of which one with no entries stays.
+    /// The share; one without entries stays.
     pub fn take(&mut self, alloc: Global) -> OrderShare<N>
         ensures taken { result ≡ self.old }
         ensures left { self.new ≡ fresh self.old.party }
@@ -79,7 +79,7 @@ impl<N: Naming> OrderShare<N> {
         }
     }
 
-    /// Whose it is.
+    /// The party of the share.
     pub fn party(&self) -> Party
         ensures value { party_number result ≡ self.now.party }
         ensures correct { is_correct_replica N.config self.now.party ≡ true }

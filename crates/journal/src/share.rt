@@ -1,4 +1,4 @@
-//! What a party keeps of the journal.
+//! The part of the journal that a party keeps.
 
 ghost use Rattle.std.specs.Prelude.{◌≡◌, [], true, reverse, IfSome};
 ghost use Rattle.terms.specs.Parties.{party_number};
@@ -45,7 +45,7 @@ impl<N: Naming> Model for Share<N> {
 }
 
 impl<N: Naming> Share<N> {
-    // The share of a party that has done nothing, and what it saw of an empty journal.
+    // The share of a party that has done nothing, with the events of an empty journal.
     pub(crate) fn new(alloc: Global, party: Party, seen: Option<Front<N>>) -> Share<N>
         requires party { is_correct N.config (party_number party) ≡ true }
         requires seen { IfSome seen (λ front. front ≡ []) }
@@ -67,7 +67,7 @@ impl<N: Naming> Share<N> {
         Share::new(alloc, party, None)
     }
 
-    /// The share, of which one with no entries stays.
+    /// The share; one without entries stays.
     pub fn take(&mut self, alloc: Global) -> Share<N>
         ensures taken { result ≡ self.old }
         ensures left { self.new ≡ fresh self.old.party }
@@ -82,7 +82,7 @@ impl<N: Naming> Share<N> {
         }
     }
 
-    /// Whose it is.
+    /// The party of the share.
     pub fn party(&self) -> Party
         ensures value { party_number result ≡ self.now.party }
         ensures correct { is_correct N.config self.now.party ≡ true }
@@ -90,7 +90,7 @@ impl<N: Naming> Share<N> {
         self.party
     }
 
-    /// The history is a correct party's, and right. Does nothing: it is called where a proof needs the fact.
+    /// The history is a correct party's, and right. Does nothing: a caller calls it if a proof needs the fact.
     pub fn note_right(&self)
         ensures correct { is_correct N.config self.now.party ≡ true }
         ensures right { IsRight N.config self.now.party self.now.history }

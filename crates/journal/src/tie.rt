@@ -1,5 +1,5 @@
-//! What ties a journal and its shares, so that an append needn't compare them whole. It only says where they are
-//! known to agree, and says nothing where they don't.
+//! The tie of a journal and its shares, so that an append needn't compare them whole. It only says if they are known
+//! to agree, and says nothing if they aren't.
 
 ghost use Rattle.std.specs.Prelude.{◌≡◌, [], Some, IfSome, OnSome, IfOk, IsTrue, slice_get};
 ghost use Rattle.terms.specs.Parties.{party_number};
@@ -15,8 +15,8 @@ use std::alloc::Global;
 use std::marker::Model;
 use terms::{FIRST_CLIENT, NoMemory, Party};
 
-/// A journal's end: its book, its events, and by each party's number how many events there are up to its last one,
-/// and up to its last one of ordering.
+/// A journal's book and its events. For each party, by its number, it has the count of events up to the party's last
+/// one, and up to its last one of ordering.
 #[derive(Drop)]
 pub(crate) struct Tie<N: Naming> {
     book: Book<N>,
@@ -36,14 +36,14 @@ impl<N: Naming> Model for Tie<N> {
     ghost view = { λ t. record { events = t.front; lasts = t.lasts.items; ordered = t.ordered.items } };
 }
 
-// The number that stands at the party's.
+// The number of this party.
 fn last_of(lasts: &[u64], party: Party) -> Option<u64>
     ensures { result ≡ slice_get lasts.now (party_number party) }
 {
     lasts.get(usize::from(party.number())).copied()
 }
 
-// Whether what was seen begins the whole, and has that many events.
+// Whether `seen` begins `whole`, and has at least `last` events.
 fn reaches<N: Naming>(seen: &Front<N>, whole: &Front<N>, last: Option<u64>) -> bool
     ensures { IsTrue result → Reaches seen.now whole.now last }
 {
@@ -85,7 +85,7 @@ impl<N: Naming> Tie<N> {
         reaches(seen, &self.front, last_of(self.ordered.as_slice(), party))
     }
 
-    // Adds an event of the party, and gives all that there is then.
+    // Adds an event of the party, and gives all events.
     fn add(&mut self, party: Party, event: &Vec<Entry>) -> Option<Front<N>>
         ensures all { IfSome result (λ front. front ≡ self.new.events) }
         ensures adds { OnSome result (AddsEvent (party_number party) event.now.items self.old self.new) }
@@ -106,7 +106,7 @@ impl<N: Naming> Tie<N> {
     }
 }
 
-/// Whether what was seen of the party is known to be all that the journal has.
+/// Whether `seen` is known to have all of the party's entries.
 pub(crate) fn is_known<N: Naming>(
     tie: &Option<Tie<N>>,
     party: Party,
@@ -120,7 +120,7 @@ pub(crate) fn is_known<N: Naming>(
     }
 }
 
-/// The same of its ordering.
+/// The same, of the party's entries of ordering.
 pub(crate) fn is_ordering_known<N: Naming>(
     tie: &Option<Tie<N>>,
     party: Party,
@@ -134,7 +134,7 @@ pub(crate) fn is_ordering_known<N: Naming>(
     }
 }
 
-/// Adds an event of the party, and gives all that there is then. Where it can't, nothing is tied any more.
+/// Adds an event of the party, and gives all events. If that fails, nothing is tied any more.
 pub(crate) fn tie_event<N: Naming>(
     tie: Option<Tie<N>>,
     party: Party,

@@ -13,7 +13,7 @@ use Rattle.tuple_text.specs.Lines.{name, IsSkipped, IsComment}
 use Rattle.tuple_text.specs.Faults.{Refuses, IsBadAt, Begins, EndsTooLong, KeepsBoth}
 use Rattle.tuple_text.specs.declared.faults.LineFault.TheVariants.{BadByte, NoMemory}
 use Rattle.one_space.specs.Pieces.{TakesPiece}
-use Rattle.one_space.specs.NextLines.{Gives, Fails, IsJudged, IsRefused}
+use Rattle.one_space.specs.NextLines.{GivesLine, Fails, IsJudged, IsRefused}
 use Rattle.one_space.specs.declared.pieces.PieceEnd.TheVariants.{Full, LineFeed, InputEnd}
 use Rattle.one_space.specs.declared.input.NextLine.{NextLine}
 use Rattle.one_space.specs.declared.input.NextLine.TheVariants as next
@@ -147,7 +147,7 @@ refused_part p q ys blank many clean some other =
       },
     )
 
--- Of the bytes before, and those behind them, blanks were dropped, and then stand those after.
+-- Blanks were dropped in front of the bytes before and those read after them. Then these bytes are kept.
 pub record Drops (xs : List ℕ) (left : Option (List ℕ)) (before after : List ℕ) : Type 0 where
   pub blanks : List ℕ
   pub rest : List ℕ
@@ -161,7 +161,7 @@ pub drops_nothing : (start : Option (List ℕ)) (before : List ℕ) → 0 < leng
 drops_nothing None before some = tt
 drops_nothing (Some xs) before some = record { blanks = []; rest = xs; are = tt; whole = refl; clean = λ h. h; some = some; left_is = refl }
 
--- a full part, of which all but the last byte is dropped
+-- a full piece, of which all but the last byte is dropped
 drops_part : (xs before mid full after : List ℕ) (known left : Option (List ℕ)) (limit : ℕ) → Drops xs known before mid → IfSome known (λ ys. TakesPiece (Some Full) limit ys left mid full)
     → AreBlanks (take (length full - 1) full) → after ≡ drop (length full - 1) full → Drops xs left before after
 drops_part xs before mid full after known left limit d taken blank kept =
@@ -188,7 +188,7 @@ pub drops_more : (start known left : Option (List ℕ)) (before mid full after :
 drops_more None known left before mid full after limit d taken blank kept = tt
 drops_more (Some xs) known left before mid full after limit d taken blank kept = drops_part xs before mid full after known left limit d taken blank kept
 
--- what is said of the line that begins with the blanks p, goes on with the bytes before, and then with those behind
+-- Said holds of the line of the blanks p, the bytes before, and the bytes that are left
 abbrev pub OfBlanks : Option (List ℕ) → List ℕ → (List ℕ → Type 0) → Type 0
 OfBlanks start before Said = IfSome start (λ ys. (p : List ℕ) → AreBlanks p → 65537 ≤ length p → NoLineFeed before → Said (p ++ (before ++ ys)))
 
@@ -216,7 +216,7 @@ abbrev pub EndJudged : Result NextLine NoLine → List ℕ → Type 0
 EndJudged r l = (p : List ℕ) → AreBlanks p → 65537 ≤ length p → MatchResult r (λ given. IsJudged given (p ++ l)) (λ failed. IsRefused failed (p ++ l))
 
 abbrev pub Answers : Option (List ℕ) → Result NextLine NoLine → List ℕ → Type 0
-Answers left r xs = MatchResult r (λ given. Gives given xs left) (λ failed. Fails failed xs)
+Answers left r xs = MatchResult r (λ given. GivesLine given xs left) (λ failed. Fails failed xs)
 
 end_at : (xs before mid full : List ℕ) (known left : Option (List ℕ)) (limit : ℕ) (r : Result NextLine NoLine)
     → Drops xs known before mid → IfSome known (λ ys. TakesPiece (Some LineFeed) limit ys left mid full) → EndJudged r (strip_carriage_return full)
@@ -305,7 +305,7 @@ pub refused_first : (start : Option (List ℕ)) (line : List ℕ) → 65538 ≤ 
 refused_first None line long blank other = tt
 refused_first (Some ys) line long blank other = refused_front 65537 line ys (omega arith) (omega (arith, long)) blank other
 
--- Such a line goes on behind its first blanks.
+-- Such a line goes on after its first blanks.
 pub goes_on : (start left : Option (List ℕ)) (line after : List ℕ) (r : Result NextLine NoLine) → 65538 ≤ length line → AreBlanks (take (length line - 1) line)
     → after ≡ drop (length line - 1) line → OfBlanks start after (Answers left r) → IfSome start (λ ys. NoLineFeed line → Answers left r (line ++ ys))
 goes_on None left line after r long blank kept told = tt

@@ -23,7 +23,7 @@ lines-at p ys clean = ap lines_of_parts (slice_split_at (λ b. b == 10) p 10 ys 
 pub lines-last : (p : List ℕ) → NoLineFeed p → 0 < length p → lines p ≡ p ∷ []
 lines-last p clean some = ap lines_of_parts (slice_split_none (λ b. b == 10) p clean) ∙ rw (ne_eqb (length p) 0 (omega arith)) refl
 
--- the rest of a line, and what follows it
+-- the rest of a line, and the bytes after it
 pub record LineRest (ys : List ℕ) : Type 0 where
   pub part : List ℕ
   pub one_line : NoLineFeed part
@@ -62,7 +62,7 @@ strip-keeps l n long = at (get_or l (length l - 1) 0 == 13)
     at true = (take-take n (length l - 1) l (omega arith), omega (arith, length-take-le (length l - 1) l (omega arith)))
     at false = (refl, omega arith)
 
--- the first line of bytes that begin with a part of it, of which the first n bytes are known
+-- the first line of p and ys; p begins it, and the first n bytes are those of p
 pub record LongLine (p ys : List ℕ) (n : ℕ) : Type 0 where
   pub line : List ℕ
   pub split : lines (p ++ ys) ≡ line ∷ lines (drop_through 10 ys)

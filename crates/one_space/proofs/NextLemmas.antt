@@ -8,7 +8,7 @@ use Rattle.tuple_text.specs.Faults.{Faults, Passes, StopsAt, Begins, EndsTooLong
 use Rattle.tuple_text.specs.declared.faults.LineFault.{LineFault}
 use Rattle.tuple_text.specs.declared.faults.LineFault.TheVariants.{BadByte, TooDeep, TooManyFields, TooLong, NoMemory}
 use Rattle.one_space.specs.Pieces.{TakesPiece}
-use Rattle.one_space.specs.NextLines.{IsNextLine, BeginsWith, Gives, Fails, IsJudged, IsRefused}
+use Rattle.one_space.specs.NextLines.{IsNextLine, BeginsWith, GivesLine, Fails, IsJudged, IsRefused}
 use Rattle.one_space.specs.declared.pieces.PieceEnd.TheVariants.{Full, LineFeed, InputEnd}
 use Rattle.one_space.specs.declared.input.NextLine.{NextLine}
 use Rattle.one_space.specs.declared.input.NextLine.TheVariants as next
@@ -43,7 +43,7 @@ module _ (limit : ℕ) (xs : List ℕ) (left : Option (List ℕ)) (line : List �
       empty (x ∷ l) e = absurd (omega arith)
 
 module _ (l xs : List ℕ) where
-  pub given_of : (left : Option (List ℕ)) (given : NextLine) → IsNextLine l xs left → IsJudged given l → Gives given xs left
+  pub given_of : (left : Option (List ℕ)) (given : NextLine) → IsNextLine l xs left → IsJudged given l → GivesLine given xs left
   given_of left next.End first judged = absurd judged
   given_of left next.Skipped first judged = (l, first, judged)
   given_of left (next.Operation op) first judged = (l, first, judged)
@@ -55,21 +55,21 @@ module _ (l xs : List ℕ) where
 
   pub judged_of : (left : Option (List ℕ)) (r : Result NextLine NoLine) → IsNextLine l xs left
       → MatchResult r (λ given. IsJudged given l) (λ failed. IsRefused failed l)
-      → MatchResult r (λ given. Gives given xs left) (λ failed. Fails failed xs)
+      → MatchResult r (λ given. GivesLine given xs left) (λ failed. Fails failed xs)
   judged_of left (Ok given) first judged = given_of left given first judged
   judged_of left (Err failed) first judged = failed_of (lines first.rest) failed first.split judged
 
 pub judged_at : (start left : Option (List ℕ)) (limit : ℕ) (line : List ℕ) (r : Result NextLine NoLine)
     → IfSome start (λ xs. TakesPiece (Some LineFeed) limit xs left [] line)
     → MatchResult r (λ given. IsJudged given (strip_carriage_return line)) (λ failed. IsRefused failed (strip_carriage_return line))
-    → IfSome start (λ xs. MatchResult r (λ given. Gives given xs left) (λ failed. Fails failed xs))
+    → IfSome start (λ xs. MatchResult r (λ given. GivesLine given xs left) (λ failed. Fails failed xs))
 judged_at None left limit line r taken judged = tt
 judged_at (Some xs) left limit line r taken judged = judged_of (strip_carriage_return line) xs left r (begins_at limit xs left line taken) judged
 
 pub judged_last : (start left : Option (List ℕ)) (limit : ℕ) (line : List ℕ) (r : Result NextLine NoLine) → 0 < length line
     → IfSome start (λ xs. TakesPiece (Some InputEnd) limit xs left [] line)
     → MatchResult r (λ given. IsJudged given line) (λ failed. IsRefused failed line)
-    → IfSome start (λ xs. MatchResult r (λ given. Gives given xs left) (λ failed. Fails failed xs))
+    → IfSome start (λ xs. MatchResult r (λ given. GivesLine given xs left) (λ failed. Fails failed xs))
 judged_last None left limit line r some taken judged = tt
 judged_last (Some xs) left limit line r some taken judged = judged_of line xs left r (begins_last limit xs left line taken some) judged
 

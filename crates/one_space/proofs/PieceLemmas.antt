@@ -1,4 +1,4 @@
--- Parts of a line, one behind the other.
+-- Parts of a line, one after the other.
 use Rattle.std.proofs.Common.{◌≡◌, ℕ, ◌+◌, ◌<◌, ◌≤◌, ◌==◌, Bool, true, false, List, [], ◌∷◌, ◌++◌, Option, None, Some, IfSome, OnSome, Result, Ok, nat_lt, length, take, get_or, refl, sym, ap, subst, ◌∙◌, arith, append_assoc, append-nil, length-take-le, ne_eqb, take-take, ltb-true, ltb-false, add-zero}
 use Rattle.std.proofs.lemmas.List.Elements.{All-nil, All-append}
 use Rattle.std.proofs.lemmas.List.{take_more, get_or-take, get_or_default}
@@ -21,7 +21,7 @@ takes_nothing limit xs before left e = record {
   ending = tt;
 }
 
--- one part behind another
+-- one part after another
 pub takes_more : (step : Option PieceEnd) (limit : ℕ) (xs before mid after : List ℕ) (known left : Option (List ℕ))
     → TakesPiece None limit xs known before mid → IfSome known (λ ys. TakesPiece step limit ys left mid after) → TakesPiece step limit xs left before after
 takes_more step limit xs before mid after known left first second =

@@ -1,4 +1,4 @@
--- A run so far.
+-- A run up to one of its lines.
 use Rattle.std.proofs.Common.{◌≡◌, ℕ, ◌+◌, ◌^◌, ◌<◌, ◌≤◌, Bool, true, false, cond, List, [], ◌++◌, Option, None, Some, IfSome, IfOk, Result, Ok, Err, MatchResult, MatchBool, OnOk, IfErr, ◌==◌, refl, sym, ap, subst, ◌∙◌, arith, append_assoc, append-nil}
 use Rattle.std.specs.Str.Lines.{lines}
 use Rattle.std.specs.Io.KnownBytes.{Appends, prepend_known}
@@ -12,7 +12,7 @@ use Rattle.tuple_text.specs.declared.faults.LineFault.TheVariants.{TooLong}
 use Rattle.space.specs.Applying.{Contents, outcome, tuples_after}
 use Rattle.space.specs.Births.{SpaceState, tuples_of, state_after}
 use Rattle.one_space.specs.Run.{Ending, complete, refused_at, cut_short, result_line, Runs, at_end, stops, skips, answers, refuses, is_late}
-use Rattle.one_space.specs.NextLines.{Gives, Fails, BeginsWith, IsNextLine}
+use Rattle.one_space.specs.NextLines.{GivesLine, Fails, BeginsWith, IsNextLine}
 use Rattle.one_space.specs.declared.pieces.ReadFault.{ReadFault}
 use Rattle.one_space.specs.declared.pieces.ReadFault.TheVariants as pieces
 use Rattle.one_space.specs.Endings.{Along, AddsResults, StopsBy, MovesOn, IsWriteFault, fault_at, read_fault_of}
@@ -51,7 +51,7 @@ module _ (initial : Contents) (bytes : List ℕ) (known old new : Option (List �
   failed no.NoMemory below f = cut
   failed (no.Read error) below f = cut
 
-  pub past_skipped : (left : Option (List ℕ)) → n < 2 ^ 48 → Gives next.Skipped along.rest left → Along initial bytes left old new (n + 1) ts pending
+  pub past_skipped : (left : Option (List ℕ)) → n < 2 ^ 48 → GivesLine next.Skipped along.rest left → Along initial bytes left old new (n + 1) ts pending
   past_skipped left below given = record {
     rest = given.1.rest;
     done = along.done;
@@ -75,7 +75,7 @@ module _ (initial : Contents) (bytes : List ℕ) (known old new : Option (List �
         answered;
   }
 
--- A front of what was pending went to the writer.
+-- The first pending bytes went to the writer.
 pub moved : (initial : Contents) (bytes : List ℕ) (known old new written : Option (List ℕ)) (n : ℕ) (ts : Contents) (pending still : List ℕ)
     → Along initial bytes known old new n ts pending → MovesOn new written pending still → Along initial bytes known old written n ts still
 moved initial bytes known old new written n ts pending still along moves = record {
@@ -98,7 +98,7 @@ moves_all old new held still appended none = record {
   split = ap (λ l. held ++ l) none ∙ append-nil held;
 }
 
--- what a step of the run says of the bytes that are left, where they are known
+-- a property of the bytes left, if these are known
 pub known_of : (P : List ℕ → Type 0) (initial : Contents) (bytes : List ℕ) (known old new : Option (List ℕ)) (n : ℕ) (ts : Contents) (pending : List ℕ)
     (along : Along initial bytes known old new n ts pending) → IfSome known P → P along.rest
 known_of P initial bytes known old new n ts pending along h = subst (λ o. IfSome o P) along.known_is h
@@ -113,22 +113,22 @@ pub at_number : (initial : Contents) (start known old new : Option (List ℕ)) (
 at_number initial start known old new n m ts pending e h =
     subst (λ k. IfSome start (λ bytes. Along initial bytes known old new k ts pending)) e h
 
--- an operation raises the next birth number by 257 at the most
+-- an operation raises the next birth number by at most 257
 pub state_after_next : (s : SpaceState) (o : Operation) → (state_after s 0 o).next ≤ s.next + 257
 state_after_next s o = omega (arith, next_after s 0 o)
 
--- What reading the next line tells of the bytes that are left.
+-- The bytes left, after the next line was read.
 module _ (initial : Contents) (bytes : List ℕ) (known old new : Option (List ℕ)) (n : ℕ) (ts : Contents) (pending : List ℕ) (along : Along initial bytes known old new n ts pending)
-    (left : Option (List ℕ)) (result : Result NextLine NoLine) (read : IfSome known (λ xs. MatchResult result (λ x. Gives x xs left) (λ why. Fails why xs))) where
-  told : MatchResult result (λ x. Gives x along.rest left) (λ why. Fails why along.rest)
-  told = known_of (λ xs. MatchResult result (λ x. Gives x xs left) (λ why. Fails why xs)) initial bytes known old new n ts pending along read
+    (left : Option (List ℕ)) (result : Result NextLine NoLine) (read : IfSome known (λ xs. MatchResult result (λ x. GivesLine x xs left) (λ why. Fails why xs))) where
+  told : MatchResult result (λ x. GivesLine x along.rest left) (λ why. Fails why along.rest)
+  told = known_of (λ xs. MatchResult result (λ x. GivesLine x xs left) (λ why. Fails why xs)) initial bytes known old new n ts pending along read
 
-  gives : (field x : NextLine) → result ≡ Ok field → field ≡ x → Gives x along.rest left
+  gives : (field x : NextLine) → result ≡ Ok field → field ≡ x → GivesLine x along.rest left
   gives field x e f =
-      subst (λ y. Gives y along.rest left) f (subst (λ r. MatchResult r (λ y. Gives y along.rest left) (λ why. Fails why along.rest)) e told)
+      subst (λ y. GivesLine y along.rest left) f (subst (λ r. MatchResult r (λ y. GivesLine y along.rest left) (λ why. Fails why along.rest)) e told)
 
   fails : (why : NoLine) → result ≡ Err why → Fails why along.rest
-  fails why e = subst (λ r. MatchResult r (λ y. Gives y along.rest left) (λ why. Fails why along.rest)) e told
+  fails why e = subst (λ r. MatchResult r (λ y. GivesLine y along.rest left) (λ why. Fails why along.rest)) e told
 
   pub ends : (field : NextLine) → result ≡ Ok field → field ≡ next.End → AddsResults initial bytes complete old new pending
   ends field e f = at_last initial bytes known old new n ts pending along (gives field next.End e f)
@@ -156,7 +156,7 @@ module _ (initial : Contents) (bytes : List ℕ) (known old new : Option (List �
   stops_keeping still e =
       subst (λ p. AddsResults initial bytes cut_short old new p) (sym e) (cut initial bytes known old new n ts pending along)
 
--- What is left behind the last line that there may be.
+-- The bytes left after the last possible line.
 module _ (initial : Contents) (bytes : List ℕ) (known old new : Option (List ℕ)) (n : ℕ) (ts : Contents) (pending : List ℕ)
     (along : Along initial bytes known old new n ts pending) (result : Result Bool ReadFault)
     (more : IfSome known (λ xs. IfOk result (λ is_more.
@@ -204,7 +204,7 @@ module _ (initial : Contents) (start old new written : Option (List ℕ)) (pendi
   written_at_fault fault h =
       each_known (λ bytes. StopsBy fault initial bytes old new pending) (λ bytes. StopsBy fault initial bytes old written []) start (λ bytes a. stops_written bytes fault a) h
 
--- nothing is promised where the writer failed
+-- nothing is promised if the writer failed
 pub write_stops : (initial : Contents) (bytes : List ℕ) (old written : Option (List ℕ)) (left : List ℕ) (fault : LocalFault)
     → IsWriteFault fault → StopsBy fault initial bytes old written left
 write_stops initial bytes old written left (local.Refused line fault) h = absurd h
@@ -221,14 +221,14 @@ pub no_start : (initial : Contents) (start old : Option (List ℕ)) → IfSome s
 no_start initial None old = tt
 no_start initial (Some bytes) old = ([], stops, Appends-nil old)
 
--- The writer took what was pending, or failed.
+-- The writer took the pending bytes, or failed.
 pub ends_written : (initial : Contents) (start old new written : Option (List ℕ)) (pending : List ℕ) (result : Result (Unit {0}) LocalFault)
     → OnOk result (Appends new written pending) → IfErr result IsWriteFault → IfSome start (λ bytes. AddsResults initial bytes complete old new pending)
     → IfSome start (λ bytes. MatchResult result (λ _. AddsResults initial bytes complete old written []) (λ fault. StopsBy fault initial bytes old written []))
 ends_written initial start old new written pending (Ok u) a f h = written_at_last initial start old new written pending a complete h
 ends_written initial start old new written pending (Err fault) a f h = write_fault initial start old written [] fault f
 
--- What a run says of what the space held and of the bytes is so of what these are equal to.
+-- A property of contents and bytes holds of equal ones.
 pub of_equals : (P : Contents → List ℕ → Type 0) (from to : Contents) (known start : Option (List ℕ)) → from ≡ to → known ≡ start
     → IfSome known (P from) → IfSome start (P to)
 of_equals P from to known start e f h = subst (λ ts. IfSome start (P ts)) e (subst (λ s. IfSome s (P from)) f h)

@@ -1,4 +1,4 @@
--- A script that is read so far.
+-- A script up to one of its lines.
 use Rattle.std.proofs.Common.{◌≡◌, ℕ, ◌+◌, ◌^◌, ◌<◌, ◌≤◌, Bool, true, false, List, [], ◌∷◌, ◌++◌, Option, None, Some, IfSome, IfOk, Result, Ok, Err, MatchResult, MatchBool, Vec, refl, sym, ap, subst, ◌∙◌, append_assoc, append-nil, map, take, length, min, arith}
 use Rattle.std.proofs.lemmas.List.{map-append, length-map, length-append, length-take, take_all, take-append-le}
 use Rattle.std.specs.declared.alloc.Global.{Global}
@@ -8,7 +8,7 @@ use Rattle.tuple_codec.specs.OperationView.{operation_of}
 use Rattle.tuple_codec.specs.declared.operations.Op.{Op}
 use Rattle.tuple_text.specs.declared.faults.LineFault.TheVariants.{TooLong}
 use Rattle.one_space.specs.Run.{Ending, complete, refused_at}
-use Rattle.one_space.specs.NextLines.{Gives, Fails, BeginsWith}
+use Rattle.one_space.specs.NextLines.{GivesLine, Fails, BeginsWith}
 use Rattle.one_space.specs.Endings.{fault_at, read_fault_of}
 use Rattle.one_space.specs.Scripts.{Says, at_end, skips, calls, refuses, is_late, SaysSome, EndsBy, ReadSoFar, KeptSoFar, KeepsFirst, AreFirst}
 use Rattle.one_space.specs.declared.pieces.ReadFault.{ReadFault}
@@ -28,7 +28,7 @@ starts most (Some bytes) ops empty =
       first = ap (map operation_of) empty ∙ sym (take_all most [] (omega arith));
     }
 
--- What one more operation makes of the first ones.
+-- The first operations, after one more.
 module _ (most : ℕ) (xs : List (Op Global)) (op : Op Global) (all : List Operation) (first : map operation_of xs ≡ take most all) where
   counted : length xs ≡ min most (length all)
   counted = sym (length-map xs operation_of) ∙ ap length first ∙ length-take most all
@@ -45,22 +45,22 @@ module _ (most : ℕ) (xs : List (Op Global)) (op : Op Global) (all : List Opera
       let long : most ≤ length all = omega (arith, counted, full) in
       ap (map operation_of) same ∙ first ∙ sym (take-append-le most all (operation_of op ∷ []) long)
 
--- What reading the next line tells of the bytes that are left.
+-- The bytes left, after the next line was read.
 module _ (most : ℕ) (bytes : List ℕ) (known : Option (List ℕ)) (n : ℕ) (old : Vec (Op Global) Global) (before : KeptSoFar most bytes known n old)
     (left : Option (List ℕ)) (result : Result NextLine NoLine)
-    (read : IfSome known (λ xs. MatchResult result (λ x. Gives x xs left) (λ why. Fails why xs))) where
+    (read : IfSome known (λ xs. MatchResult result (λ x. GivesLine x xs left) (λ why. Fails why xs))) where
   so_far : ReadSoFar bytes known n before.all
   so_far = before.so_far
 
-  told : MatchResult result (λ x. Gives x so_far.rest left) (λ why. Fails why so_far.rest)
-  told = subst (λ o. IfSome o (λ xs. MatchResult result (λ x. Gives x xs left) (λ why. Fails why xs))) so_far.known_is read
+  told : MatchResult result (λ x. GivesLine x so_far.rest left) (λ why. Fails why so_far.rest)
+  told = subst (λ o. IfSome o (λ xs. MatchResult result (λ x. GivesLine x xs left) (λ why. Fails why xs))) so_far.known_is read
 
-  gives : (field x : NextLine) → result ≡ Ok field → field ≡ x → Gives x so_far.rest left
+  gives : (field x : NextLine) → result ≡ Ok field → field ≡ x → GivesLine x so_far.rest left
   gives field x e f =
-      subst (λ y. Gives y so_far.rest left) f (subst (λ r. MatchResult r (λ y. Gives y so_far.rest left) (λ why. Fails why so_far.rest)) e told)
+      subst (λ y. GivesLine y so_far.rest left) f (subst (λ r. MatchResult r (λ y. GivesLine y so_far.rest left) (λ why. Fails why so_far.rest)) e told)
 
   fails : (why : NoLine) → result ≡ Err why → Fails why so_far.rest
-  fails why e = subst (λ r. MatchResult r (λ y. Gives y so_far.rest left) (λ why. Fails why so_far.rest)) e told
+  fails why e = subst (λ r. MatchResult r (λ y. GivesLine y so_far.rest left) (λ why. Fails why so_far.rest)) e told
 
   ends_so : (ending : Ending) → Says n (lines so_far.rest) [] ending → Says 1 (lines bytes) before.all ending
   ends_so ending r = subst (λ os. Says 1 (lines bytes) os ending) (append-nil before.all) (so_far.leads [] ending r)
@@ -114,7 +114,7 @@ module _ (most : ℕ) (bytes : List ℕ) (known : Option (List ℕ)) (n : ℕ) (
   pub fails_so : (why : NoLine) → n < 2 ^ 48 → result ≡ Err why → EndsBy (fault_at n why) bytes
   fails_so why below e = failed why below (fails why e)
 
--- What is left behind the last line that there may be.
+-- The bytes left after the last possible line.
 module _ (most : ℕ) (bytes : List ℕ) (known : Option (List ℕ)) (n : ℕ) (old : Vec (Op Global) Global) (before : KeptSoFar most bytes known n old)
     (result : Result Bool ReadFault)
     (more : IfSome known (λ xs. IfOk result (λ is_more. MatchBool is_more (BeginsWith (λ _. Unit {0}) xs) (lines xs ≡ [])))) where

@@ -1,4 +1,4 @@
--- What standard error says, and the status that goes with it.
+-- The complaints on standard error, and their statuses.
 use Rattle.std.specs.Prelude.{◌≡◌, ℕ, List, ◌++◌, codes}
 use Rattle.std.specs.Fmt.{decimal}
 use Rattle.tuple_text.specs.declared.faults.LineFault.{LineFault}
@@ -11,7 +11,7 @@ use Rattle.one_space.specs.declared.digits.ShowFault.TheVariants as show
 use Rattle.one_space.specs.declared.complaints.Complaint.{Complaint}
 use Rattle.one_space.specs.declared.complaints.Complaint.TheVariants.{Line, Malformed, Step, Configuration, Unreadable, Stopped}
 
--- Only a byte at which no line goes on is named by its place.
+-- Only a byte that can't continue any valid line is named by its place.
 abbrev pub place_text : LineFault → List ℕ
 place_text (BadByte offset) = codes " at byte " ++ decimal offset
 place_text TooDeep = codes ""
@@ -28,7 +28,7 @@ complaint_text Configuration = codes "refused " ++ decimal configuration_refusal
 complaint_text (Unreadable path) = codes "cannot read " ++ path.now
 complaint_text Stopped = codes "stopped"
 
--- 1 for input that is refused or can't be read, 3 for a program that was stopped
+-- 1 for input that is refused or can't be read, 3 for a stopped program
 abbrev pub status_of : Complaint → ℕ
 status_of (Line number fault) = 1
 status_of Malformed = 1
@@ -37,7 +37,7 @@ status_of Configuration = 1
 status_of (Unreadable path) = 1
 status_of Stopped = 3
 
--- what is said of a run of the file at this path
+-- the complaint about a run of the file at this path
 abbrev pub OfLocal : LocalFault → List ℕ → Complaint → Type 0
 OfLocal (local.Refused line fault) path c = c ≡ Line line fault
 OfLocal (local.Read error) path c = (complaint_text c ≡ codes "cannot read " ++ path) × (status_of c ≡ 1)

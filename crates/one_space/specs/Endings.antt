@@ -1,4 +1,4 @@
--- What a run over a reader's bytes leaves with its writer.
+-- The output of a run over a reader's bytes.
 use Rattle.std.specs.Prelude.{◌≡◌, ℕ, List, [], ◌++◌, Option, Some, IfSome, Result, MatchResult, Contains}
 use Rattle.std.specs.Str.Lines.{lines}
 use Rattle.std.specs.Io.KnownBytes.{Appends}
@@ -11,8 +11,8 @@ use Rattle.one_space.specs.declared.pieces.ReadFault.TheVariants as pieces
 use Rattle.one_space.specs.declared.session.LocalFault.{LocalFault}
 use Rattle.one_space.specs.declared.session.LocalFault.TheVariants.{Refused, NoMemory, Read, Write}
 
--- The result lines of a run over the bytes that ends so were added, but for the last ones, which are pending. The run
--- begins with what the space holds initially.
+-- The result lines of a run over the bytes that has this ending were added, except the last ones, which are pending.
+-- The run begins with the initial contents of the space.
 abbrev pub AddsResults : Contents → List ℕ → Ending → Option (List ℕ) → Option (List ℕ) → List ℕ → Type 0
 AddsResults initial bytes ending old new pending =
     (done : List ℕ) × Runs 1 initial (lines bytes) (done ++ pending) ending × Appends old new done
@@ -31,7 +31,7 @@ EndsRun result initial bytes old new pending =
     (λ _. AddsResults initial bytes complete old new pending)
     (λ fault. StopsBy fault initial bytes old new pending)
 
--- A run over the reader's bytes ends, where they are known.
+-- If the reader's bytes are known, a run over them ended.
 abbrev pub EndsKnown : {W : Type 0} → (W → Option (List ℕ)) → Result (Unit {0}) LocalFault → Contents
     → Option (List ℕ) → W → W → List ℕ → Type 0
 EndsKnown contents result initial known old new pending =
@@ -43,8 +43,8 @@ fault_at line (no.Refused fault) = Refused line fault
 fault_at line no.NoMemory = NoMemory
 fault_at line (no.Read error) = Read error
 
--- What was written and is pending, and any run over the lines that are left from number n on, make a run from the
--- start, where the space held what it holds initially.
+-- The written bytes, the pending ones, and any run over the remaining lines from number n on make a run over all
+-- lines. It begins with the initial contents of the space.
 pub record Along
     (initial : Contents) (bytes : List ℕ) (known old new : Option (List ℕ)) (n : ℕ) (ts : Contents) (pending : List ℕ)
     : Type 0 where
@@ -61,7 +61,7 @@ pub record MovesOn (old new : Option (List ℕ)) (bytes left : List ℕ) : Type 
   pub wrote : Appends old new gone
   pub split : gone ++ left ≡ bytes
 
--- Results are held back only while a line is whole at hand, which is read without asking for more bytes.
+-- Results are held back only if a whole line is at hand. That line is read without asking for more bytes.
 abbrev pub HeldForLine : List ℕ → List ℕ → Type 0
 HeldForLine at_hand held = (Contains at_hand 10 → ⊥) → held ≡ []
 

@@ -1,4 +1,4 @@
--- What the private functions that read a line of more than one piece speak of.
+-- Definitions for the private functions that read a line of more than one piece.
 use Rattle.std.specs.Prelude.{◌≡◌, ℕ, ◌-◌, ◌≤◌, Bool, MatchBool, List, ◌++◌, length, take, drop, Option, IfSome, Result}
 use Rattle.tuple_text.specs.Texts.{AreBlanks}
 use Rattle.one_space.specs.NextLines.{ReadsLine, Judges}
@@ -6,18 +6,18 @@ use Rattle.one_space.specs.Pieces.{NoLineFeed}
 use Rattle.one_space.specs.declared.input.NextLine.{NextLine}
 use Rattle.one_space.specs.declared.input.NoLine.{NoLine}
 
--- The line that begins with this piece is read on, where the bytes left are known.
+-- The line that begins with this piece is read on, if the bytes left are known.
 abbrev pub ReadsOn : Result NextLine NoLine → List ℕ → Option (List ℕ) → Option (List ℕ) → Type 0
 ReadsOn result piece known left = IfSome known (λ ys. NoLineFeed piece → ReadsLine result (piece ++ ys) left)
 
--- The same behind more blanks than a line may have.
+-- The same, after more blanks than a line may have.
 abbrev pub ReadsBlanks : Result NextLine NoLine → List ℕ → Option (List ℕ) → Option (List ℕ) → Type 0
 ReadsBlanks result piece known left =
     IfSome known (λ ys.
     (blanks : List ℕ) → AreBlanks blanks → 65537 ≤ length blanks → NoLineFeed piece
     → ReadsLine result (blanks ++ (piece ++ ys)) left)
 
--- A whole line is judged that ends so behind them.
+-- A whole line is judged: l after more blanks than a line may have.
 abbrev pub JudgesBlanks : Result NextLine NoLine → List ℕ → Type 0
 JudgesBlanks result l =
     (blanks : List ℕ) → AreBlanks blanks → 65537 ≤ length blanks → Judges result (blanks ++ l)
@@ -29,7 +29,7 @@ but_last bytes = take (length bytes - 1) bytes
 abbrev pub last_of : List ℕ → List ℕ
 last_of bytes = drop (length bytes - 1) bytes
 
--- All but the last are dropped where they are blanks, and it is told whether they are.
+-- All but the last are dropped if they are blanks, and the result tells whether they are.
 abbrev pub DropsBlanks : Bool → List ℕ → List ℕ → Type 0
 DropsBlanks dropped old new =
     MatchBool dropped (AreBlanks (but_last old) × (new ≡ last_of old)) (AreBlanks (but_last old) → ⊥)

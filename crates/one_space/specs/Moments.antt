@@ -1,4 +1,4 @@
--- What the private functions of a run speak of: the run between two of its lines.
+-- Definitions for the private functions of a run: the run between two lines.
 use Rattle.std.specs.Prelude.{◌≡◌, ℕ, ◌+◌, ◌^◌, Bool, MatchBool, List, ◌++◌, Option, Result, OnOk, MatchResult, Vec}
 use Rattle.std.specs.Io.KnownBytes.{Appends}
 use Rattle.std.specs.declared.alloc.Global.{Global}
@@ -11,8 +11,8 @@ use Rattle.one_space.specs.Run.{complete, result_line}
 use Rattle.one_space.specs.declared.session.LocalFault.{LocalFault}
 use Rattle.one_space.specs.declared.session.Session.{Session}
 
--- the bytes that the reader has left and those that the writer has got, where they are known, the space's tuples, and
--- the results that are not written yet
+-- the bytes that the reader has left and those that the writer has, if they are known, the space's tuples, and the
+-- results that are not written
 pub record Moment : Type 0 where
   pub left : Option (List ℕ)
   pub written : Option (List ℕ)
@@ -36,13 +36,13 @@ RunsLine result n old new =
     (IsAt initial bytes start (n + 1) new) (AddsResults initial bytes complete start new.written new.pending))
     (λ fault. StopsBy fault initial bytes start new.written new.pending)
 
--- The run ends behind the last line that there may be.
+-- The run ends after the last possible line.
 abbrev pub EndsLines : Result (Unit {0}) LocalFault → Moment → Moment → Type 0
 EndsLines result old new =
     (initial : Contents) (bytes : List ℕ) (start : Option (List ℕ)) → IsAt initial bytes start (2 ^ 48) old
     → EndsRun result initial bytes start new.written new.pending
 
--- The result line of the operation is put behind the others.
+-- The result line of the operation is appended.
 abbrev pub AddsResult : {A : Type 0} → Op A → SpaceState → Vec ℕ Global → Vec ℕ Global → Type 0
 AddsResult op s old new = new.items ≡ old.items ++ result_line (outcome (tuples_of s) 0 (operation_of op))
 

@@ -1,4 +1,4 @@
--- What reading a line tells of the bytes that were left.
+-- The results of reading a line, by the bytes that were left.
 use Rattle.std.specs.Prelude.{◌≡◌, ◌≢◌, ℕ, Bool, MatchBool, List, [], ◌∷◌, Option, Some, IfSome, Result, MatchResult}
 use Rattle.std.specs.Str.Lines.{lines}
 use Rattle.tuple_codec.specs.OperationView.{operation_of}
@@ -12,34 +12,34 @@ use Rattle.one_space.specs.declared.input.NextLine.TheVariants as next
 use Rattle.one_space.specs.declared.input.NoLine.{NoLine}
 use Rattle.one_space.specs.declared.input.NoLine.TheVariants as no
 
--- l is the first line of the bytes xs, and ys is left behind it
+-- l is the first line of the bytes xs, and these bytes are left after it
 pub record IsNextLine (l xs : List ℕ) (left : Option (List ℕ)) : Type 0 where
   pub rest : List ℕ
   pub split : lines xs ≡ l ∷ lines rest
   pub left_is : left ≡ Some rest
 
--- the first line of the bytes xs is such a one
+-- P holds of the first line of the bytes xs
 pub record BeginsWith (P : List ℕ → Type 0) (xs : List ℕ) : Type 0 where
   pub first : List ℕ
   pub others : List (List ℕ)
   pub split : lines xs ≡ first ∷ others
   pub holds : P first
 
-abbrev pub Gives : NextLine → List ℕ → Option (List ℕ) → Type 0
-Gives next.End xs left = lines xs ≡ []
-Gives next.Skipped xs left = (l : List ℕ) × IsNextLine l xs left × IsSkipped l
-Gives (next.Operation op) xs left = (l : List ℕ) × IsNextLine l xs left × IsLine (operation_of op) l
+abbrev pub GivesLine : NextLine → List ℕ → Option (List ℕ) → Type 0
+GivesLine next.End xs left = lines xs ≡ []
+GivesLine next.Skipped xs left = (l : List ℕ) × IsNextLine l xs left × IsSkipped l
+GivesLine (next.Operation op) xs left = (l : List ℕ) × IsNextLine l xs left × IsLine (operation_of op) l
 
 abbrev pub Fails : NoLine → List ℕ → Type 0
 Fails (no.Refused fault) xs = (fault ≢ NoMemory) × BeginsWith (Refuses fault) xs
 Fails no.NoMemory xs = Unit {0}
 Fails (no.Read error) xs = Unit {0}
 
--- The first line of the bytes xs is read, or why it is not is told.
+-- The first line of the bytes xs is read, or the fault says why not.
 abbrev pub ReadsLine : Result NextLine NoLine → List ℕ → Option (List ℕ) → Type 0
-ReadsLine result xs left = MatchResult result (λ next. Gives next xs left) (λ no. Fails no xs)
+ReadsLine result xs left = MatchResult result (λ next. GivesLine next xs left) (λ no. Fails no xs)
 
--- the same of the bytes that are left, where they are known
+-- the same of the bytes that are left, if they are known
 abbrev pub ReadsNext : Result NextLine NoLine → Option (List ℕ) → Option (List ℕ) → Type 0
 ReadsNext result known left = IfSome known (λ xs. ReadsLine result xs left)
 
@@ -51,7 +51,7 @@ abbrev pub no_line_of : ReadFault → NoLine
 no_line_of read.NoMemory = no.NoMemory
 no_line_of (read.Read error) = no.Read error
 
--- what is said of one line
+-- the judgement of one line
 abbrev pub IsJudged : NextLine → List ℕ → Type 0
 IsJudged next.End l = ⊥
 IsJudged next.Skipped l = IsSkipped l

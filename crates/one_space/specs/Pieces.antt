@@ -1,4 +1,4 @@
--- A part of a line that is read at once.
+-- A piece of a line: the part that is read at once.
 use Rattle.std.specs.Prelude.{◌≡◌, ◌==◌, Bool, false, if◌then◌else◌, ℕ, ◌≤◌, List, [], ◌∷◌, ◌++◌, length, All, Option, None, Some, IfSome, Result, IfOk, Vec}
 use Rattle.std.specs.declared.alloc.Global.{Global}
 use Rattle.one_space.specs.declared.pieces.PieceEnd.{PieceEnd}
@@ -11,7 +11,7 @@ piece_end_of is_ended is_at_end is_full =
     else if is_full then Some Full
     else None
 
--- the bytes behind a piece that are taken with it
+-- the bytes after a piece that are passed with it
 abbrev pub end_bytes : Option PieceEnd → List ℕ
 end_bytes None = []
 end_bytes (Some LineFeed) = 10 ∷ []
@@ -27,7 +27,7 @@ EndsPiece (Some Full) limit rest after = limit ≤ length after
 abbrev pub NoLineFeed : List ℕ → Type 0
 NoLineFeed bytes = All (λ b. (b == 10) ≡ false) bytes
 
--- Of the bytes xs a part with no line feed was put behind what was there before, and the rest is left.
+-- A part of xs without a line feed was appended to the bytes before, and the rest is left.
 pub record TakesPiece
     (step : Option PieceEnd) (limit : ℕ) (xs : List ℕ) (left : Option (List ℕ)) (before after : List ℕ)
     : Type 0 where
@@ -39,14 +39,14 @@ pub record TakesPiece
   pub left_is : left ≡ Some rest
   pub ending : EndsPiece step limit rest after
 
--- A piece was read with its end, where the bytes left are known.
+-- A piece was read with its end, if the bytes left are known.
 abbrev pub ReadsPiece : {R E : Type 0} → (R → Option (List ℕ)) → Result PieceEnd E → ℕ
     → R → R → Vec ℕ Global → Vec ℕ Global → Type 0
 ReadsPiece remaining result limit old new before after =
     IfSome (remaining old)
     (λ xs. IfOk result (λ end. TakesPiece (Some end) limit xs (remaining new) before.items after.items))
 
--- A part of one was read, or all of it, where the bytes left are known.
+-- A part of a piece was read, or all of it, if the bytes left are known.
 abbrev pub ReadsPart : {R E : Type 0} → (R → Option (List ℕ)) → Result (Option PieceEnd) E → ℕ
     → R → R → Vec ℕ Global → Vec ℕ Global → Type 0
 ReadsPart remaining result limit old new before after =

@@ -10,7 +10,7 @@ line_refusal TooLong = 3
 line_refusal NoMemory = 4
 line_refusal (BadByte offset) = 6
 
--- of digits that are not those of a tuple
+-- of digits that spell no tuple
 abbrev pub malformed_refusal : ℕ
 malformed_refusal = 5
 

@@ -1,4 +1,4 @@
--- What the lines of a script come to. They run on one space, as operations of client 0, and each writes its outcome on a
+-- A run over the lines of a script. They run on one space, as operations of client 0. Each writes its outcome on a
 -- line of its own, until a line is refused.
 use Rattle.std.specs.Prelude.{◌≢◌, ℕ, ◌+◌, ◌^◌, ◌<◌, ◌≤◌, List, [], ◌∷◌, ◌++◌}
 use Rattle.tuple_codec.specs.Operations.{Operation, Outcome}
@@ -9,7 +9,7 @@ use Rattle.tuple_text.specs.declared.faults.LineFault.{LineFault}
 use Rattle.tuple_text.specs.declared.faults.LineFault.TheVariants.{NoMemory, TooLong}
 use Rattle.space.specs.Applying.{Contents, outcome, tuples_after}
 
--- A run ends behind the last line, at a refused line of this number, or is cut short before some line.
+-- A run ends after the last line, at a refused line of this number, or is cut short before some line.
 pub data Ending : Type 0 where
   complete : Ending
   refused_at : ℕ → LineFault → Ending
@@ -18,8 +18,8 @@ pub data Ending : Type 0 where
 abbrev pub result_line : Outcome → List ℕ
 result_line r = outcome_text r ++ 10 ∷ []
 
--- Where the first of these lines has number n and the space holds these tuples, the oldest first, so many bytes are
--- written, and the run ends so. Numbers of lines stay below 2 to the power of 48.
+-- A run over these lines writes these bytes and has this ending. The first line has number n, and the space then
+-- holds these tuples, the oldest first. Numbers of lines stay below 2 to the power of 48.
 pub data Runs : ℕ → Contents → List (List ℕ) → List ℕ → Ending → Type 0 where
   at_end : {n : ℕ} {ts : Contents} → Runs n ts [] [] complete
   stops : {n : ℕ} {ts : Contents} {ls : List (List ℕ)} → Runs n ts ls [] cut_short

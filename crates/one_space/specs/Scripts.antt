@@ -1,4 +1,4 @@
--- What the lines of a script say: the operations that they are of, until a line is refused.
+-- The operations of a script's lines, until a line is refused.
 use Rattle.std.specs.Prelude.{◌≡◌, ◌≢◌, ℕ, ◌+◌, ◌^◌, ◌<◌, ◌≤◌, Bool, MatchBool, List, [], ◌∷◌, ◌++◌, map, take, Option, Some, IfSome, Result, MatchResult, Vec}
 use Rattle.std.specs.declared.alloc.Global.{Global}
 use Rattle.std.specs.Str.Lines.{lines}
@@ -13,8 +13,8 @@ use Rattle.one_space.specs.Run.{Ending, complete, refused_at, cut_short}
 use Rattle.one_space.specs.declared.session.LocalFault.{LocalFault}
 use Rattle.one_space.specs.declared.session.LocalFault.TheVariants.{Refused, NoMemory, Read, Write}
 
--- Where the first of these lines has number n, the lines are of these operations up to where reading ends so. Numbers
--- of lines stay below 2 to the power of 48.
+-- These lines say these operations, up to this ending. The first line has number n. Numbers of lines stay below 2 to
+-- the power of 48.
 pub data Says : ℕ → List (List ℕ) → List Operation → Ending → Type 0 where
   at_end : {n : ℕ} → Says n [] [] complete
   stops : {n : ℕ} {ls : List (List ℕ)} → Says n ls [] cut_short
@@ -29,7 +29,7 @@ pub data Says : ℕ → List (List ℕ) → List Operation → Ending → Type 0
 abbrev pub operations_of : Vec (Op Global) Global → List Operation
 operations_of ops = map operation_of ops.items
 
--- Of the lines of these bytes some operations were read, and reading ended so.
+-- The lines of these bytes say some operations, up to this ending.
 abbrev pub SaysSome : List ℕ → Ending → Type 0
 SaysSome bytes ending = (os : List Operation) × Says 1 (lines bytes) os ending
 
@@ -40,38 +40,38 @@ EndsBy NoMemory bytes = Unit {0}
 EndsBy (Read error) bytes = Unit {0}
 EndsBy (Write error) bytes = ⊥
 
--- Of the operations of all lines of these bytes they are the first, up to so many.
+-- These are the first operations, at most so many, of all that the lines of these bytes say.
 pub record AreFirst (most : ℕ) (bytes : List ℕ) (ops : Vec (Op Global) Global) : Type 0 where
   pub all : List Operation
   pub said : Says 1 (lines bytes) all complete
   pub first : operations_of ops ≡ take most all
 
--- All lines of the bytes were read, where these are known, or why not is told.
+-- All lines of the bytes were read, or the fault says why not, if the bytes are known.
 abbrev pub JudgesScript : ℕ → Result (Vec (Op Global) Global) LocalFault → Option (List ℕ) → Type 0
 JudgesScript most result known =
     IfSome known (λ bytes. MatchResult result (λ ops. AreFirst most bytes ops) (λ fault. EndsBy fault bytes))
 
--- ---- of private functions
+-- ---- for private functions
 
--- These operations, and any that the lines say that are left from number n on, are what the bytes say.
+-- These operations and those of the remaining lines, from number n on, are the operations of all lines.
 pub record ReadSoFar (bytes : List ℕ) (known : Option (List ℕ)) (n : ℕ) (os : List Operation) : Type 0 where
   pub rest : List ℕ
   pub known_is : known ≡ Some rest
   pub leads : (more : List Operation) (ending : Ending) → Says n (lines rest) more ending
       → Says 1 (lines bytes) (os ++ more) ending
 
--- The same, where the first of them are kept, up to so many.
+-- The same, if only the first operations are kept, at most so many.
 pub record KeptSoFar (most : ℕ) (bytes : List ℕ) (known : Option (List ℕ)) (n : ℕ) (ops : Vec (Op Global) Global) : Type 0 where
   pub all : List Operation
   pub so_far : ReadSoFar bytes known n all
   pub first : operations_of ops ≡ take most all
 
--- One more operation comes behind those of which these are the first, up to so many.
+-- One more operation, after those of which the first are kept, at most so many.
 abbrev pub KeepsFirst : ℕ → Vec (Op Global) Global → Op Global → Vec (Op Global) Global → Type 0
 KeepsFirst most old op new =
     (all : List Operation) → operations_of old ≡ take most all → operations_of new ≡ take most (all ++ operation_of op ∷ [])
 
--- The line of this number was read, or there is none, or why not is told.
+-- The line of this number was read, or there is none, or the fault says why not.
 abbrev pub ReadsScriptLine : ℕ → Result Bool LocalFault → ℕ
     → Option (List ℕ) → Vec (Op Global) Global → Option (List ℕ) → Vec (Op Global) Global → Type 0
 ReadsScriptLine most result n known old left new =
@@ -80,14 +80,14 @@ ReadsScriptLine most result n known old left new =
     (λ more. MatchBool more (KeptSoFar most bytes left (n + 1) new) (AreFirst most bytes new))
     (λ fault. EndsBy fault bytes)
 
--- Nothing is left behind the last line that there may be, or why not is told.
+-- No line is left after the last possible one, or the fault says so.
 abbrev pub EndsScript : Result (Unit {0}) LocalFault → Option (List ℕ)
     → Vec (Op Global) Global → Vec (Op Global) Global → Type 0
 EndsScript result known old new =
     (most : ℕ) (bytes : List ℕ) → KeptSoFar most bytes known (2 ^ 48) old
     → MatchResult result (λ _. AreFirst most bytes new) (λ fault. EndsBy fault bytes)
 
--- The script was read, where its bytes are known, or why not is told.
+-- The script was read, or the fault says why not, if its bytes are known.
 abbrev pub ReadsScript : ℕ → Result (Unit {0}) LocalFault → Option (List ℕ) → Vec (Op Global) Global → Type 0
 ReadsScript most result known new =
     IfSome known (λ bytes. MatchResult result (λ _. AreFirst most bytes new) (λ fault. EndsBy fault bytes))

@@ -1,4 +1,4 @@
--- What bad digits come to.
+-- The faults of bad digits.
 use Rattle.hex.specs.declared.error.FromHexError.{FromHexError}
 use Rattle.hex.specs.declared.error.FromHexError.TheVariants as hex
 use Rattle.one_space.specs.declared.digits.ShowFault.{ShowFault}

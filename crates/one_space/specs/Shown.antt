@@ -1,4 +1,4 @@
--- What showing a tuple writes.
+-- The output of showing a tuple.
 use Rattle.std.specs.Prelude.{◌≡◌, ℕ, List, [], ◌∷◌, ◌++◌, Option, Result, Ok, MatchResult}
 use Rattle.std.specs.Io.KnownBytes.{Appends}
 use Rattle.hex.specs.Hex.{decode_of}
@@ -8,7 +8,7 @@ use Rattle.tuple_text.specs.Written.{tuple_written}
 use Rattle.one_space.specs.declared.digits.ShowFault.{ShowFault}
 use Rattle.one_space.specs.declared.digits.ShowFault.TheVariants.{Malformed, NoMemory, Write}
 
--- The digits, two a byte, are of bytes that spell the tuple and no more.
+-- The digits, two a byte, are those of bytes that spell the tuple and no more.
 abbrev pub DigitsSpell : List ℕ → TupleTree → Type 0
 DigitsSpell digits t = (bytes : List ℕ) × (decode_of digits ≡ Ok bytes) × SpellsTuple bytes t
 
@@ -16,24 +16,24 @@ DigitsSpell digits t = (bytes : List ℕ) × (decode_of digits ≡ Ok bytes) × 
 abbrev pub Shows : List ℕ → Option (List ℕ) → Option (List ℕ) → Type 0
 Shows digits old new = (t : TupleTree) × DigitsSpell digits t × Appends old new (tuple_written t ++ 10 ∷ [])
 
--- Malformed digits spell no tuple, and nothing is written of them.
+-- Malformed digits spell no tuple, and nothing is written for them.
 abbrev pub ShowFails : ShowFault → List ℕ → Option (List ℕ) → Option (List ℕ) → Type 0
 ShowFails Malformed digits old new = ((t : TupleTree) → DigitsSpell digits t → ⊥) × (new ≡ old)
 ShowFails NoMemory digits old new = new ≡ old
 ShowFails (Write error) digits old new = (t : TupleTree) × DigitsSpell digits t
 
--- what is known of digits that gave no tuple
+-- the property of digits that gave no tuple
 abbrev pub GivesNone : ShowFault → List ℕ → Type 0
 GivesNone Malformed digits = (t : TupleTree) → DigitsSpell digits t → ⊥
 GivesNone NoMemory digits = Unit {0}
 GivesNone (Write error) digits = ⊥
 
--- The digits' tuple was shown, or why not is told.
+-- The digits' tuple was shown, or the fault says why not.
 abbrev pub EndsShow : Result (Unit {0}) ShowFault → List ℕ → Option (List ℕ) → Option (List ℕ) → Type 0
 EndsShow result digits old new =
     MatchResult result (λ _. Shows digits old new) (λ fault. ShowFails fault digits old new)
 
--- The digits' tuple was read, or why not is told.
+-- The digits' tuple was read, or the fault says why not.
 abbrev pub ReadsDigits : Result TupleTree ShowFault → List ℕ → Type 0
 ReadsDigits result digits =
     MatchResult result (λ tuple. DigitsSpell digits tuple) (λ fault. GivesNone fault digits)

@@ -14,15 +14,15 @@ use std::rt::{Env, Files};
 use std::{env, fs};
 use tuple_codec::Op;
 
-/// The path of the standard input that the program has already. It can't always be opened by this path, as where the
-/// program runs as another user than its maker's.
+/// The path of the standard input, which the program has already. Opening it by this path can fail, for example if
+/// another user's program made it.
 pub const STANDARD_INPUT: &str = "/dev/stdin";
 
 /// The words of the command line, of which the first is the program's name.
 ///
 /// # Errors
 ///
-/// The status to end with, and standard error says why: 2 for words that aren't UTF-8, 3 where memory runs out.
+/// The status to end with, after a line on standard error: 2 for words that aren't UTF-8, 3 if memory runs out.
 pub fn words_of<R: Env + Eprint + AllocGlobal>(rt: &R) -> Result<Vec<String>, u8> {
     let args = match env::args(rt) {
         Ok(args) => args,
@@ -98,8 +98,8 @@ pub fn print_tuple<R: Print + Eprint + AllocGlobal>(rt: &R, digits: &str) -> u8 
     }
 }
 
-/// Says the complaint on standard error, and gives its status. What can't be said there is left unsaid: the status
-/// tells it too.
+/// Prints the complaint on standard error, and gives its status. A failure to print it is ignored: the status tells
+/// it too.
 pub fn complain<R: Eprint>(rt: &R, complaint: Complaint<'_>) -> u8
     ensures { result ≡ status_of complaint.entry }
 {

@@ -1,4 +1,4 @@
-//! What standard error says of a run that didn't end well, and the status that goes with it.
+//! The complaints on standard error about runs that didn't end well, and their statuses.
 
 ghost use Rattle.std.specs.Prelude.{◌≡◌};
 ghost use Rattle.one_space.specs.Refusals.{line_refusal};
@@ -9,10 +9,10 @@ use crate::session::LocalFault;
 use std::{fmt, io};
 use tuple_text::LineFault;
 
-// The number of the refusal of bytes that are not those of a tuple.
+// The number of the refusal of bytes that spell no tuple.
 const MALFORMED: u8 = 5;
 
-// That of a step that may not come where it stands, and that of a configuration.
+// The number of the refusal of a step that may not come at its place, and that of a configuration.
 const BAD_STEP: u8 = 23;
 
 const BAD_CONFIGURATION: u8 = 25;
@@ -30,12 +30,12 @@ pub fn line_refusal(fault: LineFault) -> u8
     }
 }
 
-/// What standard error says of a run that didn't end well.
+/// A complaint on standard error about a run that didn't end well.
 #[derive(Clone, Copy, Debug)]
 pub enum Complaint<'a> {
     /// The line of this number, from 1, is refused.
     Line { number: u64, fault: LineFault },
-    /// The digits are not those of a tuple.
+    /// The digits spell no tuple.
     Malformed,
     /// The step of this line, from 1, may not come.
     Step { line: u64 },
@@ -43,7 +43,7 @@ pub enum Complaint<'a> {
     Configuration,
     /// The file can't be opened, or not be read to its end.
     Unreadable { path: &'a str },
-    /// Memory ran out, or what was to be written can't be written.
+    /// Memory ran out, or an output can't be written.
     Stopped,
 }
 
@@ -70,7 +70,7 @@ impl<'a> Complaint<'a> {
         }
     }
 
-    /// Of a file that can't be opened.
+    /// The complaint about a file that can't be opened.
     pub fn of_open(error: &io::Error, path: &'a str) -> Complaint<'a> {
         if error.kind() == io::ErrorKind::OutOfMemory {
             Complaint::Stopped
@@ -79,7 +79,7 @@ impl<'a> Complaint<'a> {
         }
     }
 
-    /// The status that the program ends with: 1 for refused or unreadable input, 3 where it was stopped.
+    /// The status that the program ends with: 1 for refused or unreadable input, 3 if it was stopped.
     pub fn status(&self) -> u8
         ensures { result ≡ status_of self.now }
     {

@@ -14,7 +14,7 @@ use tuple_tree::Tuple;
 /// Why no tuple was shown.
 #[derive(Debug, Drop, Error)]
 pub enum ShowFault {
-    /// The digits' bytes are not those of a tuple within the limits, or there is a byte more.
+    /// The digits' bytes spell no tuple within the limits, or there is a byte more.
     #[error("malformed")]
     Malformed,
     #[error("out of memory")]
@@ -64,8 +64,8 @@ impl From<FromHexError> for ShowFault {
 ///
 /// # Errors
 ///
-/// Malformed where there is no such tuple, NoMemory where memory runs out, and then nothing is written. Write where
-/// the writer fails.
+/// Malformed if there is no such tuple, and NoMemory if memory runs out; then nothing is written. Write if the writer
+/// fails.
 pub fn show<W: Write>(alloc: Global, digits: &str, writer: &mut W) -> Result<(), ShowFault>
     ensures { EndsShow result digits.now (W.contents writer.old) (W.contents writer.new) }
 {

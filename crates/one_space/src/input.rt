@@ -11,16 +11,16 @@ use std::io::{self, BufRead, ErrorKind};
 use tuple_codec::Op;
 use tuple_text::{LineFault, MAX_LINE, read_line};
 
-// A line that is longer than a script's lines may be is judged by one byte more than they have.
+// A line that is too long for a script is judged by one byte more than a line may have.
 const JUDGED: usize = MAX_LINE + 1;
 
 // With one more there is room for the carriage return of the longest line that is not too long.
 const PIECE: usize = MAX_LINE + 2;
 
-/// What the next line is.
+/// The next line.
 #[derive(Drop)]
 pub enum NextLine {
-    /// There is none.
+    /// There is no further line.
     End,
     Skipped,
     Operation(Op<Global>),
@@ -47,7 +47,7 @@ impl From<ReadFault> for NoLine {
     }
 }
 
-/// Reads a line with its end, and judges it. Of a line of more than 65,536 bytes a part is kept at a time.
+/// Reads a line with its end, and judges it. A line of more than 65,536 bytes is read in parts, one at a time.
 pub fn next_line<B: BufRead>(
     alloc: Global,
     reader: &mut B,

@@ -2,16 +2,18 @@
 //!
 //! # What is proved
 //!
-//! [`local`], over any reader and writer whose bytes are known: at Ok what is written is the result lines of the run
-//! over the lines read, which begins with the empty space of the version that is asked for; at a refused line those of
-//! the lines before it, and the fault is its number and refusal; at want of memory or a reader's error those of some
-//! lines in front. [`show`] writes the tuple that the digits spell, and refuses exactly where they spell none.
-//! [`read_script`] gives the operations of all lines, or of those in front where they are more than it was asked for,
-//! or the number and the refusal of the first line that is refused. The texts of standard error and the statuses follow
-//! from the faults ([`Complaint`]).
+//! [`local`] holds over any reader and writer whose bytes are known. At `Ok` it wrote the result lines of the run
+//! over the lines read, which begins with the empty space of the requested version. At a refused line it wrote those
+//! of the lines before it, and the fault has its number and refusal. At out of memory or a reader's error it wrote
+//! those of some first lines.
 //!
-//! Results are held back only while a whole line is at hand, so that nobody waits for an answer that is there. In which
-//! order reads and writes come is tested.
+//! [`show`] writes the tuple that the digits spell, and refuses them exactly if they spell none. [`read_script`]
+//! gives the operations of all lines, or the first ones if there are more than requested. If a line is refused, it
+//! gives the number and the refusal of the first such line. The texts on standard error and the statuses follow from
+//! the faults ([`Complaint`]).
+//!
+//! Results are held back only while a whole line is at hand, so nobody waits for an answer that is there. The order
+//! of reads and writes is tested.
 #![tactic(auto)]
 
 mod commands;

@@ -30,7 +30,7 @@ impl From<AllocError> for ReadFault {
     }
 }
 
-/// Adds the bytes of a line up to its end, the input's end or the limit. The line feed is taken and not added.
+/// Adds the bytes of a line up to its end, the input's end or the limit. A line feed is passed, but not added.
 pub fn read_piece<B: BufRead>(
     reader: &mut B,
     limit: usize,
@@ -47,7 +47,7 @@ pub fn read_piece<B: BufRead>(
     Err(ReadFault::Read(io::Error::from(ErrorKind::Interrupted)))
 }
 
-// One read. It gives no end where it may go on.
+// One read. `None` if the piece may go on.
 fn read_some<B: BufRead>(
     reader: &mut B,
     limit: usize,

@@ -1,4 +1,4 @@
-//! A script, of which each line is judged, and so many operations are kept.
+//! A script: each line is judged, and a number of operations is kept.
 
 ghost use Rattle.std.specs.Prelude.{◌≡◌, ◌^◌, ◌<◌, [], IfErr, OnOk};
 ghost use Rattle.std.specs.Io.Buffered.{reader_remaining};
@@ -11,9 +11,9 @@ use std::io::{BufReader, Read};
 use tuple_codec::Op;
 use tuple_text::LineFault;
 
-/// Reads the lines of a script, and gives their operations in their order: the first `most` of them, if there are more.
-/// Lines are numbered from 1 and stay below 2 to the power of 48; the first one that is refused is told with its
-/// number. Only what is given and one line take memory.
+/// Reads the lines of a script, and gives their operations in order: the first `most` of them, if there are more.
+/// Lines are numbered from 1 and stay below 2 to the power of 48. The fault has the number of the first refused line.
+/// Only the result and one line take memory.
 pub fn read_script<R: Read + Drop>(
     alloc: Global,
     reader: R,
@@ -62,7 +62,7 @@ impl Script {
         self.end_lines(reader)
     }
 
-    // Reads the next line, and answers whether there was one.
+    // Reads the next line, and gives whether there was one.
     fn read_line<R: Read>(
         &mut self,
         alloc: Global,
@@ -86,7 +86,7 @@ impl Script {
         }
     }
 
-    // Keeps the operation, if fewer than so many are kept.
+    // Keeps the operation, if fewer than `most` are kept.
     fn keep(&mut self, op: Op<Global>, most: usize) -> Result<(), LocalFault>
         ensures kept { OnOk result (KeepsFirst most self.old.ops op self.new.ops) }
         ensures fault { IfErr result (λ fault. fault ≡ LocalFault.NoMemory) }
@@ -100,7 +100,7 @@ impl Script {
         }
     }
 
-    // Behind the last line that there may be nothing is left, or the script is refused.
+    // After the last possible line no line is left, or the script is refused.
     fn end_lines<R: Read>(&mut self, reader: &mut BufReader<R>) -> Result<(), LocalFault>
         ensures { EndsScript result (reader_remaining R.remaining reader.old) self.old.ops self.new.ops }
     {

@@ -21,7 +21,7 @@ use tuple_text::{LineFault, write_answer};
 /// The number of the first line that is one too many.
 pub const LINES_END: u64 = 1 << 48;
 
-// So many bytes of results are held back at the most, and those of one line.
+// Most bytes of results that are held back, apart from those of one line.
 const HELD: usize = 8192;
 
 /// Why a run stopped before the script's end.
@@ -48,10 +48,10 @@ impl From<NoMemory> for LocalFault {
     }
 }
 
-/// Runs the lines of a script on a space of its own, of this version, and writes the results, a line each, as it goes:
-/// the reader is asked for more bytes only when the results of all lines that it gave whole are written and flushed.
-/// Lines are numbered from 1 and stay below 2 to the power of 48. At a fault the results of the lines before it are
-/// written, unless writing failed.
+/// Runs the lines of a script on a space of its own, of this version, and writes the results as it goes, a line each.
+/// It asks the reader for more bytes only after it wrote and flushed the results of all whole lines it has. Lines are
+/// numbered from 1 and stay below 2 to the power of 48. At a fault the results of the lines before it are written,
+/// unless writing failed.
 pub fn local<R: Read + Drop, W: Write>(
     alloc: Global,
     version: Version,
@@ -120,7 +120,7 @@ impl Session {
         self.end_lines(reader, writer)
     }
 
-    // Runs the next line, and answers whether there was one.
+    // Runs the next line, and gives whether there was one.
     fn run_line<R: Read, W: Write>(
         &mut self,
         alloc: Global,
@@ -141,7 +141,7 @@ impl Session {
         }
     }
 
-    // Reads the next line and adds its result, and answers whether there was one.
+    // Reads the next line and adds its result, and gives whether there was one.
     fn answer_line<R: Read>(
         &mut self,
         alloc: Global,
@@ -167,7 +167,7 @@ impl Session {
         }
     }
 
-    // Behind the last line that there may be nothing is left, or the run is refused.
+    // After the last possible line no line is left, or the run is refused.
     fn end_lines<R: Read, W: Write>(
         &mut self,
         reader: &mut BufReader<R>,
@@ -212,7 +212,7 @@ pub fn read_fault(fault: ReadFault) -> LocalFault
     }
 }
 
-// Applies the operation as client 0's and adds the result line. At an error the results are as before.
+// Applies the operation as client 0's and adds the result line. An error leaves the results as they were.
 fn answer(space: &mut Space, op: &Op<Global>, results: &mut Vec<u8>) -> Result<(), NoMemory>
     requires { space.old.next < 2 ^ 62 }
     ensures state { OnOk result (Follows space.old space.new 0 (operation_of op.now)) }
@@ -230,8 +230,8 @@ fn answer(space: &mut Space, op: &Op<Global>, results: &mut Vec<u8>) -> Result<(
     Ok(())
 }
 
-// Writes the results that are held, where they are many, or where the next line isn't whole at hand: the reader may
-// then wait for it, and whoever gives the line may wait for the results.
+// Writes the held results if there are many, or if the next line isn't whole at hand. The reader may then wait for
+// that line, and its sender may wait for the results.
 fn write_due<W: Write>(
     results: &mut Vec<u8>,
     at_hand: &[u8],

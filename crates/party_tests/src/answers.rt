@@ -1,5 +1,5 @@
-//! What a test comes to. Who owns what is tested asks one question, drops it by a call, and hands on the answer: so a
-//! test has one way out.
+//! The answers of tests. The owner of the tested value asks one question, drops the value by a call, and hands on the
+//! answer. So a test has one way out.
 
 use std::alloc::Global;
 use std::test::Fail;

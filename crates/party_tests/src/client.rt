@@ -1,6 +1,6 @@
-//! Tests of a client over frames (`client_cert`) and of what the parties share (`events`): a call from its request to
-//! its answer, which replies count, a read that falls back, a call that is refused, memory refused, and which
-//! configurations there are.
+//! Tests of a client over frames (`client_cert`) and of the types that the parties share (`events`): a call from its
+//! request to its answer, which replies count, a read that falls back, a call that is refused, memory refused, and
+//! which configurations there are.
 
 mod calls;
 mod clients;

@@ -1,5 +1,5 @@
-//! Tests of what a replica hears frames with and posts them with (`posting`), among four replicas: the bytes of each
-//! message that it posts, whom they go to, what is heard of frames that are whole, changed or for others, and each
+//! Tests of the part of a replica that hears and posts frames (`posting`), among four replicas: the bytes of each
+//! message that it posts, their receivers, whether frames are heard that are whole, changed or for others, and each
 //! fault.
 
 mod endpoints;

@@ -1,6 +1,6 @@
-//! Tests of what a replica and a client are made of: a replica's endpoint (`posting`), the state that it executes
-//! (`execution`), its reads beside the order (`read_only`), and a client (`client_cert`); and of the points at which
-//! the calls of a trace take effect (`points`).
+//! Tests of the parts of a replica and of a client: a replica's endpoint (`posting`), the state that it executes
+//! (`execution`), its reads beside the order (`read_only`), and a client (`client_cert`). And tests of the points at
+//! which the calls of a trace take effect (`points`).
 #![tactic(auto)]
 
 #[cfg(test)]

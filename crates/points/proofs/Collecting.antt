@@ -48,7 +48,7 @@ present n (e ∷ es) h = go (cases_order n e.0) (present n es)
     go (inr (inl l)) below = inr (below (tail (λ same. omega arith)))
     go (inr (inr l)) below = inr (below (tail (λ same. omega arith)))
 
--- ---- an entry that is put in
+-- ---- an entry that is added
 
 put_before : (n : ℕ) (v : Bor (List ℕ)) (e : ℕ × Bor (List ℕ)) (es : Entries) → n < e.0 → insert_entry nat_cmp (e ∷ es) n v ≡ (n, v) ∷ e ∷ es
 put_before n v e es l = ap (λ o. match_ordering o ((n, v) ∷ e ∷ es) ((e.0, v) ∷ es) (e ∷ insert_entry nat_cmp es n v)) (less n e.0 l)
@@ -56,7 +56,7 @@ put_before n v e es l = ap (λ o. match_ordering o ((n, v) ∷ e ∷ es) ((e.0, 
 put_behind : (n : ℕ) (v : Bor (List ℕ)) (e : ℕ × Bor (List ℕ)) (es : Entries) → e.0 < n → insert_entry nat_cmp (e ∷ es) n v ≡ e ∷ insert_entry nat_cmp es n v
 put_behind n v e es l = ap (λ o. match_ordering o ((n, v) ∷ e ∷ es) ((e.0, v) ∷ es) (e ∷ insert_entry nat_cmp es n v)) (greater n e.0 l)
 
--- the place of an absent number is before the head or behind it
+-- the place of an absent number is before the head or after it
 placed : (n : ℕ) (e : ℕ × Bor (List ℕ)) (es : Entries) → IsAbsent n (e ∷ es) → (n < e.0) ⊎ (e.0 < n)
 placed n e es a = go (cases_order n e.0)
   where

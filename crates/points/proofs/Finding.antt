@@ -18,7 +18,7 @@ use Rattle.points.specs.Leveling.{place_in, rises}
 use Rattle.points.specs.Places.{position_in}
 use Rattle.points.proofs.Rising.{places_are, zero_is_first}
 
--- the position of the first that is no less, the oldest first
+-- the position of the first that is at least the number, the oldest first
 abbrev pub found_in : List Rise → ℕ → Option ℕ
 found_in [] k = None
 found_in (x ∷ xs) k = cond (nat_le k x.level) (Some x.position) (found_in xs k)
@@ -75,7 +75,7 @@ positions_are c setting trace (suc k) =
     ap (λ o. option_map_or (λ x. x) o 0) (places_are c setting trace (suc k) (omega arith))
     ∙ sym (ap (λ b. cond b 0 (option_map_or (λ x. x) (place_in (rises c trace) (suc k)) 0)) (ne_eqb (suc k) 0 (λ e. omega arith)))
 
--- ---- by an element that is lent
+-- ---- by a lent element
 
 abbrev pub position_lent : Option (Bor Rise) → Option ℕ
 position_lent r = option_map (λ (x : Bor Rise). x.now.position) r

@@ -1,4 +1,4 @@
--- What frames and batches run.
+-- The requests that frames and batches run.
 use Rattle.std.proofs.Common.{◌≡◌, ℕ, zero, suc, ◌+◌, ◌≤◌, ◌<◌, List, [], ◌∷◌, ◌++◌, map, drop, get_or, length, Bor, refl, sym, ap, ap₂, ◌∙◌, subst, append-nil, append_assoc, drop-cons, add-one, arith, Option, Some, None}
 use Rattle.std.specs.Prelude.{fold}
 use Rattle.std.proofs.lemmas.List.{map-append}
@@ -25,7 +25,7 @@ points_append (Some p) k xs ys = map-append (ordered_point p k) xs ys
 abbrev pub texts : List (Bor (List ℕ)) → List (List ℕ)
 texts xs = map (λ f. f.now) xs
 
--- What is left to run leads to where all of it leads.
+-- Running the rest leads to the end of the whole.
 pub record Left (turn : Turn) (xs : List (Bor (List ℕ))) (x y : SoFar) (i : ℕ) : Type 0 where
   pub states : (c : Configuration) (n : ℕ) → c.clients ≡ turn.clients
       → fold (run_frame c turn.number.0) (state_of n x) (texts xs) ≡ fold (run_frame c turn.number.0) (state_of n y) (texts (drop i xs))
@@ -66,7 +66,7 @@ ends turn xs x y i e left = λ c n m. record {
 
 -- ---- a batch
 
--- what is left of the batches leads to the points of all
+-- the points before, and those of the rest of the batches, are the points of all
 abbrev pub Going : ℕ → List Rise → List Numbered → SoFar → List Numbered → Type 0
 Going clients found all x rest =
     (c : Configuration) (n : ℕ) → c.clients ≡ clients
@@ -95,7 +95,7 @@ batch_more turn found all rest batch x y l at going run = λ c n e.
     ∙ ap (λ t. x.points ++ (points_at (place_in found k) k ran ++ t)) (any_number c (place_in found) (state_of n y) n k rest ∙ sym (ap left (batch_state c k batch x y l r.state)))
     ∙ going c n e
 
--- what is left begins with this batch, and each number is one
+-- the rest begins with this batch, and each number is one
 pub batch_goes_on : (turn : Turn) (found : List Rise) (all now rest : List Numbered) (batch : List ℕ) (x y : SoFar) → turn.place ≡ place_in found turn.number.0
     → now ≡ record { number = turn.number.0; batch = batch } ∷ rest → Each (λ (z : Numbered). 1 ≤ z.number) now
     → Going turn.clients found all x now → RunsAll turn (requests_of batch) x y → Going turn.clients found all y rest × Each (λ (z : Numbered). 1 ≤ z.number) rest

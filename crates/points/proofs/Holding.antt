@@ -45,7 +45,7 @@ same_call a b = one a.client b.client (nat_cmp a.timestamp b.timestamp) ∙ ap (
 pub no_calls : AreCallsOf [] []
 no_calls x key e f = refl
 
--- a read's call is put in
+-- a read's call is added
 pub calls_on : (reads : List Placing) (read : Placing) (old new : List CallKey) (own : CallKey) → own.client ≡ read.item.client → own.timestamp ≡ read.item.timestamp
     → ((q : CallKey) → list_any (is_at (call_cmp q)) new ≡ cond (is_at (call_cmp own) q) true (list_any (is_at (call_cmp q)) old))
     → AreCallsOf reads old → AreCallsOf (read ∷ reads) new
@@ -82,7 +82,7 @@ holds_none bound held s k = record {
 
 -- ---- ordered points that are added to them
 
--- what was taken from the end, and stands sorted with the reads
+-- the points taken from the end, which stand sorted with the reads
 pub record Merged (held : Reads) (all rest : List Placed) (entries : List (Key × Placed)) : Type 0 where
   pub done : List Placing
   pub parts : placings_of all ≡ placings_of rest ++ done
@@ -139,7 +139,7 @@ merged_all held all rest entries none m reads h =
 pub holds_less : (low bound : ℕ) (reads : List Placing) (held : Reads) → low ≤ bound → HoldsReads bound reads held → HoldsReads low reads held
 holds_less low bound reads held l h = record { sorted = h.sorted; ranked = λ r m. h.ranked r (omega arith); calls = h.calls }
 
--- behind one more entry
+-- after one more entry
 pub reads_on : (m ring : Membership) (found : List Rise) (past : List Entry) (e : Entry) (seats : List (ℕ × Seat)) (old new : Reads) (rank bound : ℕ) (read : Option Placing)
     → ring ≡ m → IsRead ring found seats e read → AreSeats past seats → rank + 1 ≡ bound → AddsRead rank read old new
     → HoldsReads bound (seat_reads m (position_in found) past) old → HoldsReads rank (seat_reads m (position_in found) (e ∷ past)) new

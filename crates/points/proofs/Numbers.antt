@@ -1,4 +1,4 @@
--- Numbers that are skipped.
+-- Numbers that a scan skips.
 use Rattle.std.proofs.Common.{◌≡◌, ℕ, zero, suc, List, [], ◌∷◌, ◌++◌, map, fold, inl, inr, refl, sym, ap, ◌∙◌, subst, Option, Some, None}
 use Rattle.std.specs.Option.{option_map_or}
 use Rattle.protocol.specs.System.Configuration.{Configuration}
@@ -15,7 +15,7 @@ pub nothing_requested : requests_of null_batch ≡ []
 unfolding requests_at requests_of
 nothing_requested = refl
 
--- the null batch changes the number alone, and runs nothing
+-- the null batch changes only the number, and runs nothing
 pub null_execute : (c : Configuration) (st : State) → execute c st null_batch ≡ record st { number = suc st.number }
 unfolding execute
 null_execute c st = ap (λ (xs : List (List ℕ)). let y : State = record (fold (run_frame c (suc st.number)) st xs) { number = suc st.number } in y) nothing_requested

@@ -23,7 +23,7 @@ key_cmp a b =
     (ordering_then (nat_cmp a.turn b.turn) (ordering_then (nat_cmp a.client b.client)
     (ordering_then (nat_cmp a.timestamp b.timestamp) (nat_cmp a.rank b.rank)))))
 
--- what a test makes of an order
+-- a test of an order
 abbrev order_by : Bool → Ordering
 order_by b = cond b Less Greater
 

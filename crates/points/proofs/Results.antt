@@ -1,4 +1,4 @@
--- What is said of a value, where there is one.
+-- Properties of a value, if there is one.
 use Rattle.std.proofs.Common.{Result, Ok, Err}
 use Rattle.std.specs.Prelude.{OnOk}
 

@@ -1,4 +1,4 @@
--- The greatest level, and where it rises.
+-- The greatest level, and the positions at which it rises.
 use Rattle.std.proofs.Common.{◌≡◌, ℕ, zero, suc, ◌+◌, ◌≤◌, ◌<◌, Bool, true, false, cond, max, List, [], ◌∷◌, ◌++◌, length, reverse, take, get_or, eqb-true, refl, sym, ap, ap₂, ◌∙◌, arith, ◌&&◌, Option, Some, None}
 use Rattle.std.specs.Prelude.{nat_lt, nat_le, slice_index, ◌==◌}
 use Rattle.std.proofs.lemmas.Bool.{and_parts, and_from, leb-true, leb-false, le-leb, ltb-true, ltb-false, lt-ltb, le-ltb}
@@ -26,7 +26,7 @@ at_most_greatest f (suc n) r l = go (nat_le n r) refl (at_most_greatest f n r)
     go true e inner = let m : n ≤ r = leb-true n r e in let s : r ≡ n = omega arith in let g : f r ≡ f n = ap f s in omega arith
     go false e inner = let m : r < n = leb-false n r e in let below = inner m in omega arith
 
--- what holds of 0 and of each value holds of the greatest
+-- a property of 0 and of each value is one of the greatest
 pub of_greatest : (P : ℕ → Type 0) (f : ℕ → ℕ) (n : ℕ) → P 0 → ((r : ℕ) → P (f r)) → P (greatest_below f n)
 of_greatest P f zero z each = z
 of_greatest P f (suc n) z each = go (f n) (greatest_below f n) (each n) (of_greatest P f n z each)
@@ -158,7 +158,7 @@ module _ (c : Configuration) (setting : IsConfiguration c) where
       go false e = refl
       go true e = let m : k ≤ level c [] = leb-true k (level c []) e in let n = low in absurd (omega arith)
 
-  -- a place is given where the level was reached
+  -- a place is given if the level was reached
   given : (xs : List Entry) (k : ℕ) → 1 ≤ k → nat_le k (level c xs) ≡ true → (p : ℕ) × (first_position c xs k ≡ Some p)
   given [] k l h = absurd (let bad : false ≡ true = sym (no_level k l) ∙ h in cc)
   given (e ∷ past) k l h = go (first_position c past k) (is_level c (e ∷ past) k) (level_test (e ∷ past) k ∙ h)
@@ -198,7 +198,7 @@ levels_are c setting past k = level_test c setting past k
 pub places_are : (c : Configuration) → IsConfiguration c → (trace : List Entry) (k : ℕ) → 1 ≤ k → first_position c trace k ≡ place_in (rises c trace) k
 places_are c setting trace k l = places c setting trace k l
 
--- ---- by what each replica reached
+-- ---- by the numbers that the replicas reached
 
 pub greatest_same : (f g : ℕ → ℕ) (n : ℕ) → ((r : ℕ) → r < n → f r ≡ g r) → greatest_below f n ≡ greatest_below g n
 greatest_same f g zero h = refl
@@ -212,7 +212,7 @@ count_same p q n h =
     let a = count_mono p q n (λ r l e. sym (h r l) ∙ e) in
     let b = count_mono q p n (λ r l e. h r l ∙ e) in omega arith
 
--- the values are what each replica reached
+-- the values are the numbers that the replicas reached
 abbrev pub AreReached : List Entry → List ℕ → Type 0
 AreReached past values = (r : ℕ) → r < 10 → slice_index values r ≡ reached past r
 

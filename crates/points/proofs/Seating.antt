@@ -1,4 +1,4 @@
--- The reads by what is kept of each client.
+-- The reads by the notes on each client.
 use Rattle.std.proofs.Common.{◌≡◌, ℕ, ◌+◌, Bool, true, false, cond, List, [], ◌∷◌, ◌++◌, length, refl, sym, ap, ap₂, ◌∙◌, Option, Some, None}
 use Rattle.std.specs.Prelude.{◌==◌, option_and_then, option_map}
 use Rattle.std.specs.Bool.{then_some}
@@ -52,7 +52,7 @@ invoked_is p (Executed q n batch ∷ past) = keeps p (Executed q n batch) past (
 invoked_is p (Installed q n root ∷ past) = keeps p (Installed q n root) past (q == p) refl (invoked_is p past)
 invoked_is p (Sent q bytes ∷ past) = keeps p (Sent q bytes) past (q == p) refl (invoked_is p past)
 
--- the vote that bytes are
+-- the vote in the bytes
 abbrev vote_in : Configuration → ℕ → ℕ → List ℕ → Option Vote
 vote_in c p timestamp bytes = option_and_then (λ (body : BodyData). vote_of p timestamp body.sender body) (heard (members c) p bytes)
 

@@ -1,4 +1,4 @@
--- The points of a trace by all parts.
+-- The points of a trace, by all parts.
 use Rattle.std.proofs.Common.{◌≡◌, ℕ, suc, ◌≤◌, ◌^◌, List, [], ◌∷◌, ◌++◌, map, filter, not, refl, sym, ap, ap₂, ◌∙◌, arith, Option}
 use Rattle.wire.specs.Words.{requests_of}
 use Rattle.protocol.specs.System.Configuration.{Configuration, IsConfiguration, members}
@@ -19,7 +19,7 @@ use Rattle.points.proofs.Numbers.{ordered_are}
 use Rattle.points.proofs.Rising.{places_are}
 use Rattle.points.proofs.Seating.{reads_are}
 
--- only the places of the numbers that are there count
+-- only the places of the available numbers count
 numbered_same : (c : Configuration) (f g : ℕ → Option ℕ) → ((k : ℕ) → 1 ≤ k → f k ≡ g k) → (st : State) (m : ℕ) (xs : List Numbered) → 1 ≤ m → AscendsFrom m xs
     → numbered_points c f st xs ≡ numbered_points c g st xs
 numbered_same c f g same st m [] l a = refl
@@ -27,7 +27,7 @@ numbered_same c f g same st m (x ∷ xs) l a =
     ap₂ (λ o ys. points_at o x.number (ran_in c x.number (ready_for x.number st) (requests_of x.batch)) ++ ys) (same x.number (let h = a.0 in omega arith))
     (numbered_same c f g same (execute c (ready_for x.number st) x.batch) (suc x.number) xs (omega arith) a.1)
 
--- those of a trace, by the batches and the reads that were found
+-- those of a trace, by the batches and the reads that the scans found
 pub points_are : (c : Configuration) → IsConfiguration c → (trace : List Entry) (xs : List Numbered) → Collects trace xs
     → (ordered : List Placing) → ordered ≡ numbered_points c (place_in (rises c trace)) opening xs
     → (found : List Placing) → found ≡ sorted (filter (λ x. not (is_double (seat_reads (members c) (position_in (rises c trace)) trace) x)) ordered ++ seat_reads (members c) (position_in (rises c trace)) trace)

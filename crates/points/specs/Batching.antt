@@ -1,4 +1,4 @@
--- What the private functions that find batches speak of.
+-- Words of the private functions that find batches.
 use Rattle.std.specs.Prelude.{◌≡◌, ℕ, ◌≤◌, ◌⊎◌, List, ◌∷◌, map, Option, Some, None}
 use Rattle.std.specs.Borrow.{Bor}
 use Rattle.wire.specs.Lists.{Each}
@@ -24,6 +24,6 @@ pub record Collects (past : List Entry) (xs : List Numbered) : Type 0 where
   pub each : Each (λ x. (first_batch past x.number ≡ Some x.batch) × (x.number ≤ last_executed past)) xs
   pub other : (j : ℕ) → 1 ≤ j → Has (λ x. x.number ≡ j) xs ⊎ (first_batch past j ≡ None)
 
--- an entry leads from the one to the other
+-- an entry leads from the earlier numbers to the later ones
 abbrev pub Notes : Entry → List (ℕ × Bor (List ℕ)) → List (ℕ × Bor (List ℕ)) → Type 0
 Notes e old new = (past : List Entry) → Collects past (numbered_of old) → Collects (e ∷ past) (numbered_of new)

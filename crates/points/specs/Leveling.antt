@@ -1,4 +1,4 @@
--- Levels, and where they rise.
+-- Levels, and the positions at which they rise.
 use Rattle.std.specs.Prelude.{◌≡◌, ℕ, zero, suc, ◌+◌, ◌<◌, Bool, ◌&&◌, List, [], ◌∷◌, length, nat_lt, nat_le, if◌then◌else◌, max, Option, None, slice_index}
 use Rattle.quorum.specs.Quorum.{count_below}
 use Rattle.quorum.specs.Votes.{or_else}
@@ -13,7 +13,7 @@ abbrev pub greatest_below : (ℕ → ℕ) → ℕ → ℕ
 greatest_below f zero = 0
 greatest_below f (suc n) = max (f n) (greatest_below f n)
 
--- what the replica reached, if it is a level
+-- the number that the replica reached, if it is a level
 abbrev pub level_at : Configuration → List Entry → ℕ → ℕ
 level_at c past r = if is_level c past (reached past r) then reached past r else 0
 
@@ -21,7 +21,7 @@ level_at c past r = if is_level c past (reached past r) then reached past r else
 abbrev pub level : Configuration → List Entry → ℕ
 level c past = greatest_below (level_at c past) (replicas c)
 
--- where the level rises, the newest first
+-- the positions at which the level rises, the newest first
 abbrev pub rises : Configuration → List Entry → List Rise
 rises c [] = []
 rises c (e ∷ past) =
@@ -29,18 +29,18 @@ rises c (e ∷ past) =
     then record { level = level c (e ∷ past); position = length past } ∷ rises c past
     else rises c past
 
--- the position of the first that is no less
+-- the position of the first level that is at least the number
 abbrev pub place_in : List Rise → ℕ → Option ℕ
 place_in [] k = None
 place_in (x ∷ xs) k = or_else (place_in xs k) (then_some (nat_le k x.level) x.position)
 
--- ---- by what each replica reached
+-- ---- by the numbers that the replicas reached
 
 -- a correct replica reached the number
 abbrev pub passes : Configuration → List ℕ → ℕ → ℕ → Bool
 passes c values k r = is_correct_replica c r && nat_le k (slice_index values r)
 
--- what the replica reached, if all but f of the correct ones did
+-- the number that the replica reached, if all but f of the correct ones did
 abbrev pub value_at : Configuration → List ℕ → ℕ → ℕ
 value_at c values r =
     if nat_le (count_correct c) (count_below (passes c values (slice_index values r)) (replicas c) + c.faults)
@@ -51,6 +51,6 @@ value_at c values r =
 abbrev pub level_in : Configuration → List ℕ → ℕ
 level_in c values = greatest_below (value_at c values) (replicas c)
 
--- the values go on with the entry
+-- the numbers reached before the entry lead to those after it
 abbrev pub Raises : Entry → List ℕ → List ℕ → Type 0
 Raises e old new = (r : ℕ) → r < 10 → slice_index new r ≡ max (reached_at r e) (slice_index old r)

@@ -1,5 +1,5 @@
--- What the private functions that run batches speak of: the batches of the numbers that have one, and the requests that
--- ran in them.
+-- Words of the private functions that run batches: the batches of the numbers that have one, and the requests that ran
+-- in them.
 use Rattle.std.specs.Prelude.{ℕ, zero, suc, ◌≤◌, ⊤, List, [], ◌∷◌, ◌++◌, map, Option}
 use Rattle.std.specs.Option.{option_map_or}
 use Rattle.protocol.specs.System.Configuration.{Configuration}
@@ -17,11 +17,11 @@ abbrev pub before : ℕ → ℕ
 before zero = 0
 before (suc n) = n
 
--- the state in which the batch of this number is next
+-- the state, with the number before this one, so that the batch of this number comes next
 abbrev pub ready_for : ℕ → State → State
 ready_for k st = record st { number = before k }
 
--- the points of requests that ran in the batch of a number, where its level has a place
+-- the points of requests that ran in the batch of a number, if its level has a place
 abbrev pub points_at : Option ℕ → ℕ → List Ran → List Placing
 points_at place number ran = option_map_or (λ position. map (ordered_point position number) ran) place []
 

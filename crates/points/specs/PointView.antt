@@ -1,11 +1,11 @@
--- What the points of the program stand for.
+-- The model of the program's points.
 use Rattle.std.specs.Prelude.{◌+◌, List, map}
 use Rattle.tuple_codec.specs.OperationView.{operation_of, outcome_of}
 use Rattle.protocol.specs.Space.Linear.{Item, Placing}
 use Rattle.points.specs.declared.point.Point.{Point}
 use Rattle.points.specs.declared.point.Placed.{Placed}
 
--- what is done, and where
+-- an operation, and its position
 abbrev pub item_of : Point → Item
 item_of p =
     record {
@@ -19,7 +19,7 @@ item_of p =
 abbrev pub items_of : List Point → List Item
 items_of points = map item_of points
 
--- the same with what orders it
+-- the same with the number and mode that order it
 abbrev pub placing_of : Placed → Placing
 placing_of p = record { item = item_of p.point; number = p.number.0; mode = p.mode }
 

@@ -1,4 +1,4 @@
--- What the private functions that run requests speak of.
+-- Words of the private functions that run requests.
 use Rattle.std.specs.Prelude.{◌≡◌, ℕ, List, [], ◌++◌, fold, Option}
 use Rattle.std.specs.Option.{option_map_or}
 use Rattle.space.specs.Births.{SpaceState}
@@ -13,7 +13,7 @@ use Rattle.points.specs.declared.levels.Rise.{Rise}
 use Rattle.points.specs.declared.point.Placed.{Placed}
 use Rattle.points.specs.declared.running.Turn.{Turn}
 
--- the space and the replies within a batch, and the points of what ran
+-- the space and the replies within a batch, and the points of the requests that ran
 pub record SoFar : Type 0 where
   pub space : SpaceState
   pub replies : Replies
@@ -26,11 +26,11 @@ so_far space replies found = record { space = space; replies = replies; points =
 abbrev pub state_of : ℕ → SoFar → State
 state_of before x = record { space = x.space; number = before; replies = x.replies }
 
--- what a frame runs
+-- the requests that a frame runs
 abbrev pub frame_ran : Configuration → ℕ → State → List ℕ → List Ran
 frame_ran c number st frame = option_map_or (ran_by st number) (call_of c frame) []
 
--- A frame, and frames one after another, lead from the one to the other in the batch of a number.
+-- A frame, and frames one after another, lead from the earlier data to the later ones, in the batch of a number.
 pub record RunsFrame (c : Configuration) (place : Option ℕ) (number before : ℕ) (frame : List ℕ) (old new : SoFar)
     : Type 0 where
   pub state : state_of before new ≡ run_frame c number (state_of before old) frame
@@ -41,7 +41,7 @@ pub record RunsFrames (c : Configuration) (place : Option ℕ) (number before : 
   pub state : state_of before new ≡ fold (run_frame c number) (state_of before old) frames
   pub points : new.points ≡ old.points ++ points_at place number (ran_in c number (state_of before old) frames)
 
--- They do so in each configuration of so many clients.
+-- They do so in each configuration with so many clients.
 abbrev pub Runs : Turn → List ℕ → SoFar → SoFar → Type 0
 Runs turn frame old new =
     (c : Configuration) (before : ℕ) → c.clients ≡ turn.clients
@@ -52,7 +52,7 @@ RunsAll turn frames old new =
     (c : Configuration) (before : ℕ) → c.clients ≡ turn.clients
     → RunsFrames c turn.place turn.number.0 before frames old new
 
--- the points are those of what ran in these batches, in each configuration of so many clients
+-- the points are those of the requests that ran in these batches, in each configuration with so many clients
 abbrev pub RunsEach : ℕ → List Rise → List Numbered → List Placing → Type 0
 RunsEach clients found batches points =
     (c : Configuration) → c.clients ≡ clients → points ≡ numbered_points c (place_in found) opening batches

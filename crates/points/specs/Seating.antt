@@ -1,4 +1,4 @@
--- What the private functions that find the reads speak of: what one scan keeps of each client.
+-- Words of the private functions that find the reads: a scan's notes on each client.
 use Rattle.std.specs.Prelude.{◌≡◌, ℕ, ◌+◌, ◌<◌, ◌==◌, Bool, ◌&&◌, List, [], ◌∷◌, length, max, if◌then◌else◌, Option, Some, None, option_and_then, option_map}
 use Rattle.std.specs.Bool.{then_some}
 use Rattle.std.specs.Map.{lookup}
@@ -21,7 +21,7 @@ use Rattle.points.specs.Places.{position_in}
 use Rattle.points.specs.declared.levels.Rise.{Rise}
 use Rattle.points.specs.declared.seats.Seat.{Seat}
 
--- What a scan keeps of a client: its open call, the position of its last invocation, else 0, and the bytes that its
+-- The notes of a scan on a client: its open call, the position of its last invocation, else 0, and the bytes that its
 -- last entry brought.
 pub record SeatData : Type 0 where
   pub call : Option OpenCall
@@ -31,7 +31,7 @@ pub record SeatData : Type 0 where
 abbrev pub empty_seat : SeatData
 empty_seat = record { call = None; invoked = 0; got = None }
 
--- behind an entry of the client's own at this position
+-- after an entry of the client's own at this position
 abbrev pub seat_after : ℕ → Entry → SeatData → SeatData
 seat_after position (Invoke client timestamp op) seat =
     record { call = Some (record { timestamp = timestamp; op = op }); invoked = position; got = None }
@@ -40,18 +40,18 @@ seat_after position (Accepted client timestamp answer) seat =
 seat_after position (Got p bytes) seat = record { call = seat.call; invoked = seat.invoked; got = Some bytes }
 seat_after position _ seat = record { call = seat.call; invoked = seat.invoked; got = None }
 
--- what is kept of a party
+-- the notes on a party
 abbrev pub seat_of : ℕ → List Entry → SeatData
 seat_of p [] = empty_seat
 seat_of p (e ∷ past) = if party_of e == p then seat_after (length past) e (seat_of p past) else seat_of p past
 
--- the number of the read-only reply to the party's call that a message is
+-- the number of a message, if it is the read-only reply to the party's call
 abbrev pub number_in : ℕ → ℕ → BodyData → Option ℕ
 number_in p timestamp body =
     option_and_then (λ vote. then_some (same_mode vote.mode modes.ReadOnly) vote.number)
     (vote_of p timestamp body.sender body)
 
--- that the bytes are
+-- the same of bytes
 abbrev pub read_number : Membership → ℕ → ℕ → List ℕ → Option ℕ
 read_number m p timestamp bytes = option_and_then (number_in p timestamp) (heard m p bytes)
 
@@ -82,7 +82,7 @@ entry_read m at past (Accepted client timestamp answer) =
     seat_read m at (256 + client) timestamp answer (seat_of (256 + client) past)
 entry_read m at past _ = None
 
--- a list with one more, where there is one
+-- a list with one more read, if there is one
 abbrev pub with_read : Option Placing → List Placing → List Placing
 with_read None reads = reads
 with_read (Some read) reads = read ∷ reads
@@ -114,16 +114,16 @@ seat_at seats client = option_map_or seat_data (lookup (is_at (nat_cmp client)) 
 abbrev pub AreSeats : List Entry → List (ℕ × Seat) → Type 0
 AreSeats past seats = (client : ℕ) → seat_at seats client ≡ seat_of (256 + client) past
 
--- the client, or none, that a party is
+-- the party is this client, or none
 abbrev pub IsClientIn : ℕ → Option ℕ → Type 0
 IsClientIn party None = party < 256
 IsClientIn party (Some client) = party ≡ 256 + client
 
--- at which an entry stands
+-- the entry is of this client, or of none
 abbrev pub IsClientOf : Entry → Option ℕ → Type 0
 IsClientOf e client = IsClientIn (party_of e) client
 
--- the read, or none, that an entry ends behind each past of these seats
+-- the read, or none, that an entry ends after each past of these seats
 abbrev pub IsRead : Membership → List Rise → List (ℕ × Seat) → Entry → Option Placing → Type 0
 IsRead m found seats e read =
     (past : List Entry) → AreSeats past seats → read ≡ entry_read m (position_in found) past e

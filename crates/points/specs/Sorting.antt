@@ -1,5 +1,5 @@
--- What the private functions that sort points speak of. Points stand in a map, by a key that has what orders them, and
--- last a rank, by which of two that are ordered alike the later one comes first.
+-- Words of the private functions that sort points. Points stand in a map, by a key of what orders them and, last, a
+-- rank: of two that are otherwise equal, the later one comes first.
 use Rattle.std.specs.Prelude.{◌≡◌, ℕ, ◌+◌, ◌^◌, ◌<◌, List, ◌++◌, map, filter, not, Option}
 use Rattle.std.specs.List.{list_any}
 use Rattle.std.specs.Ordering.{nat_cmp, ordering_then}
@@ -64,18 +64,18 @@ AreCallsOf reads calls =
 
 -- ---- reads in their order, with their calls
 
--- these reads, of ranks not below the bound
+-- these reads, with ranks not below the bound
 pub record HoldsReads (bound : ℕ) (reads : List Placing) (held : Reads) : Type 0 where
   pub sorted : sorted_of held.sorted.entries ≡ sorted reads
   pub ranked : (r : ℕ) → r < bound → AreRankedAbove r held.sorted.entries
   pub calls : AreCallsOf reads held.calls.keys
 
--- a read, where there is one, leads from the one to the other
+-- a read, if there is one, leads from the earlier reads to the later ones
 abbrev pub AddsRead : ℕ → Option Placing → Reads → Reads → Type 0
 AddsRead rank read old new =
     (reads : List Placing) → HoldsReads (rank + 1) reads old → HoldsReads rank (with_read read reads) new
 
--- the points are these ordered ones that are no read's, and the reads, sorted
+-- the points are these ordered ones, without those of reads, and the reads, sorted
 abbrev pub MergesInto : Reads → List Placing → List Placing → Type 0
 MergesInto held ordered points =
     (reads : List Placing) → HoldsReads (2 ^ 63) reads held

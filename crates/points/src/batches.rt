@@ -1,4 +1,4 @@
-//! The batches that were executed.
+//! The executed batches.
 
 ghost use Rattle.std.specs.Prelude.{reverse, IfOk, OnOk};
 ghost use Rattle.points.specs.Batching.{Collects, Notes, numbered_of};

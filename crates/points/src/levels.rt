@@ -1,4 +1,4 @@
-//! Levels, and where they rise.
+//! Levels, and the positions at which they rise.
 
 ghost use Rattle.std.specs.Prelude.{◌≡◌, ◌≤◌, ◌<◌, ◌==◌, ℕ, max, if◌then◌else◌, reverse, slice_index, IfOk, IsFalse};
 ghost use Rattle.std.specs.List.Sorted.{IsNonDecreasingBy};
@@ -15,17 +15,17 @@ use terms::{NoMemory, Number, ReplicaId};
 /// The greatest number of replicas.
 const MAX_REPLICAS: usize = 10;
 
-// What each replica reached.
+// The number that each replica reached.
 type Numbers = [u64; MAX_REPLICAS];
 
-/// A level, and the position where it came.
+/// A level, and the position at which it was reached.
 #[derive(Clone, Copy, Drop)]
 pub(crate) struct Rise {
     pub(crate) level: u64,
     pub(crate) position: usize,
 }
 
-/// Where the level of correct replicas rises in a trace, whose oldest entry stands first.
+/// The positions at which the level of correct replicas rises in a trace, whose oldest entry stands first.
 pub(crate) fn find_rises(
     alloc: Global,
     config: &Config,
@@ -53,7 +53,7 @@ pub(crate) fn find_rises(
     Ok(found)
 }
 
-// The level behind an entry, where it was this before: only what a replica executes or installs can raise it.
+// The level after an entry, by the level before. Only an execution or installation can raise it.
 fn level_behind(
     config: &Config,
     correct: u16,
@@ -73,7 +73,7 @@ fn level_behind(
     }
 }
 
-// Whether the entry raised what a replica reached.
+// Whether the entry raised the number that a replica reached.
 fn raise(reached: &mut Numbers, entry: &Entry) -> bool
     ensures raises { Raises entry.now reached.old reached.new }
     ensures same { IsFalse result → reached.new ≡ reached.old }
@@ -135,7 +135,7 @@ fn passes(config: &Config, reached: &Numbers, number: u64, replica: u16) -> bool
     config.is_correct_replica(replica) && number <= reached[usize::from(replica)]
 }
 
-// What the replica reached, if all but f of the correct ones did.
+// The number that the replica reached, if all but f of the correct ones did.
 fn value_at(config: &Config, correct: u16, reached: &Numbers, replica: usize) -> u64
     requires correct { correct ≡ count_correct config.now }
     requires few { replica < 10 }

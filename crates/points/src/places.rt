@@ -11,7 +11,7 @@ use events::{Config, Entry};
 use std::alloc::Global;
 use terms::{NoMemory, Number};
 
-/// Where each level came, of a trace.
+/// The position at which each level of a trace was reached.
 #[derive(Drop)]
 pub(crate) struct Places {
     rises: Vec<Rise>,
@@ -41,7 +41,7 @@ impl Places {
         }
     }
 
-    /// The same, and 0 of the number 0, and where there is none.
+    /// The same, and 0 for the number 0, and if there is none.
     pub(crate) fn position(&self, number: Number) -> usize
         ensures { result ≡ position_in (reverse self.now.rises.items) number.0 }
     {

@@ -4,7 +4,7 @@ use std::alloc::Global;
 use terms::{ClientId, Mode, Number, Timestamp};
 use tuple_codec::{Answer, Op};
 
-/// An operation of a client, where it acted.
+/// An operation of a client, and its position.
 #[derive(Drop)]
 pub struct Point {
     pub client: ClientId,
@@ -15,7 +15,7 @@ pub struct Point {
     pub position: usize,
 }
 
-/// A point with what orders it.
+/// A point with its number and mode, by which points are ordered.
 #[derive(Drop)]
 pub(crate) struct Placed {
     pub(crate) point: Point,

@@ -1,4 +1,4 @@
-//! The reads that were accepted read-only.
+//! The reads that clients accepted by read-only replies.
 
 ghost use Rattle.std.specs.Prelude.{◌≡◌, ◌+◌, ◌^◌, IfOk, option_map, reverse};
 ghost use Rattle.tuple_codec.specs.OperationView.{outcome_of};
@@ -24,7 +24,7 @@ use terms::{ClientId, Mode, NoMemory, Number, Party, Timestamp};
 use tuple_codec::Answer;
 use wire::{Body, Frame, Message, Reply};
 
-/// The reads that were accepted by read-only replies, in a trace whose oldest entry stands first.
+/// The reads that clients accepted by read-only replies, in a trace whose oldest entry stands first.
 pub(crate) fn find_reads(
     alloc: Global,
     config: &Config,
@@ -113,7 +113,7 @@ fn read_at(
     }))
 }
 
-// The number of the read-only reply to the client's call of this timestamp that the bytes are, if they are one.
+// The number of the read-only reply to the client's call of this timestamp, if the bytes are one.
 fn read_number(
     alloc: Global,
     ring: &mut Ring,
@@ -139,7 +139,7 @@ fn read_number(
     }
 }
 
-// The frame that the client hears from the bytes, if it hears one.
+// The frame in the bytes, if it is authentic to the client.
 fn hear_frame(
     alloc: Global,
     ring: &mut Ring,

@@ -28,8 +28,8 @@ struct Turn {
     clients: u16,
 }
 
-/// The points of the requests that ran in these batches. NoMemory where memory runs out, or births, of which there are
-/// 2 to the power of 62.
+/// The points of the requests that ran in these batches. NoMemory if memory runs out, or births, of which there are 2
+/// to the power of 62.
 pub(crate) fn run_batches(
     alloc: Global,
     clients: u16,
@@ -94,7 +94,7 @@ fn run_frames(
     Ok(())
 }
 
-// Runs the request that a frame spells, if it is an ordered one of one of the clients, above its client's last.
+// Runs the request that a frame spells, if it is an ordered request of a client, above its last one.
 fn run_frame(
     alloc: Global,
     space: &mut Space,

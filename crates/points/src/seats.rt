@@ -1,4 +1,4 @@
-//! What is kept of each client.
+//! The notes of a scan on each client.
 
 ghost use Rattle.std.specs.Prelude.{◌≡◌, option_map, OnOk};
 ghost use Rattle.points.specs.Seating.{IsClientIn, IsClientOf, Notes, seat_after, seat_at, seat_data};
@@ -17,8 +17,8 @@ pub(crate) struct OpenCall<'a> {
     pub(crate) op: &'a Op<Global>,
 }
 
-/// What is kept of a client: its open call, the position of its last invocation, else 0, and the bytes that its last
-/// entry brought.
+/// The notes on a client: its open call, the position of its last invocation, else 0, and the bytes that its last entry
+/// brought.
 #[derive(Clone, Copy, Drop)]
 pub(crate) struct Seat<'a> {
     pub(crate) call: Option<OpenCall<'a>>,
@@ -61,7 +61,7 @@ pub(crate) fn note<'a>(
     }
 }
 
-// The client at which the entry stands.
+// The client of the entry, if it is a client's.
 fn client_of(entry: &Entry) -> Option<ClientId>
     ensures { IsClientOf entry.now (option_map (λ client. client.number) result) }
 {
@@ -85,7 +85,7 @@ fn client_in(party: Party) -> Option<ClientId>
     }
 }
 
-// The seat behind an entry of its client.
+// The seat after an entry of its client.
 fn seat_after<'a>(seat: Seat<'a>, position: usize, entry: &'a Entry) -> Seat<'a>
     ensures { seat_data result ≡ seat_after position entry.now (seat_data seat.entry) }
 {

@@ -10,8 +10,8 @@ use std::alloc::Global;
 use std::collections::{BTreeMap, BTreeSet};
 use terms::{Mode, NoMemory, Party};
 
-/// What orders points: position, number, ordered ones before reads, and then client and timestamp of reads. Of those
-/// that are alike in all of this the lower rank comes first.
+/// The order of points: by position, by number, ordered ones before reads, and then by client and timestamp of reads.
+/// Of points that are equal in all of this, the one with the lower rank comes first.
 #[derive(Clone, Copy, PartialEq, Eq, PartialOrd, Ord, Drop)]
 pub(crate) struct Key {
     position: usize,
@@ -29,7 +29,7 @@ pub(crate) struct CallKey {
     timestamp: u64,
 }
 
-/// Points by what orders them.
+/// Points in their order.
 pub(crate) type Sorted = BTreeMap<Key, Placed>;
 
 /// Reads in their order, and their calls.
@@ -50,7 +50,7 @@ impl Reads {
         }
     }
 
-    /// Adds a read, where there is one, of a rank below those before it.
+    /// Adds a read, if there is one, with a rank below those before.
     pub(crate) fn add(&mut self, rank: usize, read: Option<Placed>) -> Result<(), NoMemory>
         requires { AreRankedAbove rank self.old.sorted.entries }
         ensures { OnOk result (AddsRead rank (option_map placing_of read) self.old self.new) }
@@ -64,7 +64,7 @@ impl Reads {
         }
     }
 
-    /// All in their order, with these ordered points that are no read's, which stand in theirs.
+    /// All reads in their order, merged with these ordered points, without those of reads.
     pub(crate) fn with_ordered(self, ordered: Vec<Placed>) -> Result<Sorted, NoMemory>
         requires { (r : ℕ) → r < 2 ^ 63 → AreRankedAbove r self.sorted.entries }
         ensures { IfOk result
@@ -95,7 +95,7 @@ pub(crate) fn points_of(alloc: Global, sorted: Sorted) -> Result<Vec<Point>, NoM
     Ok(points)
 }
 
-// Puts a point before those that it does not come behind. Its rank is below theirs.
+// Puts a point in its order, before those that are equal in order. Its rank is below theirs.
 fn put(sorted: &mut Sorted, rank: usize, placed: Placed) -> Result<(), NoMemory>
     requires { AreRankedAbove rank sorted.old.entries }
     ensures sorts { OnOk result (sorted_of sorted.new.entries

@@ -44,7 +44,7 @@ request_short (fetch number level index) sorted is = absurd cc
 request_short (meta number level index digests) sorted is = absurd cc
 request_short (page number index text) sorted is = absurd cc
 
--- a body behind its length
+-- a body after its length
 body_length : (body : BodyData) → length (piece (body_spelling body)) ≡ 7 + length (fields_spelling body.message)
 body_length body =
     let n = length-append (to_be_bytes w32 (length (body_spelling body))) (body_spelling body) in
@@ -143,7 +143,7 @@ vote_length view number digest is =
 pub new_views_fit : (me : ℕ) (new : NewViewData) → IsNewView new → SignedExceeds (says me (new_view new)) → ⊥
 new_views_fit me new is exceeds = let n = body_length (says me (new_view new)) in let l = new_view_short new is in omega (arith, n, l, exceeds)
 
--- ---- what goes with MACs
+-- ---- messages with MACs
 
 fields_short : (m : Message) → IsMessage m → is_signed m ≡ false → FitsFrame m → length (fields_spelling m) ≤ 4193955
 fields_short (request t mode op) is unsigned fits =

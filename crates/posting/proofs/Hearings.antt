@@ -1,22 +1,12 @@
--- Whether something is heard.
-use Rattle.std.proofs.Common.{◌≡◌, ℕ, suc, ◌+◌, ◌<◌, Bool, true, false, List, [], length, drop, get_or, Option, Some, None, refl, sym, ap, ◌∙◌, Bor, drop-cons, add-one, ◌&&◌}
-use Rattle.std.specs.Prelude.{option_map, is_some}
-use Rattle.wire.specs.declared.frames.Frame.{Frame}
+-- Whether frames are authentic.
+use Rattle.std.proofs.Common.{◌≡◌, ℕ, suc, ◌+◌, ◌<◌, Bool, true, false, List, [], length, drop, get_or, refl, sym, ap, ◌∙◌, Bor, drop-cons, add-one, ◌&&◌}
+use Rattle.std.specs.Prelude.{is_some}
 use Rattle.authenticator.specs.Membership.{Membership}
 use Rattle.signing.specs.Heard.{heard}
 use Rattle.posting.specs.Endpoint.{are_heard}
-use Rattle.posting.specs.Frames.{frame_body, texts}
+use Rattle.posting.specs.Frames.{texts}
 
-some_of : (o : Option Frame) → is_some (option_map frame_body o) ≡ is_some o
-some_of None = refl
-some_of (Some frame) = refl
-
-pub tells_whether : (m : Membership) (me : ℕ) (bytes : List ℕ) (o : Option Frame) → heard m me bytes ≡ option_map frame_body o → is_some o ≡ is_some (heard m me bytes)
-tells_whether m me bytes o e = sym (ap is_some e ∙ some_of o)
-
--- ---- each of some bytes
-
--- what is left to test decides
+-- the rest of the frames decides
 abbrev pub Left : Membership → ℕ → List (Bor (List ℕ)) → ℕ → Type 0
 Left m me xs i = are_heard m me (texts xs) ≡ are_heard m me (texts (drop i xs))
 

@@ -1,4 +1,4 @@
--- What is sealed or signed is posted.
+-- Sealed and signed frames are sent.
 use Rattle.std.proofs.Common.{◌≡◌, ℕ, zero, suc, ◌+◌, ◌*◌, ◌<◌, ◌≤◌, ◌^◌, true, false, List, [], ◌∷◌, ◌++◌, Some, length, slice_get, length-append, arith, Result, Ok, Err, refl, sym, ap, ◌∙◌, subst}
 use Rattle.std.specs.Prelude.{IfOk, Vec, option_and_then}
 use Rattle.std.specs.declared.alloc.Global.{Global}
@@ -21,7 +21,7 @@ use Rattle.posting.specs.Endpoint.{Posts, other_replicas, others_below, says}
 use Rattle.posting.specs.Frames.{SignedFits, SpellsSealed, SpellsSigned, signed_frame}
 use Rattle.posting.proofs.Others.{others_ascend, others_few, others_some}
 
--- ---- what may be sealed
+-- ---- bodies that may be sealed
 
 pub one_sealable : (me party : ℕ) (message : Message) (parties : List ℕ) → me < 10 → IsMessage message → is_signed message ≡ false → parties ≡ party ∷ [] → IsSealable (says me message) parties
 one_sealable me party message parties known said unsigned one =
@@ -57,7 +57,7 @@ others_sealable me faults message parties some few known said unsigned same =
 pub may_say : (me faults : ℕ) (message : Message) → me < 3 * faults + 1 → faults ≤ 3 → IsMessage message → IsBody (says me message)
 may_say me faults message known few said = let low : me < 2 ^ 16 = omega arith in record { sender = low; message = said }
 
--- ---- what is sealed
+-- ---- sealed frames
 
 pub sealed_posts : (m : Membership) (me : ℕ) (message : Message) (parties bytes : List ℕ) → SpellsSealed m.seed (says me message) parties bytes → Posts m me message parties bytes
 sealed_posts m me message parties bytes spells c known =
@@ -69,13 +69,13 @@ pub posted_for_others : (m : Membership) (me : ℕ) (message : Message) (bytes :
 posted_for_others m me message bytes posts c known =
     subst (λ (x : Membership). IsPosted c me message (other_replicas x me) bytes) (sym known) (posts c known)
 
--- ---- what is signed
+-- ---- signed frames
 
 rest_bytes : (a s : List ℕ) (x : ℕ) → AreBytes (a ++ x ∷ s) → AreBytes s
 rest_bytes [] s x h = λ i. h (suc i)
 rest_bytes (y ∷ a) s x h = rest_bytes a s x (λ i. h (suc i))
 
--- what a body's bytes and a signature make
+-- the frame of a body's bytes and a signature
 pub spells_signed : (seed : List ℕ) (leaf : ℕ) (body : BodyData) (text s whole : List ℕ) → IsBody body → is_signed body.message ≡ true → SignedFits body → text ≡ body_spelling body
     → Verifies (public_key seed) text s → whole ≡ piece (body_spelling body) ++ authenticator_spelling (signature s) → AreBytes whole → slice_get s 0 ≡ Some leaf → SpellsSigned seed leaf body whole
 spells_signed seed leaf body text s whole is kind short same verified spelled are by =
@@ -118,7 +118,7 @@ signs_by (Ok bytes) seed leaf body h =
     ap (option_and_then (λ (f : FrameData). leaf_in f.authenticator)) ((reads_frames bytes.items (signed_frame body h.signed)).1 h.spells) ∙ h.by_leaf
 signs_by (Err fault) seed leaf body h = h
 
--- ---- for whom a signed frame is
+-- ---- the receivers of a signed frame
 
 pub signed_goes : (m : Membership) (me faults : ℕ) (message : Message) (numbers bytes frame : List ℕ) → me < 3 * faults + 1 → faults ≡ m.faults → numbers ≡ other_replicas m me → frame ≡ bytes
     → (c : Configuration) → members c ≡ m → IsPosted c me message [] bytes → numbers ≡ receivers_in c me frame

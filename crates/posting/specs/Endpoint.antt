@@ -1,5 +1,5 @@
--- What an endpoint is, what it hears, and what it posts (Castro and Liskov, Practical Byzantine fault tolerance and
--- proactive recovery, TOCS 2002, on the authentication of messages).
+-- A replica's endpoint: which frames it accepts as authentic, and which it sends (Castro and Liskov, Practical
+-- Byzantine fault tolerance and proactive recovery, TOCS 2002, on the authentication of messages).
 use Rattle.std.specs.Prelude.{◌≡◌, ℕ, ◌+◌, ◌*◌, ◌<◌, ◌≤◌, ◌==◌, Bool, not, List, [], ◌∷◌, length, map, filter, Option, is_some, option_map, Vec, ⊤}
 use Rattle.std.specs.List.{list_all, range_with_len}
 use Rattle.std.specs.declared.alloc.Global.{Global}
@@ -21,13 +21,13 @@ use Rattle.events.specs.declared.output.Output.{Output}
 use Rattle.events.specs.declared.output.Output.TheVariants as outputs
 use Rattle.events.specs.Outputs.{entry_of, IsSentAsMeant}
 
--- who takes part, which replica this is, and how many of its 64 keys have signed
+-- the members, the number of this replica, and how many of its 64 keys have signed
 pub record EndpointState : Type 0 where
   pub membership : Membership
   pub me : ℕ
   pub used : ℕ
 
--- A replica of these members may be one of 4, 7 or 10, and its keys are of their seed.
+-- A replica of these members is one of 4, 7 or 10, and its keys are of their seed.
 abbrev pub IsOfMembers : Membership → ℕ → ℕ → List ℕ → List ℕ → Type 0
 IsOfMembers m faults me publics seed =
     (faults ≡ m.faults) × (1 ≤ faults) × (faults ≤ 3) × (me < 3 * faults + 1) × (publics ≡ m.seed)
@@ -45,36 +45,36 @@ others_below n me = filter (λ r. not (r == me)) (range_with_len 0 n)
 abbrev pub other_replicas : Membership → ℕ → List ℕ
 other_replicas m me = others_below (replicas m) me
 
--- ---- what is heard
+-- ---- received frames
 
--- whether the replica hears something from each of the frames
+-- whether each of the frames is authentic to the replica
 abbrev pub are_heard : Membership → ℕ → List (List ℕ) → Bool
 are_heard m me frames = list_all (λ frame. is_some (heard m me frame)) frames
 
--- the body is what the endpoint hears from the bytes, if it hears one
-abbrev pub Hears : EndpointState → List ℕ → Option Body → Type 0
-Hears e bytes body = heard e.membership e.me bytes ≡ option_map body_data body
+-- the body is that of the bytes, if they are authentic to the endpoint
+abbrev pub HearsBody : EndpointState → List ℕ → Option Body → Type 0
+HearsBody e bytes body = heard e.membership e.me bytes ≡ option_map body_data body
 
--- the test says whether each request of the batch is genuine to it
+-- the test says whether each request of the batch is authentic to the endpoint
 abbrev pub TellsGenuine : EndpointState → Batch → Bool → Type 0
 TellsGenuine e batch test = test ≡ are_heard e.membership e.me (requests_of batch.text.items)
 
--- ---- what fits a frame
+-- ---- messages that fit a frame
 
 -- A page of so many bytes fits a frame with MACs for ten parties, and so does each other message that goes with MACs.
 abbrev pub FitsFrame : Message → Type 0
 FitsFrame (page number index text) = length text ≤ 4193945
 FitsFrame _ = ⊤
 
--- ---- what is posted
+-- ---- sent frames
 
--- In each configuration of these members the bytes are the replica's frame that says this, sealed for these parties; a
--- signed one names none.
+-- In each configuration of these members the bytes are the replica's frame with this message, sealed for these parties;
+-- a signed one names none.
 abbrev pub Posts : Membership → ℕ → Message → List ℕ → List ℕ → Type 0
 Posts m me message sealed bytes =
     (c : Configuration) → members c ≡ m → IsPosted c me message sealed bytes
 
--- whom an output goes to
+-- the receivers of an output
 abbrev pub receivers : Output → List ℕ
 receivers (outputs.Executed number batch) = []
 receivers (outputs.Installed number root) = []
@@ -85,7 +85,7 @@ receivers (outputs.Accepted timestamp answer) = []
 abbrev pub GoesAsMeant : Membership → ℕ → Output → Type 0
 GoesAsMeant m me output = (c : Configuration) → members c ≡ m → IsSentAsMeant c me output
 
--- The output is such a frame, and goes to these parties, for whom it is.
+-- The output is such a frame, and goes to these parties, for whom the frame is.
 pub record IsPost (m : Membership) (me : ℕ) (message : Message) (sealed parties : List ℕ)
     (output : Output) : Type 0 where
   pub bytes : List ℕ
@@ -94,7 +94,7 @@ pub record IsPost (m : Membership) (me : ℕ) (message : Message) (sealed partie
   pub posted : Posts m me message sealed bytes
   pub meant : GoesAsMeant m me output
 
--- it has a MAC for each party that it goes to
+-- it has a MAC for each of its receivers
 abbrev pub IsSealedPost : Membership → ℕ → Message → List ℕ → Output → Type 0
 IsSealedPost m me message parties output = IsPost m me message parties parties output
 
@@ -131,32 +131,33 @@ PostsSigned e message output = SignsForOthers e.membership e.me message output
 
 -- ---- signed frames
 
--- the party says this
+-- the party's message
 abbrev pub says : ℕ → Message → BodyData
 says me message = record { sender = me; message = message }
 
--- the bytes are the replica's frame that says this, signed
+-- the bytes are the replica's frame with this message, signed
 abbrev pub IsOwnSigned : EndpointState → Message → List ℕ → Type 0
 IsOwnSigned e message bytes = Posts e.membership e.me message [] bytes
 
 abbrev pub SignsFrame : EndpointState → Message → Vec ℕ Global → Type 0
 SignsFrame e message bytes = IsOwnSigned e message bytes.items
 
--- With a signature, of 16,578 bytes with that of its sort, the body would be longer than a frame of the message may be.
+-- With a signature, which takes 16,578 bytes with the byte of its sort, the body would be longer than a frame of the
+-- message may be.
 abbrev pub SignedExceeds : BodyData → Type 0
 SignedExceeds body = frame_limit body.message < length (piece (body_spelling body)) + 16578
 
--- Some key is left, and the frame would be too long.
+-- Some key is unused, and the frame would be too long.
 abbrev pub IsTooLongToSign : EndpointState → Message → Type 0
 IsTooLongToSign e message = (e.used < 64) × SignedExceeds (says e.me message)
 
--- The bytes go to all other replicas, for whom they are if they are a signed frame of the replica's own.
+-- The bytes go to all other replicas. If they are a signed frame of the replica's own, the frame is for them.
 pub record SendsToOthers (e : EndpointState) (bytes : List ℕ) (output : Output) : Type 0 where
   pub sends : entry_of e.me output ≡ Sent e.me bytes
   pub goes : receivers output ≡ other_replicas e.membership e.me
   pub meant : (c : Configuration) (message : Message) → members c ≡ e.membership
       → IsPosted c e.me message [] bytes → IsSentAsMeant c e.me output
 
--- so whatever message the bytes say, signed, is posted
+-- so whichever signed message the bytes have, the output sends it
 abbrev pub PostsFrame : EndpointState → List ℕ → Output → Type 0
 PostsFrame e bytes output = (message : Message) → IsOwnSigned e message bytes → PostsSigned e message output

@@ -1,4 +1,4 @@
--- The faults of signing as those of posting.
+-- The faults of signing as those of sending.
 use Rattle.signing.specs.declared.signer.SignFault.{SignFault}
 use Rattle.signing.specs.declared.signer.SignFault.TheVariants as sign_faults
 use Rattle.posting.specs.declared.post_fault.PostFault.{PostFault}

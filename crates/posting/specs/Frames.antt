@@ -1,4 +1,4 @@
--- What the private functions speak of that make frames.
+-- Words of the private functions that make frames.
 use Rattle.std.specs.Prelude.{◌≡◌, ℕ, ◌+◌, ◌≤◌, List, Some, length, map, slice_get, Vec}
 use Rattle.std.specs.Borrow.{Bor}
 use Rattle.std.specs.declared.alloc.Global.{Global}
@@ -38,21 +38,21 @@ SealsMessage m me message parties bytes =
 abbrev pub signed_frame : BodyData → List ℕ → FrameData
 signed_frame body signed = record { body = body; authenticator = signature signed }
 
--- the bytes are the body with a signature of it by this leaf of the seed
+-- the bytes are the body with its signature by this leaf of the seed
 pub record SpellsSigned (seed : List ℕ) (leaf : ℕ) (body : BodyData) (bytes : List ℕ) : Type 0 where
   pub signed : List ℕ
   pub spells : SpellsFrame bytes (signed_frame body signed)
   pub verifies : Verifies (public_key seed) (body_spelling body) signed
   pub by_leaf : slice_get signed 0 ≡ Some leaf
 
--- the bytes are the body with a signature of it
+-- the bytes are the body with its signature
 abbrev pub SignsBody : List ℕ → ℕ → Body → Vec ℕ Global → Type 0
 SignsBody seed leaf body bytes = SpellsSigned seed leaf (body_data body) bytes.items
 
--- the bytes are the party's message with a signature of it
+-- the bytes are the party's message with its signature
 abbrev pub SignsMessage : List ℕ → ℕ → ReplicaId → Message → Vec ℕ Global → Type 0
 SignsMessage seed leaf me message bytes = SpellsSigned seed leaf (says me.0 message) bytes.items
 
--- with a signature the body has at most as many bytes as a frame of it may have
+-- with a signature the body has at most as many bytes as its frame may have
 abbrev pub SignedFits : BodyData → Type 0
 SignedFits body = length (piece (body_spelling body)) + 16578 ≤ frame_limit body.message

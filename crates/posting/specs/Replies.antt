@@ -1,4 +1,4 @@
--- What a reply says.
+-- The body of a reply.
 use Rattle.std.specs.Prelude.{◌≡◌, ◌+◌}
 use Rattle.terms.specs.declared.order.Mode.{Mode}
 use Rattle.terms.specs.declared.order.Number.{Number}

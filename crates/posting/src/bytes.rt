@@ -1,4 +1,4 @@
-//! What is known of bytes.
+//! Proof hints on bytes.
 
 ghost use Rattle.tuple_tree.specs.Values.{AreBytes};
 ghost use Rattle.wire.specs.Lists.{Each};
@@ -6,14 +6,14 @@ ghost use Rattle.wire.specs.Spelling.{IsDigest};
 
 use terms::Digest;
 
-/// Each of the bytes that the program holds is one.
+/// Tells a proof that each of the bytes that the program holds is one.
 pub(crate) fn note_bytes(bytes: &[u8])
     ensures { AreBytes bytes.now }
 {
     let _len = bytes.len();
 }
 
-/// Each of the digests that the program holds is one.
+/// Tells a proof that each of the digests that the program holds is one.
 pub(crate) fn note_digests(digests: &[Digest])
     ensures { Each IsDigest digests.now }
 {

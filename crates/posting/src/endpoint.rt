@@ -6,9 +6,9 @@ ghost use Rattle.wire.specs.Views.{message_data};
 ghost use Rattle.authenticator.specs.Keys.{signing_seed};
 ghost use Rattle.authenticator.specs.declared.sealed.SealFault.TheVariants as SealFault;
 ghost use Rattle.protocol.specs.System.Frames.{leaf_of};
-ghost use Rattle.posting.specs.Endpoint.{FitsFrame, Hears, IsTooLongToSign, PostsFrame, PostsTo, PostsToOthers, SendsToOthers, SignsFrame, TellsGenuine};
+ghost use Rattle.posting.specs.Endpoint.{FitsFrame, HearsBody, IsTooLongToSign, PostsFrame, PostsTo, PostsToOthers, SendsToOthers, SignsFrame, TellsGenuine};
 
-use crate::hearing::{hear_all, hear_body};
+use crate::hearing::{hear_body, hears_all};
 use crate::post_fault::PostFault;
 use crate::receivers::other_replicas;
 use crate::sealing::{seal_for_one, seal_for_others};
@@ -21,7 +21,7 @@ use std::marker::Model;
 use terms::{NoMemory, Party, ReplicaId};
 use wire::{Batch, Body, Message, requests};
 
-/// What a replica hears frames with, and posts them with.
+/// The part of a replica that authenticates received frames, and makes those that it sends.
 #[derive(Drop)]
 pub struct Endpoint {
     me: ReplicaId,
@@ -68,44 +68,39 @@ impl Endpoint {
         }
     }
 
-    /// Which replica this is.
+    /// The number of this replica.
     pub fn me(&self) -> ReplicaId
         ensures value { result.0 ≡ self.now.me }
     {
         self.me
     }
 
-    /// What the replica hears from the bytes: the body of a frame of another party, which takes part and may send such
-    /// a message, with the right MAC for this replica, or signed by its sender where it is to be signed. The error is
-    /// want of memory.
+    /// What the replica hears from the bytes: the body of a frame of another party. That party takes part and may send
+    /// such a message. The frame has the right MAC for this replica, or its sender's signature if it has to be signed.
+    /// NoMemory if memory runs out.
     pub fn hear(&mut self, alloc: Global, bytes: &[u8]) -> Result<Option<Body>, NoMemory>
-        ensures heard { IfOk result (Hears self.old bytes.now) }
+        ensures heard { IfOk result (HearsBody self.old bytes.now) }
         ensures same { self.new ≡ self.old }
     {
         hear_body(&mut self.ring, &self.publics, alloc, self.me, bytes)
     }
 
-    /// Whether each request of the batch is genuine: the replica hears it. The error is want of memory.
-    pub fn are_genuine(&mut self, alloc: Global, batch: &Batch) -> Result<bool, NoMemory>
-        ensures genuine { IfOk result (TellsGenuine self.old batch.now) }
+    /// Whether each request of the batch is genuine: the replica hears it. Nothing is decoded, and no memory is taken
+    /// but for the keys that the endpoint keeps.
+    pub fn are_genuine(&mut self, batch: &Batch) -> bool
+        ensures genuine { TellsGenuine self.old batch.now result }
         ensures same { self.new ≡ self.old }
     {
         let frames = requests(&batch.text);
-        hear_all(
-            &mut self.ring,
-            &self.publics,
-            alloc,
-            self.me,
-            frames.as_slice(),
-        )
+        hears_all(&mut self.ring, &self.publics, self.me, frames.as_slice())
     }
 
     /// The output of a message for one party, as a reply for its client.
     ///
     /// # Errors
     ///
-    /// TooLarge where the frame would be longer than it may be, which of messages that fit a frame none is, and else
-    /// NoMemory where memory runs out.
+    /// TooLarge if the frame would be longer than it may be, which no message that fits a frame is. Else NoMemory if
+    /// memory runs out.
     pub fn post_to(
         &mut self,
         alloc: Global,
@@ -125,8 +120,8 @@ impl Endpoint {
     ///
     /// # Errors
     ///
-    /// TooLarge where the frame would be longer than it may be, which of messages that fit a frame none is, and else
-    /// NoMemory where memory runs out.
+    /// TooLarge if the frame would be longer than it may be, which no message that fits a frame is. Else NoMemory if
+    /// memory runs out.
     pub fn post_to_others(&mut self, alloc: Global, message: Message) -> Result<Output, SealFault>
         requires said { IsMessage (message_data message) }
         requires unsigned { is_signed (message_data message) ≡ false }
@@ -137,15 +132,15 @@ impl Endpoint {
         seal_for_others(&mut self.ring, alloc, self.faults, self.me, message)
     }
 
-    /// The frame of a message that is signed, by the next of 64 keys, whose number is the signature's first byte:
-    /// 262,144 bytes at the most for a view change, and 4,194,304 for a new view. It may be posted any number of times.
+    /// The frame of a message, signed by the next of 64 keys, whose number is the signature's first byte. It has at
+    /// most 262,144 bytes for a view change, and 4,194,304 for a new view. It may be sent any number of times.
     ///
-    /// The tree of the keys is made at the first call, in some 115,000 blocks of SHA-256, and then kept.
+    /// The first call makes the tree of the keys, in some 115,000 blocks of SHA-256, and keeps it.
     ///
     /// # Errors
     ///
-    /// KeysSpent where all keys are spent, and else TooLarge where the frame would be longer than it may be: neither
-    /// spends one. NoMemory where memory runs out: that spends at most one.
+    /// KeysSpent if all keys are spent, and else TooLarge if the frame would be longer than it may be: neither spends
+    /// one. NoMemory if memory runs out: that spends at most one.
     pub fn sign(&mut self, alloc: Global, message: Message) -> Result<Vec<u8>, PostFault>
         requires said { IsMessage (message_data message) }
         requires signed { is_signed (message_data message) ≡ true }
@@ -162,7 +157,7 @@ impl Endpoint {
         sign_message(&mut self.signer, alloc, self.me, message)
     }
 
-    /// The output of a frame that was signed, for all other replicas. The error is want of memory.
+    /// The output of a signed frame, for all other replicas. NoMemory if memory runs out.
     pub fn post_frame(&self, alloc: Global, frame: &[u8]) -> Result<Output, NoMemory>
         ensures sends { IfOk result (SendsToOthers self.now frame.now) }
         ensures posts { IfOk result (PostsFrame self.now frame.now) }

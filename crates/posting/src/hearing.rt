@@ -1,13 +1,13 @@
 //! What a replica hears.
 
-ghost use Rattle.std.specs.Prelude.{◌≡◌, IfOk, option_map, is_some};
+ghost use Rattle.std.specs.Prelude.{◌≡◌, IfOk, option_map};
 ghost use Rattle.wire.specs.Views.{body_data};
 ghost use Rattle.signing.specs.Heard.{heard};
 ghost use Rattle.posting.specs.Endpoint.{are_heard};
 ghost use Rattle.posting.specs.Frames.{frame_body, texts};
 
 use authenticator::Ring;
-use signing::{HearFault, HeardFrame, PublicKeys, hear};
+use signing::{HearFault, HeardFrame, PublicKeys, hear, hears};
 use std::alloc::Global;
 use terms::{NoMemory, Party, ReplicaId};
 use wire::{Body, Frame};
@@ -36,41 +36,23 @@ pub(crate) fn hear_body(
     }
 }
 
-/// Whether the replica hears something from each of these bytes.
-pub(crate) fn hear_all(
+/// Whether the replica hears something from each of these bytes. Nothing is decoded.
+pub(crate) fn hears_all(
     ring: &mut Ring,
     publics: &PublicKeys,
-    alloc: Global,
     me: ReplicaId,
     frames: &[&[u8]],
-) -> Result<bool, NoMemory>
+) -> bool
     requires keys { publics.now ≡ ring.old.seed }
-    ensures heard { IfOk result (λ b. b ≡ are_heard ring.old me.0 (texts frames.now)) }
+    ensures heard { result ≡ are_heard ring.old me.0 (texts frames.now) }
     ensures same { ring.new ≡ ring.old }
 {
     for frame in frames {
-        let heard = is_heard(ring, publics, alloc, me, frame)?;
-        if !heard {
-            return Ok(false);
+        if !hears(ring, publics, frame, Party::Replica(me)) {
+            return false;
         }
     }
-    Ok(true)
-}
-
-#[tactic(auto, using(crate::proofs::Hearings::tells_whether))]
-fn is_heard(
-    ring: &mut Ring,
-    publics: &PublicKeys,
-    alloc: Global,
-    me: ReplicaId,
-    bytes: &[u8],
-) -> Result<bool, NoMemory>
-    requires keys { publics.now ≡ ring.old.seed }
-    ensures heard { IfOk result (λ b. b ≡ is_some (heard ring.old me.0 bytes.now)) }
-    ensures same { ring.new ≡ ring.old }
-{
-    let frame = hear_frame(ring, publics, alloc, me, bytes)?;
-    Ok(frame.is_some())
+    true
 }
 
 // The frame that the replica hears from the bytes, if it hears one.

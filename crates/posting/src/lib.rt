@@ -1,15 +1,22 @@
-//! What a replica of the replicated space hears frames with, and what it posts them with (Castro and Liskov, Practical
-//! Byzantine fault tolerance and proactive recovery, TOCS 2002, on the authentication of messages).
+//! The endpoint of a replica of the replicated space: it authenticates received frames, and makes those that the
+//! replica sends (Castro and Liskov, Practical Byzantine fault tolerance and proactive recovery, TOCS 2002, on the
+//! authentication of messages).
 //!
 //! # What is proved
 //!
-//! An [`Endpoint`] hears exactly what the definitions say that the replica hears, and tells of a batch whether each of
-//! its requests is genuine. What it posts is an output with its receivers, whose bytes are a frame of the replica's own
-//! that says the message, with a MAC for each of them, or signed where the message is: `IsPosted` of the protocol, in
-//! each configuration of these members. It goes exactly to the parties for whom the frame is. A frame is encoded once,
-//! however many get it. A signed frame is given as bytes, which may be posted any number of times, so one key is spent
-//! on a view change or new view however often it is said. The functions that make messages say which, and that it may
-//! be said.
+//! An [`Endpoint`] accepts exactly the frames that the definitions say the replica hears, and tells whether each
+//! request of a batch is authentic. It sends an output with its receivers. The bytes are a frame of the replica's own
+//! with the message, and a MAC for each receiver, or a signature for a signed message: `IsPosted` of the protocol, in
+//! each configuration of these members. The output goes exactly to the parties for whom the frame is.
+//!
+//! A frame is encoded once, however many receive it. A signed frame is returned as bytes, which may be sent any number
+//! of times. So a view change or new view spends one key, however often the replica sends it. The functions that make
+//! messages tell which message it is, and that it may be sent.
+//!
+//! # How it is made
+//!
+//! - Contracts see an [`Endpoint`] as the members, the replica's number, and how many of its 64 keys have signed.
+//! - A frame that it sends is `IsPost` (`specs/Endpoint.antt`), so the laws of `replica_histories` take it as it is.
 #![tactic(auto)]
 
 mod bytes;

@@ -1,4 +1,4 @@
-//! Messages that a replica says, each with what makes it one that may be said.
+//! The messages that a replica sends, each with the reason for which it may.
 
 ghost use Rattle.std.specs.Prelude.{◌≡◌, ◌≤◌, true, false, IfOk, IsTrue};
 ghost use Rattle.tuple_codec.specs.OperationView.{outcome_of};
@@ -70,7 +70,7 @@ pub fn checkpoint_message(number: Number, root: Digest) -> Message
     Message::Checkpoint(Checkpoint { number, root })
 }
 
-/// The reply to a client's request of this timestamp, answered in this mode from the state of this number.
+/// The reply to a client's request of this timestamp, executed in this mode on the state of this number.
 pub fn reply_message(
     client: ClientId,
     timestamp: Timestamp,
@@ -93,7 +93,7 @@ pub fn reply_message(
     })
 }
 
-/// The question for a part of the state of this number: 0 at the root, up to 31 at an inner part and up to 1,023 at a
+/// The fetch of a part of the state of this number: index 0 at the root, up to 31 at an inner part and up to 1,023 at a
 /// page.
 pub fn fetch_message(number: Number, level: Level, index: u16) -> Message
     requires { index ≤ last_index level }
@@ -109,8 +109,8 @@ pub fn fetch_message(number: Number, level: Level, index: u16) -> Message
     })
 }
 
-/// The digests of the 32 children of a part of the state of this number: at the root 0 is the index, and at an inner
-/// part up to 31. NoMemory where memory runs out.
+/// The digests of the 32 children of a part of the state of this number: the index is 0 at the root, and up to 31 at an
+/// inner part. NoMemory if memory runs out.
 pub fn meta_message(
     alloc: Global,
     number: Number,

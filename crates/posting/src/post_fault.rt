@@ -1,10 +1,10 @@
-//! Why nothing is posted.
+//! Why an endpoint makes no frame.
 
 use signing::SignFault;
 use terms::NoMemory;
 use thiserror::Error;
 
-/// Why nothing is posted.
+/// Why an endpoint makes no frame.
 #[derive(Clone, Copy, Debug, PartialEq, Eq, Error)]
 pub enum PostFault {
     /// The frame would be longer than it may be.
@@ -13,7 +13,7 @@ pub enum PostFault {
     /// Each of the 64 keys has signed once.
     #[error("all 64 keys are spent")]
     KeysSpent,
-    /// There was no room for the frame.
+    /// Memory ran out.
     #[error("out of memory")]
     NoMemory,
 }

@@ -1,4 +1,4 @@
-//! Whom frames are for.
+//! The receivers of frames.
 
 ghost use Rattle.std.specs.Prelude.{◌≡◌, ◌++◌, ◌∷◌, [], IfOk, OnOk};
 ghost use Rattle.terms.specs.Parties.{party_number};
@@ -16,7 +16,7 @@ pub(crate) fn only(alloc: Global, party: Party) -> Result<Vec<Party>, NoMemory>
     Ok(parties)
 }
 
-/// The replicas below `count` but this one, in order.
+/// The replicas below `count` except this one, in order.
 #[tactic(auto, using(crate::proofs::Others::push_other, crate::proofs::Others::skip_own))]
 pub(crate) fn other_replicas(
     alloc: Global,

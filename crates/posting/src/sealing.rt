@@ -38,13 +38,13 @@ pub(crate) fn seal_for_others(
     seal_for(ring, alloc, me, message, receivers)
 }
 
-/// The output of a message of the replica `me`, below 10, for one party, with the keys of a ring alone. So a replica
-/// answers clients while its endpoint is at work elsewhere.
+/// The output of a message of the replica `me`, below 10, for one party, with only the keys of a ring. So a replica can
+/// answer clients while its endpoint is busy elsewhere.
 ///
 /// # Errors
 ///
-/// TooLarge where the frame would be longer than it may be, which of messages that fit a frame none is, and else
-/// NoMemory where memory runs out.
+/// TooLarge if the frame would be longer than it may be, which no message that fits a frame is. Else NoMemory if memory
+/// runs out.
 pub fn seal_for_one(
     ring: &mut Ring,
     alloc: Global,
@@ -80,7 +80,7 @@ fn seal_for(
     Ok(Output::Send(receivers, frame))
 }
 
-// The frame of a message. The body is dropped here, where there is one way out.
+// The frame of a message. It has one way out, where the body is dropped.
 fn seal_message(
     ring: &mut Ring,
     alloc: Global,

@@ -16,7 +16,7 @@ use wire::{
     put_authenticator,
 };
 
-/// The frame of a message. The body is dropped here, where there is one way out.
+/// The frame of a message. It has one way out, where the body is dropped.
 pub(crate) fn sign_message(
     signer: &mut Signer,
     alloc: Global,
@@ -41,7 +41,7 @@ pub(crate) fn sign_message(
     sign_body(signer, alloc, &body)
 }
 
-// The frame of a body. It is begun before it is signed, so one that is too long spends no key. Where no key is left it
+// The frame of a body. It is begun before it is signed, so one that is too long spends no key. If no key is left, it
 // isn't begun.
 fn sign_body(signer: &mut Signer, alloc: Global, body: &Body) -> Result<Vec<u8>, PostFault>
     requires said { IsBody (body_data body.now) }
@@ -68,7 +68,7 @@ fn sign_body(signer: &mut Signer, alloc: Global, body: &Body) -> Result<Vec<u8>,
     Ok(frame)
 }
 
-// The length and the bytes of a body, with room for a signature behind them.
+// The length and the bytes of a body, with room for a signature after them.
 fn begin_signed(alloc: Global, body: &Body) -> Result<Vec<u8>, PostFault>
     requires { IsBody (body_data body.now) }
     ensures ok { IfOk result (λ frame. frame.items ≡ piece (body_spelling (body_data body.now))) }

@@ -1,4 +1,4 @@
--- A call whose reply 2f + 1 correct replicas keep is accepted once its client asks again and all is delivered.
+-- If 2f + 1 correct replicas keep the reply to a call, its client accepts once it asks again and all is delivered.
 use Rattle.std.proofs.Common.{◌≡◌, ◌≢◌, ℕ, zero, suc, ◌+◌, ◌*◌, ◌≤◌, ◌<◌, ◌⊎◌, inl, inr, Bool, true, false, List, [], ◌∷◌, ◌++◌, Option, Some, refl, sym, ap, ◌∙◌, subst, arith, append_assoc, bytes_eq, eqb-true, eq-eqb}
 use Rattle.std.specs.Prelude.{◌==◌}
 use Rattle.std.specs.List.{range_with_len}
@@ -23,7 +23,7 @@ use Rattle.protocol.specs.System.Texts.{NoCollision}
 use Rattle.protocol.specs.System.Run.{IsRun, OnlyTheseStopped}
 use Rattle.protocol.specs.Replica.State.{kept_of}
 use Rattle.protocol.specs.Replica.RightReplica.{Point, MaySend, IsAddressed}
-use Rattle.protocol.specs.Replica.Owed.{Proceeds, Gives}
+use Rattle.protocol.specs.Replica.Owed.{Proceeds, SendsMessage}
 use Rattle.protocol.specs.Client.RightClient.{OpenCall, open_call, Vote, latest, is_alike, Reaction, reaction, IsReaction, Reacts, SafeClient}
 use Rattle.protocol.specs.Client.RightClient.Reaction.{nothing, asks}
 use Rattle.protocol.proofs.Words.Options.{some_injective}
@@ -89,7 +89,7 @@ accepted_or_not k t (e ∷ part) = go (accepted_or_not k t part)
     go (inl a) = inl (a.0, inr a.1)
     go (inr none) = accepted_here k t e part none
 
--- ---- for whom
+-- ---- receivers
 
 pub in_range : (first n r : ℕ) → first ≤ r → r < first + n → Has (λ x. x ≡ r) (range_with_len first n)
 in_range first zero r l m = absurd (omega arith)
@@ -104,7 +104,7 @@ reply_for : (c : Configuration) (r : ℕ) (past : List Entry) (client t : ℕ) (
 reply_for c r past client t mode n answer (macs entries) plain for = subst (λ (xs : List ℕ). Has (λ x. x ≡ client) xs) (sym for) (inl refl)
 reply_for c r past client t mode n answer (signature s) plain for = absurd cc
 
--- the latest reply of a replica that counts, which it said
+-- the latest reply of a replica that counts, which that replica sent
 pub record Voted (c : Configuration) (trace mine : List Entry) (me t : ℕ) (mode : Mode) (r : ℕ) : Type 0 where
   pub vote : Vote
   pub is_latest : latest c me mine t mode r ≡ Some vote
@@ -187,7 +187,7 @@ module _ (c : Configuration) (setting : IsConfiguration c) (later start : List E
           posted = is.2;
         }
 
-    -- ---- what a replica gives for the request reaches the client
+    -- ---- a replica's reply to the request reaches the client
 
     module _ (mode : Mode) (request : Asked c me mode call later) (r : ℕ) (correct : is_correct_replica c r ≡ true) where
       pub hears_request : Heard c me r (Request call.timestamp mode call.op) request.bytes
@@ -219,7 +219,7 @@ module _ (c : Configuration) (setting : IsConfiguration c) (later start : List E
       pub event : Owed c r (Got r request.bytes) [] (history_of r later) (history_of r start)
       event = owed c r (Got r request.bytes) refl [] (history_of r later) (history_of r start) point point proceeds (in_history r (Got r request.bytes) later refl gets_request)
 
-      module _ (n : ℕ) (answer : Outcome) (gives : Gives r (Reply me call.timestamp mode n answer) event.outs) where
+      module _ (n : ℕ) (answer : Outcome) (gives : SendsMessage r (Reply me call.timestamp mode n answer) event.outs) where
         reply : Given r (Reply me call.timestamp mode n answer) event.outs
         reply = given r (Reply me call.timestamp mode n answer) event.outs gives
 
@@ -259,7 +259,7 @@ module _ (c : Configuration) (setting : IsConfiguration c) (later start : List E
                   (subst (λ (xs : List Entry). Once (Hears c me (replying r me call.timestamp mode v.0.number v.0.answer)) xs) (sym is_mine) heard_it);
             }
 
-    -- ---- 2f + 1 that are alike are a quorum
+    -- ---- 2f + 1 replies that agree are a quorum
 
     pub not_all_alike : (mode : Mode) (n : ℕ) (answer : Outcome) (from : ℕ → Bool) → 2 * c.faults + 1 ≤ count_below from (replicas c) → (by : (r : ℕ) → from r ≡ true → Voted c trace mine me call.timestamp mode r)
         → ((r : ℕ) (h : from r ≡ true) → ((by r h).vote.number ≡ n) × ((by r h).vote.answer ≡ answer)) → ⊥
@@ -296,7 +296,7 @@ module _ (c : Configuration) (setting : IsConfiguration c) (later start : List E
       votes : Voted c trace mine me call.timestamp modes.Ordered r
       votes =
           voted modes.Ordered request r correct still.0.number still.0.outcome
-          (subst (λ (t : ℕ). Gives r (Reply me t modes.Ordered still.0.number still.0.outcome) its_event.outs) still.2
+          (subst (λ (t : ℕ). SendsMessage r (Reply me t modes.Ordered still.0.number still.0.outcome) its_event.outs) still.2
           (its_event.owes.again k call.timestamp call.op still.0 (hears_request modes.Ordered request r correct).hears still.1 still.2))
 
     contradiction : (keeps : ℕ → Bool) → 2 * c.faults + 1 ≤ count_below keeps (replicas c) → ((r : ℕ) → keeps r ≡ true → (is_correct_replica c r ≡ true) × KeepsReply c r (history_of r start) k call.timestamp)

@@ -1,4 +1,4 @@
--- What each correct replica has logged as a view begins each commits, and executes in its turn.
+-- Each correct replica commits what each has logged as a view begins, and executes it in its turn.
 use Rattle.std.proofs.Common.{◌≡◌, ℕ, ◌⊎◌, inl, inr, true, List, [], ◌++◌, Some, sym, subst}
 use Rattle.protocol.specs.System.Configuration.{Configuration, IsConfiguration, primary, is_correct_replica}
 use Rattle.protocol.specs.System.Trace.{Entry, history_of, Unforged}

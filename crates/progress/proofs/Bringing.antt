@@ -14,7 +14,7 @@ use Rattle.progress.specs.Flushed.{FlushesBringAnswers}
 use Rattle.progress.proofs.Flushing.{flushes_deliver_all}
 use Rattle.progress.proofs.Answering.{executed_calls_are_accepted}
 
--- a tick that a schedule has first is fed
+-- a schedule feeds the tick with which it begins
 pub tick_is_fed : (c : Configuration) (w v : World) (p : ℕ) (rest steps : List Step) (entries : List Entry) → Goes c w steps entries v → steps ≡ ticks p ∷ rest → HasEntry (Tick p) entries
 tick_is_fed c w v p rest _ _ ends is = absurd cc
 tick_is_fed c w v p rest _ _ (gives o g) is = inr (tick_is_fed c _ v p rest _ _ g is)

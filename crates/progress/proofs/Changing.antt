@@ -1,4 +1,4 @@
--- Where each correct replica has left for a view whose primary is correct, that begins the view, and each enters it.
+-- If each correct replica has left for a view whose primary is correct, that begins the view, and each enters it.
 use Rattle.std.proofs.Common.{◌≡◌, ◌≢◌, ℕ, ◌+◌, ◌*◌, ◌≤◌, ◌<◌, ◌⊎◌, inl, inr, Bool, true, false, ◌&&◌, List, [], ◌∷◌, ◌++◌, Some, refl, sym, ap, ◌∙◌, subst, arith, append_assoc, eqb-true, eq-eqb}
 use Rattle.std.specs.Prelude.{◌==◌, nat_le, option_and_then}
 use Rattle.std.proofs.lemmas.List.{append-nil}
@@ -95,7 +95,7 @@ module _ (c : Configuration) (setting : IsConfiguration c) (trace : List Entry) 
         go : (e : Entry) → new_view_in c e ≡ Some new → (b : Body) × (brought c e ≡ Some b) × Begins c b new
         go e h = let r = and_then_some (new_view_from c) (brought c e) new h in (r.0, r.1, begins c r.0 new r.2)
 
-    -- ---- the next view itself its primary said, so that is in it
+    -- ---- its primary sent a new view for the next view, so that is in it
 
     module _ (is : new.view ≡ v) where
       is_body : ◌≡◌ {A = Body} body.0 (record { sender = primary c v; message = NewView new })
@@ -174,7 +174,7 @@ module _ (c : Configuration) (setting : IsConfiguration c) (trace : List Entry) 
       right : SafeReplica c q (history_of q trace)
       right = safe q correct
 
-      -- what it said of the view is level, and within its bounds
+      -- its view changes for the view are level, and within their bounds
       sent_it : (vc : ViewChangeData) → Once (Speaks (changing q vc)) (history_of q trace) → Once (SendsBody (changing q vc)) trace
       sent_it vc h =
           once_weaker (λ past e. (party_of e ≡ q) × Speaks (changing q vc) (history_of q past) e) (SendsBody (changing q vc))
@@ -203,7 +203,7 @@ module _ (c : Configuration) (setting : IsConfiguration c) (trace : List Entry) 
       in_it : HasEntry (Sent q frame.bytes) trace
       in_it = subst (λ (x : ℕ). HasEntry (Sent x frame.bytes) trace) sent.own (in_trace q (Sent frame.party frame.bytes) trace frame.is_there)
 
-      -- the primary has one of it
+      -- the primary has a view change of the replica
       of_it : (vc : ViewChangeData) → Once (Speaks (changing q vc)) (history_of q trace) → vc.view ≡ v → HasLatestChange c (primary c v) (history_of (primary c v) trace) (q, vc)
           → SaysFrom c (primary c v) (history_of (primary c v) trace) v start root q
       of_it vc says is latest = let l = n.level q vc correct (sent_it vc says) is in (vc, latest, is, within_bounds vc says, l.0, l.1)

@@ -21,8 +21,8 @@ use Rattle.protocol.specs.Replica.RightReplica.{Point, MaySay, MayPrePrepare, Se
 use Rattle.protocol.specs.Replica.Owed.{IsSaying, AreKeysSpent, BringsChange, HasLatestChange, HasBatch}
 use Rattle.protocol.specs.Laws.Bounds.{IsBounded}
 use Rattle.protocol.specs.Laws.Histories.{AreReplicasSafe}
-use Rattle.protocol.specs.Evidence.Refused.{SoManyHave, SaysNothingAgainst, SaysForIt, SaysNothing}
-use Rattle.protocol.specs.Evidence.Selected.{SomePrepared, MayStand}
+use Rattle.evidence.specs.Refused.{SoManyHave, SaysNothingAgainst, SaysForIt, SaysNothing}
+use Rattle.evidence.specs.Selected.{SomePrepared, MayStand}
 use Rattle.protocol.proofs.Words.Bounds.{bounded}
 use Rattle.protocol.proofs.Words.Elements.{has_some, each_weaker, each_has}
 use Rattle.protocol.proofs.Words.Linking.{Speaks, saying_speaks}
@@ -36,8 +36,8 @@ use Rattle.protocol.proofs.Agreement.Marks.{takes, proposes}
 use Rattle.protocol.proofs.Agreement.Offers.{offer_from, offer_in, offered, entry_batch, logged_view, offers_kept}
 use Rattle.protocol.proofs.Agreement.Signed.{changing}
 use Rattle.protocol.proofs.Agreement.Voting.{RightAt, right_always, voter_logs, primary_votes_not}
-use Rattle.protocol.proofs.Evidence.SelectedTests.{pairs_of_ascending}
-use Rattle.protocol.proofs.Evidence.SelectedRules.{new_views_meet_the_rules}
+use Rattle.evidence.proofs.SelectedTests.{pairs_of_ascending}
+use Rattle.evidence.proofs.SelectedRules.{new_views_meet_the_rules}
 use Rattle.progress.specs.Leaving.{SaysFrom, PreparedViewsAreBegun}
 use Rattle.progress.proofs.Committing.{pre_prepare_is}
 use Rattle.progress.proofs.Gathering.{Change, Gathered, gather, carried_are}
@@ -51,7 +51,7 @@ prepared_later : (c : Configuration) (me v i : ℕ) (batch : List ℕ) (later pa
 prepared_later c me v i batch [] past h = h
 prepared_later c me v i batch (e ∷ later) past h = prepared_stays c me v i batch e (later ++ past) (prepared_later c me v i batch later past h)
 
--- ---- what is proposed in a view is so before a later one is left for
+-- ---- a batch is proposed in a view before a view change for a later one
 
 taken_target : (c : Configuration) (past : List Entry) (e : Entry) (new : NewViewData) → taken c past e ≡ Some new → target past ≤ new.view
 taken_target c past e new h =
@@ -91,7 +91,7 @@ proposal_target c me w i b past e r h = go (or_else_cases (begun_proposal c me p
     go (inl k) = begun (is_in_marks c (low c me (e ∷ past)) i) k
     go (inr k) = entry_target c me w i b past e r k
 
--- a view change proposes nothing
+-- an entry that sends a view change proposes nothing
 change_proposes : (c : Configuration) (s w i : ℕ) (b : List ℕ) (vc : ViewChangeData) (past : List Entry) (e : Entry) → Speaks (changing s vc) past e → proposal c s past e w i ≡ Some b → ⊥
 change_proposes c s w i b vc past (Sent p bytes) says h = go (or_else_cases (begun_proposal c s past (Sent p bytes) w i) (entry_proposal c s past (Sent p bytes) w i) b h)
   where
@@ -117,7 +117,7 @@ change_proposes c s w i b vc past (Executed x y z) says h = absurd says
 change_proposes c s w i b vc past (Installed x y z) says h = absurd says
 change_proposes c s w i b vc past (Accepted x y z) says h = absurd says
 
--- so what is logged in a view was logged before a view change for a later one
+-- so a batch that is logged in a view was logged before a view change for a later one
 logged_before : (c : Configuration) (s w i : ℕ) (b : List ℕ) (vc : ViewChangeData) (newer past : List Entry) (e : Entry) → Always (RightAt c s) (newer ++ e ∷ past) → Speaks (changing s vc) past e → w < vc.view
     → logged c s (newer ++ e ∷ past) w i ≡ Some b → logged c s past w i ≡ Some b
 unfolding logged
@@ -139,7 +139,7 @@ logged_before c s w i b vc (x ∷ newer) past e right says less h =
         let g = target_later newer (e ∷ past) in
         absurd (omega arith)
 
--- and so it is with what a primary offers
+-- and so it is with a primary's offers
 offer_target : (c : Configuration) (s w i : ℕ) (b : List ℕ) (past : List Entry) (point : Point) (p : ℕ) (bytes : List ℕ) (sender : ℕ) (message : Message) → offer_from w i (record { sender = sender; message = message }) ≡ Some b
     → MaySay c s past point (Sent p bytes) bytes message → target past ≤ w
 offer_target c s w i b past point p bytes sender (PrePrepare u j d) h say =
@@ -373,7 +373,7 @@ no_entry : (n : ℕ) (xs : List (List ℕ)) → length xs ≡ n → n ≡ 0 → 
 no_entry n [] is zero_is = refl
 no_entry n (x ∷ xs) is zero_is = absurd (omega arith)
 
--- ---- a primary that has the view changes, and what is prepared there
+-- ---- a primary that has the view changes, and the batches that are prepared there
 
 module _ (c : Configuration) (setting : IsConfiguration c) (trace : List Entry) (is_run : IsRun c trace) (unforged : Unforged c trace) (p v start : ℕ) (root : List ℕ) (correct : is_correct_replica c p ≡ true)
     (from : ℕ → Bool) (enough : 2 * c.faults + 1 ≤ count_below from (replicas c))
@@ -442,7 +442,7 @@ module _ (c : Configuration) (setting : IsConfiguration c) (trace : List Entry) 
     logged_there : (w i : ℕ) (b : List ℕ) → w < v → logged c x.0 (history_of x.0 trace) w i ≡ Some b → logged c x.0 it.past w i ≡ Some b
     logged_there w i b less k = logged_before c x.0 w i b x.1 it.newer it.past it.entry right_there it.holds.says (below_view w less) (subst (λ (xs : List Entry). logged c x.0 xs w i ≡ Some b) it.splits k)
 
-    -- it speaks for what it had logged
+    -- its Q set has each batch that it had logged
     vouches_for : (w i : ℕ) (b : List ℕ) → start < i → i ≤ start + span c → is_number i ≡ true → logged c x.0 it.past w i ≡ Some b → SaysForIt i w (sha256 b) x.1
     vouches_for w i b a l n k = it.holds.is_new.proposed.all w i b (marks_there i a l n) k
 
@@ -474,7 +474,7 @@ module _ (c : Configuration) (setting : IsConfiguration c) (trace : List Entry) 
           is_small = m.2;
         }
 
-    -- what a primary of an earlier view offered it had logged
+    -- it had logged what it offered as the primary of an earlier view
     offered_there : (w i : ℕ) (b : List ℕ) → w < v → start < i → Once (λ earlier y. offer_in w i y ≡ Some b) (history_of x.0 trace) → logged c x.0 it.past w i ≡ Some b
     offered_there w i b less a k = go (offers_kept c x.0 w i b it.past (right_always c x.0 it.past it.holds.point it.holds.leaves)
         (offered_before c x.0 w i b x.1 it.newer it.past it.entry right_there it.holds.says (below_view w less) (subst (λ (xs : List Entry). Once (λ earlier y. offer_in w i y ≡ Some b) xs) it.splits k))).place
@@ -509,7 +509,7 @@ module _ (c : Configuration) (setting : IsConfiguration c) (trace : List Entry) 
   weak : (Q : ViewChangeData → Type 0) → ((x : ℕ × ViewChangeData) → Has (λ y. y ≡ x) g.set → Q x.1) → SoManyHave (c.faults + 1) c g.set Q
   weak Q q = (inside, (let m = so_many in omega arith), λ s h. let t = in_the_set s h in (t.0, t.1, q (s, t.0) t.1))
 
-  -- ---- what may stand at a number
+  -- ---- the batch that may be selected for a number
 
   record Chosen (i : ℕ) : Type 0 where
     batch : List ℕ
@@ -635,7 +635,7 @@ module _ (c : Configuration) (setting : IsConfiguration c) (trace : List Entry) 
   top : Top (SomePrepared g.set) start
   top = top_set start g.set
 
-  -- what is prepared is within the marks
+  -- P entries are within the marks
   some_entered : (i : ℕ) (set : List (ℕ × ViewChangeData)) → ((x : ℕ × ViewChangeData) → Has (λ y. y ≡ x) set → Voter x) → SomePrepared set i → (start < i) × (i ≤ start + span c) × (is_number i ≡ true)
   some_entered i [] voters h = absurd h
   some_entered i (x ∷ xs) voters (inr h) = some_entered i xs (λ y k. voters y (inr k)) h

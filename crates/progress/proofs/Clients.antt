@@ -1,4 +1,4 @@
--- A client's open call: it ends by an acceptance alone, and while it is open no 2f + 1 replies are alike.
+-- A client's open call: only an acceptance ends it, and while it is open no 2f + 1 replies agree.
 use Rattle.std.proofs.Common.{◌≡◌, ℕ, zero, suc, ◌+◌, ◌*◌, ◌≤◌, ◌⊎◌, inl, inr, Bool, true, false, cond, List, [], ◌∷◌, ◌++◌, Option, Some, None, refl, sym, ap, ◌∙◌, subst, arith, bytes_eq, ◌&&◌, eqb-true, eq-eqb}
 use Rattle.std.specs.Prelude.{◌==◌, option_and_then}
 use Rattle.std.specs.Option.{option_map_or}
@@ -20,7 +20,7 @@ use Rattle.protocol.specs.Client.RightClient.{OpenCall, open_call, Vote, vote_of
 use Rattle.protocol.specs.Client.RightClient.Reaction.{nothing, accepts}
 use Rattle.protocol.proofs.Words.Modes.{same_mode-true}
 use Rattle.protocol.proofs.Words.Options.{some_injective}
-use Rattle.protocol.proofs.Evidence.Counted.{heard_is_latest}
+use Rattle.evidence.proofs.Counted.{heard_is_latest}
 use Rattle.progress.specs.Delivery.{HasEntry}
 use Rattle.progress.specs.Answered.{OpenCallsLackQuorums}
 
@@ -28,7 +28,7 @@ pub none_pass : (n : ℕ) → count_below (λ x. false) n ≡ 0
 none_pass zero = refl
 none_pass (suc n) = none_pass n
 
--- ---- it ends by an acceptance alone
+-- ---- only an acceptance ends it
 
 -- the client k accepts an answer to the request of this timestamp
 abbrev pub Accepting : ℕ → ℕ → List Entry → Type 0
@@ -66,7 +66,7 @@ module _ (c : Configuration) (k : ℕ) (call : OpenCall) (start : List Entry) (o
   open_or_accepted [] right = inr opened
   open_or_accepted (e ∷ part) right = by_entry e part right.0 (open_or_accepted part right.1)
 
-  -- ---- a reply that came since is the latest, or another one is
+  -- ---- a reply that came since is the latest, or another is
 
   some_later : (mode : Mode) (o earlier : Option Vote) (vote : Vote) → earlier ≡ Some vote → (v : Vote) × (later_vote mode o earlier ≡ Some v)
   some_later mode None earlier vote is = (vote, is)
@@ -103,9 +103,9 @@ module _ (c : Configuration) (k : ℕ) (call : OpenCall) (start : List Entry) (o
       let none : Accepting k call.timestamp part → ⊥ = λ a. not_yet (a.0, inr a.1) in
       latest_by mode r e part right.0.1 (open_or_accepted part right.1) none (latest_since mode r n answer bytes hears part right.1 none h)
 
--- ---- no quorum is alike while it is open
+-- ---- no quorum agrees while it is open
 
--- none of the outputs that are to come accepts
+-- none of the outputs that are still to come accepts
 abbrev NoneAccepts : List Entry → Type 0
 NoneAccepts outputs = (k t : ℕ) (answer : Outcome) → HasEntry (Accepted k t answer) outputs → ⊥
 
@@ -119,7 +119,7 @@ module _ (c : Configuration) (me : ℕ) (call : OpenCall) (vote : Vote) where
   abbrev Few : List Entry → Type 0
   Few past = count_alike c me past t vote ≤ 2 * c.faults
 
-  -- where all that are alike were so before, no more are
+  -- if all replies that agree did so before, no more agree
   few_still : (past new : List Entry) → ((s : ℕ) → alike_in new s ≡ true → alike_in past s ≡ true) → Few past → Few new
   few_still past new same few = let m = count_mono (alike_in new) (alike_in past) (replicas c) (λ s l h. same s h) in omega arith
 
@@ -132,7 +132,7 @@ module _ (c : Configuration) (me : ℕ) (call : OpenCall) (vote : Vote) where
       let q = and_parts (v.number == vote.number) (bytes_eq (outcome_spelling v.answer) (outcome_spelling vote.answer)) h in
       (eqb-true v.number vote.number q.0, (bytes_eq-Decides (outcome_spelling v.answer) (outcome_spelling vote.answer)).0 q.1)
 
-  -- two that are alike have as many that are alike
+  -- a reply that agrees with two that agree: with the one and with the other
   alike_too : (v : Vote) → is_alike vote (Some v) ≡ true → (o : Option Vote) → is_alike vote o ≡ true → is_alike v o ≡ true
   alike_too v h None k = absurd cc
   alike_too v h (Some x) k =
@@ -141,7 +141,7 @@ module _ (c : Configuration) (me : ℕ) (call : OpenCall) (vote : Vote) where
       and_from (x.number == v.number) (bytes_eq (outcome_spelling x.answer) (outcome_spelling v.answer)) (eq-eqb x.number v.number (b.0 ∙ sym a.0))
       ((bytes_eq-Decides (outcome_spelling x.answer) (outcome_spelling v.answer)).1 (b.1 ∙ sym a.1))
 
-  -- a reply that is alike, and made a quorum, would be accepted
+  -- the client would accept a reply that agrees and makes a quorum
   not_complete : (p : ℕ) (bytes : List ℕ) (past outputs : List Entry) (v : Vote) → open_call past ≡ Some call → NoneAccepts outputs → IsReaction c me (reaction c me (Got p bytes ∷ past)) outputs
       → newest_vote c me (Got p bytes ∷ past) t ≡ Some v → is_complete c me (Got p bytes ∷ past) t v ≡ true → ⊥
   not_complete p bytes past outputs v opened none reacts newest complete =
@@ -151,7 +151,7 @@ module _ (c : Configuration) (me : ℕ) (call : OpenCall) (vote : Vote) where
       let k = subst (λ (r : Reaction). IsReaction c me r outputs) is reacts in
       none k.0 t v.answer (subst (λ (ys : List Entry). HasEntry (Accepted k.0 t v.answer) ys) (sym k.1) (inl refl))
 
-  -- a reply that is got
+  -- a reply that the client receives
   module _ (p : ℕ) (bytes : List ℕ) (past outputs : List Entry) (sender client u : ℕ) (mode : Mode) (number : ℕ) (answer : Outcome)
       (hears : heard (members c) me bytes ≡ Some (record { sender = sender; message = Reply client u mode number answer })) (few : Few past) where
     abbrev v : Vote
@@ -163,7 +163,7 @@ module _ (c : Configuration) (me : ℕ) (call : OpenCall) (vote : Vote) where
     abbrev here : ℕ → Bool
     here s = (sender == s) && (client == me) && (u == t)
 
-    -- it is of the mode, alike, and to the call
+    -- it is of the mode, agrees, and is to the call
     abbrev all_three : Bool
     all_three = (same_mode mode vote.mode && is_alike vote (Some v)) && ((client == me) && (u == t))
 

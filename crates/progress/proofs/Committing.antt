@@ -1,4 +1,4 @@
--- A batch that each correct replica gets is logged, prepared and committed by each, where what each says of it comes to
+-- Each correct replica logs, prepares and commits a batch that each receives, if all that each sends about it reaches
 -- each.
 use Rattle.std.proofs.Common.{◌≡◌, ◌≢◌, ℕ, zero, suc, ◌+◌, ◌*◌, ◌≤◌, ◌<◌, ◌⊎◌, inl, inr, Bool, true, false, not, cond, List, [], ◌∷◌, ◌++◌, Option, Some, None, reverse, refl, sym, ap, ◌∙◌, subst, arith, append_assoc, ◌&&◌, eqb-true, eq-eqb, bytes_eq}
 use Rattle.std.specs.Prelude.{◌==◌, nat_le, option_and_then}
@@ -18,7 +18,7 @@ use Rattle.protocol.specs.System.Trace.Entry.{Invoke, Got, Tick, Executed, Insta
 use Rattle.protocol.specs.System.Run.{OnlyTheseStopped}
 use Rattle.protocol.specs.Replica.Certificates.{view, is_active_in, low, is_in_marks, are_genuine, brought, counts_at, batch_from, begun_proposal, entry_proposal, proposal, logged, first_given, prepare_from, commit_from, vote_in, prepare_of, commit_of, Prepared, Committed}
 use Rattle.protocol.specs.Replica.RightReplica.{Point, Leaves, MaySend, MaySay, IsFor, others}
-use Rattle.protocol.specs.Replica.Owed.{Proceeds, Gives}
+use Rattle.protocol.specs.Replica.Owed.{Proceeds, SendsMessage}
 use Rattle.protocol.specs.Space.Linear.{reached}
 use Rattle.protocol.specs.Laws.Histories.{AreReplicasSafe}
 use Rattle.protocol.proofs.Words.Options.{some_injective, then_some_gives}
@@ -68,7 +68,7 @@ stands e [] start h = absurd h
 stands e (x ∷ part) start (inl is) = record { newer = []; middle = part; splits = ap (λ (y : Entry). y ∷ part) is; whole = ap (λ (y : Entry). y ∷ (part ++ start)) is }
 stands e (x ∷ part) start (inr h) = let b = stands e part start h in record { newer = x ∷ b.newer; middle = b.middle; splits = ap (λ (xs : List Entry). x ∷ xs) b.splits; whole = ap (λ (xs : List Entry). x ∷ xs) b.whole }
 
--- ---- what messages are
+-- ---- the fields of messages
 
 pub pre_prepare_is : (c : Configuration) (me v i : ℕ) (batch : List ℕ) (sender : ℕ) (message : Message) → batch_from c me v i (record { sender = sender; message = message }) ≡ Some batch
     → (◌≡◌ {A = Body} (record { sender = sender; message = message }) (record { sender = primary c v; message = PrePrepare v i batch })) × (are_genuine c me batch ≡ true)
@@ -124,7 +124,7 @@ own_in p e (x ∷ xs) h = go (party_of x == p) refl h (own_in p e xs)
     go true own (inr k) below = below k
     go false own k below = below k
 
--- what a replica said
+-- a message that a replica sent
 pub record Shared (c : Configuration) (q : ℕ) (message : Message) (entries : List Entry) : Type 0 where
   pub bytes : List ℕ
   pub is_sent : HasEntry (Sent q bytes) entries
@@ -133,7 +133,7 @@ pub record Shared (c : Configuration) (q : ℕ) (message : Message) (entries : L
   pub point : Point
   pub may : MaySend c q past point (Sent q bytes) bytes
 
--- an entry of the replica's history that brings the body, where it counts
+-- an entry of the replica's history that brings the body, if it counts
 pub record Comes (c : Configuration) (s v i : ℕ) (body : Body) (whole : List Entry) : Type 0 where
   pub newer : List Entry
   pub past : List Entry
@@ -184,19 +184,19 @@ of_others c v i q past receivers _ (is_batch b) h = h
 of_others c v i q past receivers _ (is_prepare d) h = h
 of_others c v i q past receivers _ (is_commit d) h = h
 
--- what says it logged the batch's number
+-- a replica that may send one of these has logged a batch for the number
 pub of_logged : (c : Configuration) (v i q : ℕ) (past : List Entry) (at : Point) (bytes : List ℕ) (message : Message) → IsOf v i message → MaySay c q past at (Sent q bytes) bytes message
     → (b : List ℕ) × (logged c q (Sent q bytes ∷ past) v i ≡ Some b)
 of_logged c v i q past at bytes _ (is_batch b) may = (b, may.one)
 of_logged c v i q past at bytes _ (is_prepare d) may = (may.batch, logged_stays c q v i may.batch (Sent q bytes) past may.is_logged)
 of_logged c v i q past at bytes _ (is_commit d) may = (may.batch, logged_stays c q v i may.batch (Sent q bytes) past may.prepared.logged)
 
--- what each correct replica says of the number comes to this one, where it counts
+-- each message about the number that a correct replica sends reaches this one, if it counts
 abbrev pub Reaches : Configuration → ℕ → ℕ → List Entry → ℕ → Type 0
 Reaches c v i trace s =
     (q : ℕ) → is_correct_replica c q ≡ true → (message : Message) → IsOf v i message → Shared c q message (history_of q trace) → Comes c s v i (record { sender = q; message = message }) (history_of s trace)
 
--- ---- the number is committed at each correct replica, if it is so already or what each says of it comes there
+-- ---- the number is committed at each correct replica, if it is so already or all that each sends about it comes there
 
 module _ (c : Configuration) (setting : IsConfiguration c) (trace : List Entry) (goes : OnlyTheseStopped c [] trace)
     (safe : AreReplicasSafe c trace) (unforged : Unforged c trace) (v i : ℕ) (batch : List ℕ) (from : is_correct_replica c (primary c v) ≡ true)
@@ -222,8 +222,8 @@ module _ (c : Configuration) (setting : IsConfiguration c) (trace : List Entry) 
     pub leaves : Leaves c q (whole q) point
     leaves = proceeds_leaves c q (whole q) [] point point proceeds
 
-    -- what is given in an event is shared
-    shares : (message : Message) (newer outs rest : List Entry) → whole q ≡ newer ++ (reverse outs ++ rest) → Gives q message outs → Shared c q message (whole q)
+    -- a message among an event's outputs is sent
+    shares : (message : Message) (newer outs rest : List Entry) → whole q ≡ newer ++ (reverse outs ++ rest) → SendsMessage q message outs → Shared c q message (whole q)
     shares message newer outs rest is gives = record {
       bytes = g.bytes;
       is_sent = subst (λ (p : ℕ). HasEntry (Sent p g.bytes) (whole q)) at.own there;
@@ -243,7 +243,7 @@ module _ (c : Configuration) (setting : IsConfiguration c) (trace : List Entry) 
         at : SentAt c q g.party g.bytes (whole q)
         at = sent_at c q g.party g.bytes (whole q) point leaves there
 
-  -- what comes, where it counts, happened
+  -- a message that comes and counts has happened
   module _ (s : ℕ) (body : Body) (x : Comes c s v i body (whole s)) where
     happens : (Q : List Entry → Entry → Type 0) → Q x.past x.entry → Once Q (whole s)
     happens Q h = subst (λ (xs : List Entry). Once Q xs) (sym x.splits) (once_append Q x.newer (x.entry ∷ x.past) (inl h))
@@ -267,7 +267,7 @@ module _ (c : Configuration) (setting : IsConfiguration c) (trace : List Entry) 
         either None = (batch, entry)
         either (Some y) = (y, refl)
 
-  -- ---- where each has logged it
+  -- ---- if each has logged it
 
   module _ (logs_it : (s : ℕ) → is_correct_replica c s ≡ true → logged c s (history_of s trace) v i ≡ Some batch) where
     -- ---- each backup prepares it
@@ -286,7 +286,7 @@ module _ (c : Configuration) (setting : IsConfiguration c) (trace : List Entry) 
             let same : x ≡ batch = some_injective x batch (sym here ∙ f.holds) in
             absurd (f.not_yet (is ∙ ap Some same))
 
-        given_it : Gives q (Prepare v i (sha256 batch)) f.outs
+        given_it : SendsMessage q (Prepare v i (sha256 batch)) f.outs
         given_it = f.owes.prepares v i batch (unlogged (logged c q f.before v i) refl) f.holds (active q one f.newer (reverse f.outs ++ f.input ∷ f.before) batch f.is f.holds) backup
 
     -- ---- so each has it prepared
@@ -323,7 +323,7 @@ module _ (c : Configuration) (setting : IsConfiguration c) (trace : List Entry) 
         f : Flip c q (λ past. Prepared c q past v i batch) (whole q)
         f = flips c q (λ past. Prepared c q past v i batch) (decide_prepared c q v i batch) (λ p. none_logged c q v i batch p.logged) (whole q) [] (point q one) (point q one) (proceeds q one) (prepared q one)
 
-        given_it : Gives q (Commit v i (sha256 batch)) f.outs
+        given_it : SendsMessage q (Commit v i (sha256 batch)) f.outs
         given_it = f.owes.commits v i batch f.not_yet f.holds (active q one f.newer (reverse f.outs ++ f.input ∷ f.before) batch f.is f.holds.logged)
 
     commit_counts : (s q : ℕ) → is_correct_replica c s ≡ true → is_correct_replica c q ≡ true → Reaches c v i trace s → commit_of c s (whole s) v i q ≡ Some (sha256 batch)
@@ -351,7 +351,7 @@ module _ (c : Configuration) (setting : IsConfiguration c) (trace : List Entry) 
         go (inl k) = k
         go (inr comes) = record { prepared = prepared s other; commits = enough comes; own = commit_counts s s other other comes }
 
-  -- ---- where the primary gives it
+  -- ---- if the primary assigns it
 
   module _ (begins : logged c (primary c v) (history_of (primary c v) trace) v i ≡ Some batch)
       (gives : Shared c (primary c v) (PrePrepare v i batch) (history_of (primary c v) trace))

@@ -1,4 +1,4 @@
--- A new view that its primary sends is taken by each correct replica that has left for no later one.
+-- Each correct replica that has left for no later view takes a new view that its primary sends.
 use Rattle.std.proofs.Common.{◌≡◌, ◌≢◌, ℕ, suc, ◌+◌, ◌-◌, ◌≤◌, ◌<◌, inl, Bool, true, false, cond, List, [], ◌∷◌, ◌++◌, Option, Some, None, refl, sym, ap, ◌∙◌, subst, arith, append_assoc, eqb-true, eq-eqb}
 use Rattle.std.specs.Prelude.{◌==◌, nat_lt, nat_le, option_and_then}
 use Rattle.std.specs.Bool.{then_some}
@@ -87,7 +87,7 @@ brought_into c v (e ∷ part) start below is = go (new_view_in c e) refl is (bro
         pick true k = record { newer = []; entry = e; middle = part; splits = refl; new = new; brings = h; is_view = k }
         pick false k = behind k rest
 
--- the primary said it
+-- the primary sent it
 pub record NewViewSent (c : Configuration) (p v : ℕ) (part : List Entry) : Type 0 where
   pub bytes : List ℕ
   pub new : NewViewData
@@ -140,7 +140,7 @@ primary_sent c v part start point leaves b = go b.entry refl b.brings
 
 -- ---- it is taken
 
--- behind an entry that brings a new view of v, a replica that left for no later one is in v or beyond
+-- after an entry that brings a new view of v, a replica that left for no later one is in v or beyond
 pub in_view : (c : Configuration) (v : ℕ) (new : NewViewData) (newer past : List Entry) (e : Entry) → new_view_in c e ≡ Some new → new.view ≡ v → target (newer ++ e ∷ past) ≤ v → v ≤ view c (newer ++ e ∷ past)
 unfolding view
 in_view c v new newer past e brings is most =

@@ -1,4 +1,4 @@
--- Events of a history's later part: an input there, with all that its party gave for it.
+-- Events of a history's later part: an input there, with all outputs of its party.
 use Rattle.std.proofs.Common.{◌≡◌, ℕ, ◌⊎◌, inl, inr, Bool, true, false, List, [], ◌∷◌, ◌++◌, reverse, Some, ap, subst}
 use Rattle.wire.specs.Messages.{MessageData as Message}
 use Rattle.wire.specs.Words.{said}
@@ -7,7 +7,7 @@ use Rattle.protocol.specs.System.Trace.{Entry, is_output, either}
 use Rattle.protocol.specs.System.Trace.Entry.{Invoke, Got, Tick, Executed, Installed, Sent, Accepted}
 use Rattle.protocol.specs.Client.RightClient.{reaction, IsReaction, MayInput, Reacts}
 use Rattle.protocol.specs.Replica.RightReplica.{Point, Leaves, IsStep, MaySend}
-use Rattle.protocol.specs.Replica.Owed.{Owes, Proceeds, IsSaying, Gives}
+use Rattle.protocol.specs.Replica.Owed.{Owes, Proceeds, IsSaying, SendsMessage}
 use Rattle.protocol.proofs.Words.Elements.{has_some}
 use Rattle.protocol.proofs.Words.Reacting.{one_of, proceeds_leaves}
 use Rattle.progress.specs.Delivery.{HasEntry}
@@ -16,7 +16,7 @@ pub when_false : (b : Bool) (X Y : Type 0) → b ≡ false → either b X Y → 
 when_false true X Y e h = absurd cc
 when_false false X Y e h = h
 
--- all of them stand among the outputs that are to come, or in the part
+-- all of them stand among the outputs that are still to come, or in the part
 abbrev pub Among : List Entry → List Entry → List Entry → Type 0
 Among outs outputs part = (x : Entry) → HasEntry x outs → HasEntry x outputs ⊎ HasEntry x part
 
@@ -114,7 +114,7 @@ owed c me e input outputs (x ∷ part) start new point r (inr h) =
       among = λ y m. none_to_come x y outputs part (below.among y m);
     })
 
--- ---- what is given is sent
+-- ---- outputs are sent
 
 pub record Given (me : ℕ) (message : Message) (outs : List Entry) : Type 0 where
   pub party : ℕ
@@ -122,7 +122,7 @@ pub record Given (me : ℕ) (message : Message) (outs : List Entry) : Type 0 whe
   pub is_there : HasEntry (Sent party bytes) outs
   pub says : said bytes ≡ Some (record { sender = me; message = message })
 
-pub given : (me : ℕ) (message : Message) (outs : List Entry) → Gives me message outs → Given me message outs
+pub given : (me : ℕ) (message : Message) (outs : List Entry) → SendsMessage me message outs → Given me message outs
 given me message outs h =
     let x = has_some (IsSaying me message) outs h in
     go x.0 x.1 x.2
@@ -136,7 +136,7 @@ given me message outs h =
     go (Installed a b d) there says = absurd says
     go (Accepted a b d) there says = absurd says
 
--- what is sent might be sent
+-- the replica might send what it sends
 pub record MightSend (c : Configuration) (me : ℕ) (e : Entry) (bytes : List ℕ) : Type 0 where
   pub past : List Entry
   pub point : Point

@@ -1,5 +1,5 @@
--- While the first view goes on, its primary numbers without gaps, and at the end its next number is free: so each request
--- that waits there is numbered, and executed by each correct replica.
+-- While the first view goes on, its primary numbers without gaps, and at the end its next number is free. So it numbers
+-- each request that waits there, and each correct replica executes that.
 use Rattle.std.proofs.Common.{◌≡◌, ℕ, zero, suc, ◌+◌, ◌≤◌, ◌<◌, ◌⊎◌, inl, inr, Bool, true, false, cond, List, [], ◌∷◌, ◌++◌, Option, Some, None, refl, sym, ap, ◌∙◌, subst, arith, eqb-true}
 use Rattle.std.specs.Prelude.{◌==◌, nat_lt, option_and_then, is_some}
 use Rattle.std.specs.Option.{option_map_or}
@@ -46,13 +46,13 @@ use Rattle.progress.proofs.Normal.{answered, in_either}
 use Rattle.progress.proofs.Numbering.{open_calls_are_numbered}
 use Rattle.progress.proofs.FirstView.{low_reached, number_committed, committed_first, first_numbers_are_executed}
 
--- what the first view's primary says as it gives the number a batch
+-- the pre-prepare by which the first view's primary assigns the number
 abbrev giving : Configuration → ℕ → List ℕ → Body
 giving c i batch = record { sender = primary c 0; message = PrePrepare 0 i batch }
 
--- ---- what is proposed in the first view its primary sent
+-- ---- the primary sent each batch that is proposed in the first view
 
--- no new view that is taken begins it
+-- no new view that is taken is for it
 none_begins : (c : Configuration) (me i : ℕ) (batch : List ℕ) (past : List Entry) (e : Entry) (b : Bool) → cond b (option_and_then (batch_begun 0 i) (taken c past e)) None ≡ Some batch → ⊥
 none_begins c me i batch past e true h =
     let t = and_then_some (batch_begun 0 i) (taken c past e) batch h in
@@ -61,7 +61,7 @@ none_begins c me i batch past e true h =
     omega arith
 none_begins c me i batch past e false h = cc
 
--- the primary gives the number here, by what it may do
+-- the primary assigns the number in this entry, by the rule for pre-prepares
 record Gave (c : Configuration) (i : ℕ) (batch : List ℕ) (e : Entry) (past : List Entry) (old : Point) : Type 0 where
   sends : SendsBody (giving c i batch) past e
   may : MayPrePrepare c (primary c 0) past old e 0 i batch
@@ -91,7 +91,7 @@ gave c i batch e past point leaves h = go e leaves.2 brings
     go (Installed x y z) step is = absurd cc
     go (Accepted x y z) step is = absurd cc
 
--- the number that is logged there was given
+-- the primary assigned the number that is logged there
 record WasGiven (c : Configuration) (i : ℕ) (batch : List ℕ) (xs : List Entry) : Type 0 where
   says : Once (SendsBody (giving c i batch)) xs
   positive : 1 ≤ i
@@ -121,7 +121,7 @@ module _ (c : Configuration) where
   abbrev Installs : List Entry → Type 0
   Installs xs = (r k : ℕ) (root : List ℕ) → HasEntry (Installed r k root) xs → ⊥
 
-  -- what it executed it logged
+  -- it logged all that it executed
   executed_logged : (xs : List Entry) (point : Point) → Leaves c p0 xs point → view c xs ≡ 0 → Installs xs → (j : ℕ) → 1 ≤ j → j ≤ point.state.number → (d : List ℕ) × (logged c p0 xs 0 j ≡ Some d)
   executed_logged xs point leaves first none j one l =
       let k = number_committed c p0 j one xs point leaves none l in
@@ -221,7 +221,7 @@ module _ (c : Configuration) (setting : IsConfiguration c) (later start : List E
   unfolding is_given
   its_batch i b h = refl
 
-  -- each correct replica reached what the primary logged
+  -- each correct replica reached all numbers that the primary logged
   all_reach : (i : ℕ) (b : List ℕ) → logged c first_primary whole 0 i ≡ Some b → (r : ℕ) → is_correct_replica c r ≡ true → i ≤ reached trace r
   all_reach i b h r correct = first_numbers_are_executed c setting later start is_run goes unforged i f.from f.active f.none all r correct each
     where

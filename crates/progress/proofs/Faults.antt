@@ -1,4 +1,4 @@
--- Where faulty replicas are silent, the first view is so if its primary is one of them, and no new view has a batch.
+-- If faulty replicas are silent, the first view is so if its primary is one of them, and no new view has a batch.
 use Rattle.std.proofs.Common.{◌≡◌, ℕ, ◌+◌, ◌*◌, ◌≤◌, ◌⊎◌, inl, inr, Bool, true, false, not, List, [], ◌∷◌, ◌++◌, length, Option, Some, None, refl, sym, ap, ◌∙◌, subst, arith, append_assoc}
 use Rattle.std.proofs.lemmas.Bool.{and_parts, and_from}
 use Rattle.wire.specs.Messages.{BodyData as Body, ViewChangeData, NewViewData, BatchEntryData as BatchEntry, new_view as NewView}
@@ -15,8 +15,8 @@ use Rattle.protocol.specs.Replica.Selection.{change_by}
 use Rattle.protocol.specs.Replica.Certificates.{new_view_in, new_view_from, brought, proposal, logged}
 use Rattle.protocol.specs.Replica.RightReplica.{HasSeen, SafeReplica}
 use Rattle.protocol.specs.Laws.Histories.{Takes}
-use Rattle.protocol.specs.Evidence.RefusedMarks.{SpellsChange}
-use Rattle.protocol.specs.Evidence.Selected.{AreSigned, SomePrepared, IsSelected}
+use Rattle.evidence.specs.RefusedMarks.{SpellsChange}
+use Rattle.evidence.specs.Selected.{AreSigned, SomePrepared, IsSelected}
 use Rattle.protocol.proofs.Words.Elements.{each_has, has_some, has_left, has_right}
 use Rattle.protocol.proofs.Words.Linking.{Speaks, heard_said, signed_said}
 use Rattle.protocol.proofs.Words.Lists.{change_of}
@@ -28,8 +28,8 @@ use Rattle.protocol.proofs.Agreement.Offers.{Offers, proposal_offer, logged_view
 use Rattle.protocol.proofs.Agreement.Signed.{changing, change_was_said}
 use Rattle.protocol.proofs.Agreement.Voting.{RightAt, right_always, once_right, speaks_as_itself}
 use Rattle.protocol.proofs.Words.Reacting.{is_replica_right}
-use Rattle.protocol.proofs.Evidence.SelectedTests.{ascending_of_pairs}
-use Rattle.protocol.proofs.Evidence.SelectedRules.{new_views_meet_the_rules}
+use Rattle.evidence.proofs.SelectedTests.{ascending_of_pairs}
+use Rattle.evidence.proofs.SelectedRules.{new_views_meet_the_rules}
 use Rattle.progress.specs.Delivery.{HasEntry}
 use Rattle.progress.specs.SilentView.{IsOfNoFaulty, AreFaultySilent, IsFirstViewSilent, SecondIsNext, FaultyPrimariesAreSilent}
 use Rattle.progress.proofs.Answering.{in_trace}
@@ -85,9 +85,9 @@ module _ (c : Configuration) (trace : List Entry) (silent : AreFaultySilent c tr
           absurd (one_of b (once_at (λ past e. RightAt c q past e × (proposal c q past e 0 i ≡ Some b) × Always (RightAt c q) past) (history_of q trace)
           (once_right c q (λ past e. proposal c q past e 0 i ≡ Some b) (history_of q trace) (safe q correct) (given_once (λ past e. proposal c q past e 0 i) b (history_of q trace) is))))
 
-  -- ---- what is signed and seen
+  -- ---- signed frames that were seen
 
-  -- what is signed among the frames that a correct replica has seen is of none of the faulty
+  -- no frame that a correct replica has seen is signed by a faulty one
   seen_of_none : (q : ℕ) → is_correct_replica c q ≡ true → (xs : List Entry) → ((e : Entry) → HasEntry e xs → HasEntry e (history_of q trace)) → Always (RightAt c q) xs → (bytes : List ℕ) → Once (HasSeen bytes) xs
       → (body : Body) → signed_body (members c) bytes ≡ Some body → is_faulty_replica c body.sender ≡ false
   seen_of_none q correct [] inside right bytes h body signed = absurd h
@@ -139,7 +139,7 @@ set_frame c (frame ∷ frames) [] signed x h = absurd h
 set_frame c (frame ∷ frames) (y ∷ ys) signed x (inl is) = (frame, inl refl, subst (λ (z : ℕ × ViewChangeData). SpellsChange c frame z.0 z.1) is signed.0)
 set_frame c (frame ∷ frames) (y ∷ ys) signed x (inr h) = let r = set_frame c frames ys signed.1 x h in (r.0, inr r.1, r.2)
 
--- where something is prepared in a set
+-- the view change of a set that has the number prepared
 some_prepared : (set : List (ℕ × ViewChangeData)) (i : ℕ) → SomePrepared set i → (x : ℕ × ViewChangeData) × Has (λ y. y ≡ x) set × Has (λ (b : BatchEntry). b.number ≡ i) x.1.prepared
 some_prepared [] i h = absurd h
 some_prepared (x ∷ xs) i (inl h) = (x, inl refl, h)

@@ -31,7 +31,7 @@ use Rattle.progress.proofs.Steady.{view_later, target_later, low_later, active_p
 use Rattle.progress.proofs.Committing.{Reaches, own_in}
 use Rattle.progress.proofs.Redelivering.{reaches, begins, committed_where, all_numbers}
 
--- ---- what a replica says a checkpoint of it reached
+-- ---- a replica has reached its own checkpoints
 
 -- a number that it executes is reached
 at_reached : (me k : ℕ) (e : Entry) (past : List Entry) → party_of e ≡ me → Executes k past e → k ≤ reached (e ∷ past) me
@@ -50,7 +50,7 @@ executes_reached c me k [] point leaves h = absurd h
 executes_reached c me k (e ∷ past) point leaves (inl h) = at_reached me k e past leaves.2.own h
 executes_reached c me k (e ∷ past) point leaves (inr h) = let l = executes_reached c me k past leaves.0 leaves.1 h in let g = reached_grows e past me in omega arith
 
--- what a checkpoint message is
+-- the fields of a checkpoint message
 checkpoint_body : (s : ℕ) (m : CheckpointEntry) (sender : ℕ) (message : Message) → checkpoint_from (record { sender = sender; message = message }) ≡ Some (s, m)
     → ◌≡◌ {A = Body} (record { sender = sender; message = message }) (record { sender = s; message = Checkpoint m.number m.digest })
 checkpoint_body s m sender (Checkpoint number root) h =
@@ -63,7 +63,7 @@ checkpoint_body s m sender (Checkpoint number root) h =
     rw (es, en, ed) refl
 checkpoint_body s m sender _ h = absurd cc
 
--- its own is of a number that it executed before
+-- its own checkpoint is of a number that it executed before
 own_checkpoint : (c : Configuration) (me : ℕ) (m : CheckpointEntry) (e : Entry) (past : List Entry) (point : Point) → Leaves c me (e ∷ past) point → checkpoint_in c e ≡ Some (me, m) → m.number ≤ reached past me
 own_checkpoint c me m (Got p bytes) past point leaves h =
     let r = and_then_some {B = ℕ × CheckpointEntry} checkpoint_from (brought c (Got p bytes)) (me, m) h in

@@ -9,7 +9,7 @@ use Rattle.protocol.specs.Replica.RightReplica.{Point}
 use Rattle.protocol.specs.Replica.Owed.{Owes, Proceeds}
 use Rattle.protocol.proofs.Words.Reacting.{one_of}
 
--- an output stands in front of what is to come, or behind the past
+-- an output may stand before those still to come, or after the past
 pub next_output : (outputs past : List Entry) (e : Entry) → reverse outputs ++ e ∷ past ≡ reverse (e ∷ outputs) ++ past
 next_output outputs past e = sym (append_assoc (reverse outputs) (e ∷ []) past) ∙ ap (λ (xs : List Entry). xs ++ past) (sym (reverse_onto outputs e []))
 
@@ -42,7 +42,7 @@ flip_behind c me P front past f = record {
   is = ap (λ (xs : List Entry). front ++ xs) f.is ∙ sym (append_assoc front f.newer (reverse f.outs ++ f.input ∷ f.before));
 }
 
--- What doesn't hold at first, and holds at the end, comes to hold in some event.
+-- A property that fails at first, and holds at the end, comes to hold in some event.
 pub flips : (c : Configuration) (me : ℕ) (P : List Entry → Type 0) → ((past : List Entry) → P past ⊎ (P past → ⊥)) → (P [] → ⊥) → (xs outputs : List Entry) (new point : Point)
     → Proceeds c me xs outputs new point → P (reverse outputs ++ xs) → Flip c me P (reverse outputs ++ xs)
 flips c me P decide none [] outputs new point h p = absurd (none (subst (λ (o : List Entry). P (reverse o ++ [])) h.1 p))
@@ -59,7 +59,7 @@ flips c me P decide none (e ∷ past) outputs new point h p =
         (flip_behind c me P (reverse outputs ++ e ∷ []) past (below held))
     by_past (inr fails) owes below = record { before = past; input = e; outs = outputs; old = h.0; new = new; owes = owes; not_yet = fails; holds = p; newer = []; is = refl }
 
--- Nothing that is committed and next is left at the end.
+-- At the end no batch is left that is committed for the next number.
 no_commit : (c : Configuration) (me v i : ℕ) (batch : List ℕ) → Committed c me [] v i batch → ⊥
 unfolding commit_of
 no_commit c me v i batch h = let bad : None ≡ Some (sha256 batch) = h.own in cc

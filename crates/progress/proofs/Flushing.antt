@@ -1,4 +1,4 @@
--- A flush delivers all: what is sent since some world is a frame made since, and at the end of a flush none is left.
+-- A flush delivers all: a frame that is sent since some world is made since, and at the end of a flush none is left.
 use Rattle.std.proofs.Common.{◌≡◌, ℕ, zero, suc, ◌+◌, ◌≤◌, ◌<◌, ◌⊎◌, inl, inr, Bool, true, false, not, cond, List, [], ◌∷◌, ◌++◌, length, slice_get, refl, sym, ap, ◌∙◌, subst, arith, ◌&&◌, Option, Some, None, reverse, append_assoc, eqb-true}
 use Rattle.std.specs.Prelude.{◌==◌}
 use Rattle.std.proofs.lemmas.Bool.{and_parts}
@@ -44,7 +44,7 @@ get_last : (xs : List Made) (x : Made) → slice_get (xs ++ x ∷ []) (length xs
 get_last [] x = refl
 get_last (y ∷ xs) x = get_last xs x
 
--- what one world has of another, an earlier one
+-- a world keeps the frames and deliveries of an earlier one
 pub record Grows (w v : World) : Type 0 where
   pub frames : (i : ℕ) (made : Made) → slice_get w.frames i ≡ Some made → slice_get v.frames i ≡ Some made
   pub many : length w.frames ≤ length v.frames
@@ -119,12 +119,12 @@ made_since c w v _ _ p bytes (signs {replica = r} {leaf = l} {receivers = rs} {b
 made_since c w v _ _ p bytes (flushes x g) h = made_since c _ v _ _ p bytes g h
 made_since c w v _ _ p bytes (flushed j x g) h = made_since c _ v _ _ p bytes g h
 
--- ---- deliveries are of frames that were made, and are got
+-- ---- frames that are delivered were made, and are received
 
 abbrev AreMade : World → Type 0
 AreMade w = (i q : ℕ) → Has (λ x. x ≡ (i, q)) w.delivered → i < length w.frames
 
--- what is delivered since a world is got since
+-- a frame that is delivered since a world is received since
 abbrev GotSince : World → World → List Entry → Type 0
 GotSince w v entries = (i q : ℕ) (made : Made) → Has (λ x. x ≡ (i, q)) v.delivered → slice_get v.frames i ≡ Some made
     → Has (λ x. x ≡ (i, q)) w.delivered ⊎ HasEntry (Got q made.bytes) entries
@@ -229,7 +229,7 @@ none_left c w v _ _ (flushed {steps = []} j p g) h = last w _ _ g refl j p
     last w _ _ (flushed i x g) none j p = absurd cc
 none_left c w v _ _ (flushed {steps = step ∷ steps} j p g) h = none_left c _ v _ _ g h
 
--- where none is left, each frame was delivered to each of its correct receivers
+-- if none is left, each frame was delivered to each of its correct receivers
 
 module _ (c : Configuration) (d : List (ℕ × ℕ)) where
   was_delivered : (i q : ℕ) → is_delivered d i q ≡ true → Has (λ x. x ≡ (i, q)) d

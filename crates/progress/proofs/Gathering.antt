@@ -10,18 +10,18 @@ use Rattle.protocol.specs.System.Configuration.{Configuration, replicas}
 use Rattle.protocol.specs.System.Trace.{Has}
 use Rattle.protocol.specs.Replica.Selection.{is_within, signed_change, changes_of, list_of, ascending, may_select}
 use Rattle.protocol.specs.Laws.Bounds.{IsBounded}
-use Rattle.protocol.specs.Evidence.Refused.{SoManyHave}
-use Rattle.protocol.specs.Evidence.RefusedMarks.{SpellsChange}
-use Rattle.protocol.specs.Evidence.Selected.{AreSigned, SomePrepared}
+use Rattle.evidence.specs.Refused.{SoManyHave}
+use Rattle.evidence.specs.RefusedMarks.{SpellsChange}
+use Rattle.evidence.specs.Selected.{AreSigned, SomePrepared}
 use Rattle.protocol.proofs.Words.Bounds.{bounded}
 use Rattle.protocol.proofs.Words.Elements.{each_weaker, each_has}
-use Rattle.protocol.proofs.Evidence.SelectedTests.{pairs_of_ascending}
-use Rattle.protocol.proofs.Evidence.SelectedRules.{new_views_meet_the_rules}
+use Rattle.evidence.proofs.SelectedTests.{pairs_of_ascending}
+use Rattle.evidence.proofs.SelectedRules.{new_views_meet_the_rules}
 use Rattle.progress.specs.Leaving.{HasNothingAbove}
 
 -- ---- one view change a replica, in the order of the replicas
 
--- a signed view change of the replica, of which this holds
+-- a signed view change of the replica, of which P holds
 pub record Change (c : Configuration) (P : ℕ × ViewChangeData → Type 0) (s : ℕ) : Type 0 where
   pub bytes : List ℕ
   pub vc : ViewChangeData
@@ -109,7 +109,7 @@ carried_are c (frame ∷ frames) (x ∷ xs) h =
 abbrev pub bare_view : ℕ → ℕ → List ℕ → List (List ℕ) → NewViewData
 bare_view v start root frames = record { view = v; changes = frames; start = start; root = root; batches = [] }
 
--- what has nothing above the checkpoint, in its bounds
+-- the view change has nothing above the checkpoint, and is within its bounds
 abbrev pub IsBare : Configuration → ℕ → ℕ → List ℕ → ℕ × ViewChangeData → Type 0
 IsBare c v start root x = (x.1.view ≡ v) × (is_within c x.1 ≡ true) × HasNothingAbove start root x.1
 

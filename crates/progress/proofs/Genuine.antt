@@ -1,4 +1,4 @@
--- What a correct client seals for all replicas each of them hears, so a batch of such requests is authentic to each.
+-- Each replica hears what a correct client seals for all, so a batch of such requests is authentic to each.
 use Rattle.std.proofs.Common.{◌≡◌, ◌≢◌, ℕ, ◌+◌, ◌≤◌, ◌<◌, true, List, refl, sym, ap, subst, arith}
 use Rattle.std.specs.Prelude.{is_some}
 use Rattle.std.proofs.lemmas.Bool.{and_parts, ltb-true}

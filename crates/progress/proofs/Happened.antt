@@ -1,4 +1,4 @@
--- Where something happened: the entry, what stands behind it, and what is newer.
+-- The entry at which something happened, its past, and the entries after it.
 use Rattle.std.proofs.Common.{◌≡◌, inl, inr, List, [], ◌∷◌, ◌++◌, refl, ap}
 use Rattle.protocol.specs.System.Trace.{Entry, Once}
 

@@ -1,4 +1,4 @@
--- What is sealed for a party it hears, and a frame with MACs is meant for those who have one.
+-- A party hears a frame that is sealed for it, and a frame with MACs is for those who have one.
 use Rattle.std.proofs.Common.{◌≡◌, ◌≢◌, ℕ, inl, inr, true, false, List, [], ◌∷◌, map, All, Option, Some, refl, sym, ap, ◌∙◌, subst, bytes_eq}
 use Rattle.std.specs.Prelude.{◌==◌}
 use Rattle.std.specs.List.{list_any}
@@ -42,7 +42,7 @@ authentic c q body (signature s) sealed h = absurd h
 
 -- ---- a frame that is no view change and no new view
 
--- the frame that the bytes spell, where they say this
+-- the frame that the bytes spell, if they say this
 pub record Spelled (bytes : List ℕ) (body : Body) : Type 0 where
   pub frame : Frame
   pub is : frame_of bytes ≡ Some frame
@@ -62,7 +62,7 @@ pub record Heard (c : Configuration) (p q : ℕ) (message : Message) (bytes : Li
   pub hears : heard (members c) q bytes ≡ Some (record { sender = p; message = message })
   pub meant_is : Has (λ r. r ≡ q) (meant c p bytes)
 
--- what is sealed for a party is meant for it, and it hears it
+-- a frame that is sealed for a party is for it, and it hears the frame
 pub sealed_is_heard : (c : Configuration) (p q : ℕ) (message : Message) (bytes : List ℕ) → said bytes ≡ Some (record { sender = p; message = message })
     → ((frame : Frame) → frame_of bytes ≡ Some frame → authenticator_is_signed frame.authenticator ≡ false → IsSealed c frame × Has (λ r. r ≡ q) (receivers_of frame.authenticator))
     → is_signed message ≡ false → sends (members c) p message ≡ true → p ≢ q → Heard c p q message bytes

@@ -1,4 +1,4 @@
--- What a replica keeps of a client's open call stays kept: nothing later of that client can run.
+-- A replica keeps its reply to a client's open call: nothing later of that client can run.
 use Rattle.std.proofs.Common.{◌≡◌, ℕ, zero, suc, ◌+◌, ◌≤◌, ◌<◌, inl, inr, Bool, true, false, cond, List, [], ◌∷◌, ◌++◌, length, fold, Option, Some, None, refl, sym, ap, ◌∙◌, subst, arith, append_assoc}
 use Rattle.std.specs.Option.{option_map_or}
 use Rattle.std.proofs.lemmas.Bool.{ltb-true}
@@ -72,7 +72,7 @@ by_grows c setting xs st k (suc n) (suc m) cl l full =
     let l' : n ≤ m = omega arith in
     by_grows c setting xs (execute c st (batch_of xs k)) (suc k) n m cl l' (executed_full c st (batch_of xs k) full)
 
--- ---- what is kept of a correct client it invoked
+-- ---- a correct client invoked each call to which a reply is kept
 
 pub record RanAt (c : Configuration) (xs : List Entry) (k n : ℕ) (Q : ℕ → Ran → Type 0) : Type 0 where
   pub number : ℕ

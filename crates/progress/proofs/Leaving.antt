@@ -1,4 +1,4 @@
--- A replica whose time runs out sends a view change, and the primary of a view that has enough of them begins the view.
+-- A replica that times out sends a view change, and the primary of a view that has enough of them begins the view.
 use Rattle.std.proofs.Common.{◌≡◌, ℕ, suc, ◌+◌, ◌≤◌, ◌<◌, ◌⊎◌, inl, inr, Bool, true, false, cond, ◌&&◌, List, [], ◌∷◌, ◌++◌, reverse, Some, None, refl, sym, ap, ◌∙◌, subst, arith, append_assoc, eq-eqb}
 use Rattle.std.specs.Prelude.{nat_le, option_and_then, All}
 use Rattle.std.proofs.lemmas.Bool.{and_parts, and_from, leb-true, leb-false}
@@ -16,7 +16,7 @@ use Rattle.protocol.specs.Replica.Selection.{is_within, change_in, signed_change
 use Rattle.protocol.specs.Replica.Certificates.{view, target}
 use Rattle.protocol.specs.Replica.RightReplica.{Point, Leaves, MaySend, sought_view, IsNewViewChange, SafeReplica}
 use Rattle.protocol.specs.Replica.Owed.{Owes, Proceeds, HasToMove, IsSaying, AreKeysSpent, BringsChange, HasLatestChange, HasBatch, CanBeginView}
-use Rattle.protocol.specs.Evidence.RefusedMarks.{SpellsChange}
+use Rattle.evidence.specs.RefusedMarks.{SpellsChange}
 use Rattle.protocol.proofs.Words.Options.{some_injective, and_then_some}
 use Rattle.protocol.proofs.Words.Reacting.{one_of, proceeds_leaves, is_replica_right}
 use Rattle.protocol.proofs.Words.Elements.{each_weaker}
@@ -69,9 +69,9 @@ event_at c me input is (e ∷ later) before outputs new point h =
     (λ k. subst (EventAt c me input before) (append_assoc (reverse outputs) (e ∷ []) (later ++ input ∷ before))
     (event_behind c me input before (reverse outputs ++ e ∷ []) (later ++ input ∷ before) (event_at c me input is later before [] h.0 h.0 k.1)))
 
--- ---- time runs out
+-- ---- a timeout
 
--- A view change for the view that the replica may send as a new one here. It is within its bounds, and some bytes say it.
+-- The replica may send a new view change for the view here, within its bounds, and some bytes say it.
 pub record CanChange (c : Configuration) (me : ℕ) (past : List Entry) (point : Point) (v : ℕ) : Type 0 where
   pub change : ViewChangeData
   pub view : change.view ≡ v
@@ -160,7 +160,7 @@ primaries_begin_views c trace goes p new correct own left selected changes batch
 
 -- ---- a frame of a view change
 
--- what makes a frame sealed, of one authenticator
+-- the frame is sealed well, by its authenticator
 abbrev IsSealedBy : Configuration → Frame → Authenticator → Type 0
 IsSealedBy c frame (macs entries) = All (λ x. x.mac ≡ mac_of c.seed x.receiver frame.body) entries
 IsSealedBy c frame (signature s) = has_signature c.seed frame ≡ true
@@ -169,7 +169,7 @@ by_signature : (c : Configuration) (frame : Frame) (a : Authenticator) → authe
 by_signature c frame (macs entries) h sealed = absurd cc
 by_signature c frame (signature s) h sealed = sealed
 
--- what a replica sends of a view change or a new view is signed
+-- a view change or new view that a replica sends is signed
 pub signed_by : (c : Configuration) (me : ℕ) (bytes : List ℕ) (body : Body) (past : List Entry) (point : Point) → MaySend c me past point (Sent me bytes) bytes → said bytes ≡ Some body
     → is_signed body.message ≡ true → has_sender (members c) body ≡ true → signed_body (members c) bytes ≡ Some body
 unfolding signed_body

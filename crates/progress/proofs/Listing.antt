@@ -1,4 +1,4 @@
--- Whatever a replica has logged and prepared, there is a view change that says it.
+-- Whatever a replica has logged and prepared, some view change says it.
 use Rattle.std.proofs.Common.{◌≡◌, ◌≢◌, ℕ, zero, suc, ◌+◌, ◌^◌, ◌≤◌, ◌<◌, ◌⊎◌, inl, inr, Bool, true, false, not, cond, ◌&&◌, List, [], ◌∷◌, ◌++◌, map, reverse, filter, Option, Some, None, refl, sym, ap, ◌∙◌, subst, arith, eqb-true, bytes_eq, All, AllPairs}
 use Rattle.std.specs.Prelude.{◌==◌, nat_lt, nat_le, ⊤}
 use Rattle.std.proofs.lemmas.Bool.{and_from, lt-ltb, le-leb, eqb-false}
@@ -51,17 +51,17 @@ pairs_weaker : {A : Type 0} (R S : A → A → Type 0) → ((x y : A) → R x y 
 pairs_weaker R S f [] h = tt
 pairs_weaker R S f (x ∷ xs) h = (each_weaker (R x) (S x) (f x) xs h.0, pairs_weaker R S f xs h.1)
 
--- each of two lists with all of the other
+-- each element of one list with all of the other
 each_each : {A : Type 0} (P Q : A → Type 0) (R : A → A → Type 0) → ((x y : A) → P x → Q y → R x y) → (xs ys : List A) → Each P xs → Each Q ys → Each (λ x. Each (R x) ys) xs
 each_each P Q R f [] ys h k = tt
 each_each P Q R f (x ∷ xs) ys h k = (each_weaker Q (R x) (λ y q. f x y h.0 q) ys k, each_each P Q R f xs ys h.1 k)
 
 module _ (c : Configuration) (me : ℕ) (past : List Entry) (right : Always (RightAt c me) past) where
-  -- nothing is logged in a view above the own
+  -- nothing is logged in a view above the replica's own
   logged_below : (w i : ℕ) (b : List ℕ) → logged c me past w i ≡ Some b → w < suc (view c past)
   logged_below w i b h = let l = logged_view c me w i b past right h in omega arith
 
-  -- ---- what is prepared for a number, in the latest view
+  -- ---- the batch that is prepared for a number, in the latest view
 
   record Latest (i n : ℕ) : Type 0 where
     entry : BatchEntry
@@ -178,7 +178,7 @@ module _ (c : Configuration) (me : ℕ) (past : List Entry) (right : Always (Rig
   prepared_from first zero = record { entries = []; above = tt; each = tt; all = λ v i b l m p. absurd (omega arith); order = tt }
   prepared_from first (suc n) = prepared_with first n (latest_in first (suc (view c past))) (prepared_from (suc first) n)
 
-  -- what is logged above the low mark is within the marks
+  -- numbers that are logged above the low mark are within the marks
   marks_of : (v i : ℕ) (b : List ℕ) → suc (low c me past) ≤ i → logged c me past v i ≡ Some b → is_in_marks c (low c me past) i ≡ true
   marks_of v i b l h =
       let w = logged_within c me v i b past right h in

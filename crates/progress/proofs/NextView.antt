@@ -1,4 +1,5 @@
--- While a view goes on after it was entered, each correct replica executes what its primary logs, and each call is accepted.
+-- While a view goes on after it was entered, each correct replica executes its primary's batches, and calls are
+-- accepted.
 use Rattle.std.proofs.Common.{◌≡◌, ℕ, suc, ◌+◌, ◌≤◌, ◌<◌, ◌⊎◌, inl, inr, true, List, [], ◌++◌, Option, Some, None, refl, ap, ◌∙◌, subst, arith}
 use Rattle.std.specs.Prelude.{is_some}
 use Rattle.std.specs.Option.{option_map_or}
@@ -45,7 +46,7 @@ module _ (c : Configuration) (setting : IsConfiguration c) (later start : List E
   abbrev trace : List Entry
   trace = later ++ start
 
-  -- a number that the primary logged is begun or given
+  -- the new view or the primary assigned each number that the primary logged
   either : (i : ℕ) → is_some (logged c (primary c v) (history_of (primary c v) (later ++ start)) v i) ≡ true → IsBegun c v i later start ⊎ IsGiven c v i later start
   either i h = go (f.numbers i (some_there (logged c (primary c v) (history_of (primary c v) (later ++ start)) v i) h).0 (some_there (logged c (primary c v) (history_of (primary c v) (later ++ start)) v i) h).1).1
     where
@@ -53,7 +54,7 @@ module _ (c : Configuration) (setting : IsConfiguration c) (later start : List E
       go (inl x) = inl x.0
       go (inr x) = inr x.0
 
-  -- each correct replica executes what the primary logged, and as much as it executed
+  -- each correct replica executes the numbers that the primary logged, and those that it executed
   reach : (m : ℕ) → (m ≤ reached (later ++ start) (primary c v)) ⊎ (is_some (logged c (primary c v) (history_of (primary c v) (later ++ start)) v m) ≡ true) → (r : ℕ) → is_correct_replica c r ≡ true
       → m ≤ reached (later ++ start) r
   reach m some r correct =

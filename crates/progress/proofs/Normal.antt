@@ -1,4 +1,4 @@
--- A call whose request stands in the next batch is accepted: each correct replica executes the batch, and keeps the reply.
+-- A call whose request stands in the next batch is accepted: each correct replica executes it, and keeps the reply.
 use Rattle.std.proofs.Common.{◌≡◌, ℕ, zero, suc, ◌+◌, ◌≤◌, ◌<◌, ◌⊎◌, inl, inr, Bool, true, false, cond, List, [], ◌∷◌, ◌++◌, length, fold, Option, Some, refl, sym, ap, ◌∙◌, subst, arith}
 use Rattle.std.specs.Option.{option_map_or}
 use Rattle.std.proofs.lemmas.Bool.{ltb-false}
@@ -34,7 +34,7 @@ use Rattle.progress.proofs.Keeping.{frames_grow, by_grows, by_at, keeps_reply}
 use Rattle.progress.proofs.Answering.{in_trace, executed_calls_are_accepted}
 use Rattle.progress.proofs.Ordering.{committed, next_batches_are_executed}
 
--- ---- behind a batch with its request a client's last timestamp is at least the request's
+-- ---- after a batch with its request a client's last timestamp is at least the request's
 
 request_ran : (c : Configuration) → IsConfiguration c → (k : ℕ) (st : State) (frame : List ℕ) (call : Call) → call_of c frame ≡ Some call → Full st → call.timestamp ≤ last_time (run_frame c k st frame) call.client
 request_ran c setting k st frame call is full = subst (λ (o : Option Call). call.timestamp ≤ last_time (option_map_or (run_call st k) o st) call.client) (sym is) (test (runs st call) refl)
@@ -89,7 +89,7 @@ module _ (c : Configuration) (setting : IsConfiguration c) (again middle : List 
   run : Run c middle
   run = run_part c again middle (run_of c setting (again ++ middle) is_whole unforged apart)
 
-  -- what is executed for the number is the batch
+  -- the batch is the one that is executed for the number
   is_batch : (b : List ℕ) → Once (ExecutesBatch c i b) middle → b ≡ batch
   is_batch b h =
       let q = executor c i b middle h in

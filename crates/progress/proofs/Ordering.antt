@@ -1,4 +1,4 @@
--- The normal case: what the primary gives the next number each correct replica logs, prepares, commits and executes.
+-- The normal case: each correct replica logs, prepares, commits and executes the primary's batch for the next number.
 use Rattle.std.proofs.Common.{◌≡◌, ℕ, suc, ◌≤◌, ◌<◌, ◌⊎◌, inl, inr, Bool, true, false, cond, List, [], ◌∷◌, ◌++◌, Some, None, refl, sym, ap, ◌∙◌, subst, arith, append_assoc, eqb-true}
 use Rattle.std.specs.Prelude.{◌==◌, nat_le, option_and_then}
 use Rattle.std.proofs.lemmas.Bool.{and_parts, ltb-true, leb-true, leb-false, eqb-false}
@@ -85,7 +85,7 @@ module _ (c : Configuration) (setting : IsConfiguration c) (later start : List E
     leaves_parts : Leaves c q (part q ++ first q) point
     leaves_parts = subst (λ (xs : List Entry). Leaves c q xs point) (parts q) leaves
 
-  -- ---- what is said of the number comes to each
+  -- ---- each message about the number comes to each
 
   comes : (q s : ℕ) → is_correct_replica c q ≡ true → is_correct_replica c s ≡ true → (message : Message) → IsOf v i message → Shared c q message (whole q)
       → Comes c s v i (record { sender = q; message = message }) (whole s)

@@ -1,4 +1,4 @@
--- A read is accepted where 2f + 1 correct replicas stay at one number: each answers from the state of that number.
+-- A read is accepted if 2f + 1 correct replicas stay at one number: each answers from the state of that number.
 use Rattle.std.proofs.Common.{◌≡◌, ℕ, suc, ◌+◌, ◌-◌, ◌*◌, ◌≤◌, ◌⊎◌, inl, inr, Bool, true, cond, List, [], ◌∷◌, ◌++◌, Some, refl, sym, ap, ◌∙◌, subst, arith, append_assoc, eq-eqb}
 use Rattle.quorum.specs.Quorum.{count_below}
 use Rattle.tuple_codec.specs.Operations.{Operation, Outcome}
@@ -33,7 +33,7 @@ use Rattle.progress.proofs.Answering.{in_trace, accepted_or_not, safe_behind, As
 
 -- ---- two ends of one list
 
--- the one is behind the other, or the other way round
+-- the one begins before the other, or the other way round
 data Ends (e : Entry) (past start : List Entry) : Type 0 where
   behind : (middle : List Entry) → past ≡ middle ++ start → Ends e past start
   before : (middle : List Entry) → start ≡ middle ++ e ∷ past → Ends e past start
@@ -129,7 +129,7 @@ module _ (c : Configuration) (setting : IsConfiguration c) (k t n : ℕ) (op : O
     abbrev may : MayReplyRead c r it.past it.point me t number answer
     may = it.may
 
-    -- it heard the request behind the invocation
+    -- it heard the request after the invocation
     not_heard : Once (Hears c r (asking me t modes.ReadOnly may.op)) (history_of r begun) → ⊥
     not_heard h =
         let part = run_part c later begun run in

@@ -1,4 +1,4 @@
--- Where all is delivered again, each correct replica comes as far as the primary numbered.
+-- If all is delivered again, each correct replica executes all numbers that the primary assigned.
 use Rattle.std.proofs.Common.{◌≡◌, ℕ, zero, suc, ◌+◌, ◌-◌, ◌≤◌, ◌<◌, ◌⊎◌, inl, inr, Bool, true, false, List, [], ◌∷◌, ◌++◌, Some, refl, sym, ap, ◌∙◌, subst, arith, append_assoc, eqb-true}
 use Rattle.std.specs.Prelude.{◌==◌, nat_le}
 use Rattle.std.proofs.lemmas.Bool.{and_parts, ltb-true, leb-true, leb-false, eqb-false}
@@ -86,7 +86,7 @@ module _ (c : Configuration) (setting : IsConfiguration c) (later start : List E
 
   -- ---- one number
 
-  -- what is said of a number comes to a replica within whose marks it stays
+  -- each message about a number comes to a replica within whose marks it stays
 
   module _ (i : ℕ) where
     pub reaches : (s : ℕ) → is_correct_replica c s ≡ true → StaysInMarks c i later start s → Reaches c v i trace s
@@ -176,7 +176,7 @@ module _ (c : Configuration) (setting : IsConfiguration c) (later start : List E
           let number : suc j ≡ suc (point r correct).state.number = omega arith in
           absurd (none_is_left c r (whole r) [] (point r correct) (point r correct) (proceeds r correct) v batch (subst (λ (n : ℕ). Committed c r (whole r) v n batch) number committed_it))
 
-  -- what holds of all numbers above those that were reached at first, up to m
+  -- if all numbers above the reached one, up to m, are committed, the replica executes each
   pub each_number : (r m d : ℕ) → is_correct_replica c r ≡ true → reached start r + d ≤ m
       → ((i : ℕ) → reached start r < i → i ≤ m → (batch : List ℕ) × Committed c r (whole r) v i batch) → reached start r + d ≤ reached trace r
   each_number r m zero correct l given = let grows = later_reached r later start in omega arith

@@ -1,4 +1,4 @@
--- What is delivered again brings answers: the laws of redelivery, for schedules.
+-- Frames that are delivered again bring answers: the laws of redelivery, for schedules.
 use Rattle.std.proofs.Common.{◌≡◌, ◌+◌, ◌⊎◌, inl, inr, List, [], ◌∷◌, ◌++◌, reverse, refl, sym, ap, ◌∙◌, subst}
 use Rattle.std.proofs.lemmas.List.{reverse-append, reverse-reverse}
 use Rattle.tuple_codec.specs.Operations.{Outcome}
@@ -10,7 +10,7 @@ use Rattle.protocol.specs.System.Run.{IsRun, OnlyTheseStopped}
 use Rattle.protocol.specs.System.Schedule.{World, Goes, AtInput, new_world}
 use Rattle.protocol.specs.System.Schedule.Step.{ticks, flush}
 use Rattle.protocol.proofs.Words.Elements.{has_either, has_left, has_right, has_reverse, has_reversed}
-use Rattle.protocol.proofs.Evidence.Feeding.{joins}
+use Rattle.evidence.proofs.Feeding.{joins}
 use Rattle.progress.specs.Delivery.{HasEntry}
 use Rattle.progress.specs.Flushed.{IsReached}
 use Rattle.progress.specs.Redelivered.{redelivery, RedeliveriesBringAnswers}
@@ -19,7 +19,7 @@ use Rattle.progress.proofs.Bringing.{tick_is_fed}
 use Rattle.progress.proofs.Redeliveries.{redeliveries_deliver_all}
 use Rattle.progress.proofs.GivenCalls.{given_calls_are_accepted}
 
--- the world behind steps that begin with an input is reached too
+-- the world after steps that begin with an input is reached too
 reached_on : (c : Configuration) (w u : World) (entries : List Entry) → IsReached c w → Goes c w (redelivery c w) entries u → AtInput entries → IsReached c u
 reached_on c w u entries reached goes at =
     let is : u.past ≡ reverse entries ++ w.past = past_grows c w u (redelivery c w) entries goes in

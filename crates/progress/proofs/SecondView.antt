@@ -64,7 +64,7 @@ use Rattle.progress.proofs.Happened.{At, once_at}
 use Rattle.progress.proofs.SilentView.{second_is_entered}
 use Rattle.progress.proofs.Faults.{faulty_primaries_are_silent, no_batches}
 
--- what the second view's primary says as it gives the number a batch
+-- the pre-prepare by which the second view's primary assigns the number
 abbrev giving : Configuration → ℕ → List ℕ → Body
 giving c i batch = record { sender = primary c 1; message = PrePrepare 1 i batch }
 
@@ -112,7 +112,7 @@ untouched c q (e ∷ past) point leaves first silent none =
         let zero_is : may.in_view ≡ 0 = omega arith in
         absurd (below k batch (subst (λ (u : ℕ). logged c q past u k ≡ Some batch) zero_is h))
 
--- ---- low marks where each new view starts at 0
+-- ---- low marks if each new view starts at 0
 
 low_started : (c : Configuration) (me : ℕ) (xs : List Entry) (point : Point) → Leaves c me xs point → ((new : NewViewData) → Once (Takes c new) xs → new.start ≡ 0) → low c me xs ≤ reached xs me
 unfolding low
@@ -218,7 +218,7 @@ module _ (c : Configuration) (setting : IsConfiguration c) (later start : List E
         let m = Silence.view_most c setting trace is_run goes unforged apart f.next q correct in
         omega arith
 
-    -- what is logged is logged in the second view
+    -- all that is logged is logged in the second view
     pub in_second : (u i : ℕ) (b : List ℕ) → logged c q xs u i ≡ Some b → u ≡ 1
     in_second u i b h = go u h
       where
@@ -234,14 +234,14 @@ module _ (c : Configuration) (setting : IsConfiguration c) (later start : List E
     none_inside : (r k : ℕ) (root : List ℕ) → HasEntry (Installed r k root) xs → ⊥
     none_inside r k root h = installs_none q correct r k root (subst (λ (ys : List Entry). HasEntry (Installed r k root) ys) (sym splits) (has_right (λ x. x ≡ Installed r k root) newer xs h))
 
-    -- what it executed was committed there
+    -- all that it executed was committed there
     pub committed_here : (j : ℕ) → 1 ≤ j → j ≤ point.state.number → (d : List ℕ) × Committed c q xs 1 j d
     committed_here j one l =
         let k = number_committed c q j one xs point leaves none_inside l in
         let is = in_second k.0 j k.1 k.2.prepared.logged in
         (k.1, subst (λ (u : ℕ). Committed c q xs u j k.1) is k.2)
 
-  -- ---- what the primary logged it gave
+  -- ---- the primary assigned all that it logged
 
   record Gave (i : ℕ) (batch : List ℕ) (e : Entry) (past : List Entry) (old : Point) : Type 0 where
     sends : SendsBody (giving c i batch) past e
@@ -351,7 +351,7 @@ module _ (c : Configuration) (setting : IsConfiguration c) (later start : List E
     unfolding point
     leaves = proceeds_leaves c q (history_of q (later ++ start)) [] (goes.replicas q correct refl).0 (goes.replicas q correct refl).0 (goes.replicas q correct refl).1
 
-  -- ---- where all stay in the view, and all is delivered again
+  -- ---- if all stay in the view, and all is delivered again
 
   module _ (stays : (q : ℕ) → is_correct_replica c q ≡ true → StaysActive c 1 later start q) (all : AllRedelivered c later start) where
     module _ (i : ℕ) (batch : List ℕ) (says : Once (SendsBody (record { sender = primary c 1; message = PrePrepare 1 i batch })) (later ++ start)) (positive : 1 ≤ i) (number : is_number i ≡ true) where
@@ -405,7 +405,7 @@ module _ (c : Configuration) (setting : IsConfiguration c) (later start : List E
       pub its_committed : (q : ℕ) → is_correct_replica c q ≡ true → Committed c q (history_of q (later ++ start)) 1 i b
       its_committed q correct = committed_second i b its_says its_giving.positive its_giving.number q correct
 
-    -- each correct replica reached what the primary logged
+    -- each correct replica reached all numbers that the primary logged
     pub all_reach : (i : ℕ) (b : List ℕ) → logged c (primary c 1) (history_of (primary c 1) (later ++ start)) 1 i ≡ Some b → (r : ℕ) → is_correct_replica c r ≡ true → i ≤ reached (later ++ start) r
     all_reach i b h r correct = all_numbers c setting later start is_run goes unforged 1 f.next.from stays all r i correct each
       where
@@ -551,7 +551,7 @@ second_calls_are_accepted c setting again later start is_run goes is_whole whole
 
 -- ---- after the silence
 
--- what is next at the end was next before
+-- the view that is next at the end was next before
 next_before : (c : Configuration) (later start : List Entry) → SecondIsNext c (later ++ start) → SecondIsNext c start
 next_before c later start n = record { silent = silent; from = n.from; none_beyond = none_beyond; keys = keys }
   where
@@ -618,7 +618,7 @@ module _ (c : Configuration) (setting : IsConfiguration c) (asks start : List En
   some_there [] y h is = h
   some_there (x ∷ xs) y h is = absurd cc
 
-  -- the state behind no batch is the opening one, in which no client has a timestamp
+  -- the state after no batch is the opening one, in which no client has a timestamp
   none_behind : (st : State) → IsBy c (asks ++ start) st → st.number ≡ 0 → last_time st k ≡ 0
   unfolding state_by
   none_behind st by zero_is =

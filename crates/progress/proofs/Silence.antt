@@ -1,4 +1,4 @@
--- While the first view is silent and nobody is in the second, nothing is executed, and each view change is the first one.
+-- While the first view is silent and nobody is in the second, nothing is executed, and each view change is the first.
 use Rattle.std.proofs.Common.{◌≡◌, ◌≢◌, ℕ, suc, ◌+◌, ◌*◌, ◌≤◌, ◌<◌, ◌⊎◌, inl, inr, Bool, true, false, cond, ◌&&◌, not, List, [], ◌∷◌, ◌++◌, map, reverse, Option, Some, None, refl, sym, ap, ◌∙◌, subst, arith, append_assoc, eqb-true, eq-eqb}
 use Rattle.std.specs.Prelude.{◌==◌, nat_lt, nat_le, option_and_then, filter}
 use Rattle.std.specs.List.{list_all}
@@ -20,7 +20,7 @@ use Rattle.protocol.specs.Replica.RightReplica.{Point, Leaves, May, Moves, MaySa
 use Rattle.protocol.specs.Replica.Owed.{BringsChange}
 use Rattle.protocol.specs.Laws.Bounds.{IsCheckpointBounded}
 use Rattle.protocol.specs.Laws.Histories.{AreReplicasSafe, Takes, ExecutesBatch}
-use Rattle.protocol.specs.Evidence.ExamplesOfChanges.{beginning_change}
+use Rattle.evidence.specs.ExamplesOfChanges.{beginning_change}
 use Rattle.protocol.proofs.Words.Bounds.{within_of_bounded}
 use Rattle.protocol.proofs.Words.Lists.{every_change, passes_change}
 use Rattle.protocol.proofs.Words.Options.{some_injective, and_then_some}
@@ -48,13 +48,13 @@ use Rattle.progress.proofs.Steady.{view_later, logged_later, active_parts}
 
 -- ---- view changes that were sent
 
--- what was said is at most the target
+-- a view change that was sent is for at most the target
 pub said_target : (c : Configuration) (s : ℕ) (vc : ViewChangeData) (xs : List Entry) → Once (Speaks (changing s vc)) xs → vc.view ≤ target xs
 said_target c s vc xs h =
     once_stays_from (λ x. vc.view ≤ target x) (λ e x k. let grows = target_grows e x in omega arith) xs
     (once_weaker (Speaks (changing s vc)) (λ x e. vc.view ≤ target (e ∷ x)) (λ x e t. change_target s vc x e t) xs h)
 
--- the target was said
+-- a view change for the target was sent
 pub record TargetSaid (s t : ℕ) (xs : List Entry) : Type 0 where
   pub vc : ViewChangeData
   pub says : Once (Speaks (changing s vc)) xs
@@ -103,7 +103,7 @@ SignedHere c s vc past _ = ⊥
 pair_is : (s : ℕ) (x : ℕ × ViewChangeData) → (x.0 == s) ≡ true → ◌≡◌ {A = ℕ × ViewChangeData} x (s, x.1)
 pair_is s x is = ap (λ (n : ℕ). (let p : ℕ × ViewChangeData = (n, x.1) in p)) (eqb-true x.0 s is)
 
--- none is later than what was signed
+-- the latest one is no later than the signed ones
 pub latest_most : (c : Configuration) (s m : ℕ) (xs : List Entry) → ((vc : ViewChangeData) → Once (SignedHere c s vc) xs → vc.view ≤ m) → latest_change c xs s ≤ m
 latest_most c s m [] most = omega arith
 latest_most c s m (e ∷ past) most =
@@ -136,7 +136,7 @@ latest_most c s m (e ∷ past) most =
     here (Installed x y z) f = omega arith
     here (Accepted x y z) f = omega arith
 
--- what is above the view, and came, is at most the latest
+-- a view change above the view that came is at most the latest
 pub latest_least : (c : Configuration) (s p : ℕ) (vc : ViewChangeData) (bytes : List ℕ) (xs : List Entry) → signed_change c bytes ≡ Some (s, vc) → is_within c vc ≡ true → view c xs < vc.view
     → HasEntry (Got p bytes) xs → vc.view ≤ latest_change c xs s
 latest_least c s p vc bytes [] signed within above h = absurd h
@@ -154,7 +154,7 @@ latest_least c s p vc bytes (e ∷ past) signed within above (inr h) =
     let below = latest_least c s p vc bytes past signed within l h in
     omega arith
 
--- where the latest comes to be at least so much, a view change counts
+-- if the latest comes to be at least m, a view change counts
 pub came_here : (c : Configuration) (s m : ℕ) (past : List Entry) (e : Entry) → 1 ≤ m → latest_change c past s < m → m ≤ change_at c past e s → (vc : ViewChangeData) × BringsChange c (s, vc) past e × (m ≤ vc.view)
 came_here c s m past e some less l = here e l
   where
@@ -181,7 +181,7 @@ came_here c s m past e some less l = here e l
     here (Installed x y z) l = absurd (omega arith)
     here (Accepted x y z) l = absurd (omega arith)
 
--- where one counted, there was a first that did
+-- if one counted, there was a first that did
 pub first_came : (c : Configuration) (s m : ℕ) (xs : List Entry) → 1 ≤ m → m ≤ latest_change c xs s → (vc : ViewChangeData) × Once (BringsChange c (s, vc)) xs × (m ≤ vc.view)
 first_came c s m [] some l = absurd (omega arith)
 first_came c s m (e ∷ past) some l = go (nat_le m (latest_change c past s)) refl (first_came c s m past some)
@@ -194,7 +194,7 @@ first_came c s m (e ∷ past) some l = go (nat_le m (latest_change c past s)) re
         let r = came_here c s m past e some k here in
         (r.0, inl r.1, r.2)
 
--- a view that was left was left by a new view that was taken
+-- the replica left the first view by taking a new view
 pub left_by : (c : Configuration) (xs : List Entry) → 1 ≤ view c xs → (new : NewViewData) × Once (Takes c new) xs × (new.view ≡ view c xs)
 unfolding view
 left_by c [] l = absurd (omega arith)
@@ -386,7 +386,7 @@ module _ (c : Configuration) (setting : IsConfiguration c) (trace : List Entry) 
           omega arith
 
     module _ (q : ℕ) (correct : is_correct_replica c q ≡ true) where
-      -- what an entry leaves
+      -- the opening state stays the only snapshot
       pub opened : (newer xs : List Entry) → history_of q trace ≡ newer ++ xs → (point : Point) → Leaves c q xs point → point.snapshots ≡ opening ∷ []
       opened newer [] splits point leaves = ap (λ (p : Point). p.snapshots) leaves
       opened newer (e ∷ past) splits point leaves = go e leaves.2.may leaves.2.moves (opened (newer ++ e ∷ []) past (splits ∙ sym (append_assoc newer (e ∷ []) past)) leaves.0 leaves.1)
@@ -406,7 +406,7 @@ module _ (c : Configuration) (setting : IsConfiguration c) (trace : List Entry) 
               absurd (omega arith)
           go (Installed r k root) may move below = let above = may.0 in let is = move.number in let z = number in absurd (omega arith)
 
-      -- what waits goes on waiting
+      -- some request goes on waiting
       waits_more : (st : State) (waiting : List Call) (call : Call) → waiting ≢ [] → with_waiting st waiting call ≢ []
       waits_more st waiting call some = go (nat_lt (last_time st call.client) call.timestamp && list_all (is_newer call) waiting)
         where

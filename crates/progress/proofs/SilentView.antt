@@ -1,4 +1,4 @@
--- Where the first view is silent, each correct replica leaves it, the second view's primary begins that, and each enters.
+-- If the first view is silent, each correct replica leaves it, the second view's primary begins that, and each enters.
 use Rattle.std.proofs.Common.{◌≡◌, ◌≢◌, ℕ, suc, ◌≤◌, ◌<◌, ◌⊎◌, inl, inr, Bool, true, false, List, [], ◌∷◌, ◌++◌, map, reverse, length, Some, refl, sym, ap, ◌∙◌, subst, arith, append_assoc, length-append, eqb-true, eq-eqb}
 use Rattle.std.specs.Prelude.{◌==◌, nat_le, option_and_then}
 use Rattle.std.proofs.lemmas.List.{append-nil}
@@ -21,9 +21,9 @@ use Rattle.protocol.specs.Replica.Certificates.{view, target, is_active_in, low,
 use Rattle.protocol.specs.Replica.State.{State, opening, root_of}
 use Rattle.protocol.specs.Replica.RightReplica.{Point, Leaves, SafeReplica, MaySend, SendsBytes, SentBefore, checkpoint_of, kept_states, IsPreparedList, IsPrePreparedList, sought_view}
 use Rattle.protocol.specs.Replica.Owed.{Proceeds, HasToMove, AreKeysSpent, BringsChange, HasLatestChange, IsSaying}
-use Rattle.protocol.specs.Evidence.ExamplesOfChanges.{beginning_change}
-use Rattle.protocol.proofs.Evidence.FirstFrames.{is_digest}
-use Rattle.protocol.proofs.Evidence.RefusingStepsSigned.{signed_frames_are_heard}
+use Rattle.evidence.specs.ExamplesOfChanges.{beginning_change}
+use Rattle.evidence.proofs.FirstFrames.{is_digest}
+use Rattle.evidence.proofs.RefusingStepsSigned.{signed_frames_are_heard}
 use Rattle.protocol.proofs.Words.Linking.{Speaks}
 use Rattle.protocol.proofs.Words.Reacting.{proceeds_leaves}
 use Rattle.protocol.proofs.Words.Temporal.{once_weaker, once_always}
@@ -84,7 +84,7 @@ first_said : (c : Configuration) → IsConfiguration c → (q : ℕ) → is_repl
 unfolding with_root
 first_said c setting q known = said_with c setting q (root_of opening) known (is_digest _)
 
--- ---- what was spoken was sent
+-- ---- a spoken body was sent in a frame
 
 pub record SpokenFrame (s : ℕ) (body : Body) (xs : List Entry) : Type 0 where
   pub bytes : List ℕ
@@ -121,7 +121,7 @@ brings_signed c s vc past (Executed x y z) h = absurd h
 brings_signed c s vc past (Installed x y z) h = absurd h
 brings_signed c s vc past (Accepted x y z) h = absurd h
 
--- a signed view change that came was said
+-- the signer sent a signed view change that came
 pub came_said : (c : Configuration) (trace : List Entry) (p s : ℕ) (vc : ViewChangeData) → Unforged c trace → is_correct_replica c p ≡ true → is_correct_replica c s ≡ true
     → Once (SignedHere c s vc) (history_of p trace) → Once (Speaks (changing s vc)) (history_of s trace)
 came_said c trace p s vc unforged one other h = go (once_at (λ past e. GotsSaid c trace e × SignedHere c s vc past e × Always (λ past e. GotsSaid c trace e) past) (history_of p trace)

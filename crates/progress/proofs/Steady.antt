@@ -1,4 +1,4 @@
--- A replica that is steady over a part of a trace: what its past is like at each entry of the part.
+-- A replica that is steady over a part of a trace: its past at each entry of the part.
 use Rattle.std.proofs.Common.{◌≡◌, ◌≢◌, ℕ, ◌+◌, ◌≤◌, ◌<◌, ◌⊎◌, inl, inr, true, false, not, List, [], ◌∷◌, ◌++◌, Option, Some, None, refl, sym, ap, ◌∙◌, subst, arith, ◌&&◌, eqb-true, eq-eqb}
 use Rattle.std.specs.Prelude.{◌==◌, nat_lt, nat_le}
 use Rattle.std.specs.List.{range_with_len}
@@ -24,7 +24,7 @@ use Rattle.progress.specs.Delivery.{HasEntry}
 use Rattle.progress.proofs.Hearing.{Heard, sealed_is_heard}
 use Rattle.progress.proofs.Answering.{in_range}
 
--- ---- what grows with the past
+-- ---- view, target and marks grow with the past
 
 pub view_later : (c : Configuration) (later past : List Entry) → view c past ≤ view c (later ++ past)
 view_later c [] past = omega arith
@@ -68,7 +68,7 @@ active_between c v newer middle past first last =
     let most : target (middle ++ past) ≤ v = omega arith in
     and_from (view c (middle ++ past) == v) (nat_le (target (middle ++ past)) v) (eq-eqb (view c (middle ++ past)) v is) (le-leb (target (middle ++ past)) v most)
 
--- where something is logged for the view, a replica that is active in it at last is active
+-- if something is logged for the view, a replica that is active in it at last is active
 pub active_once : (c : Configuration) (me v i : ℕ) (newer now : List Entry) (batch : List ℕ) (point : Point) → Leaves c me (newer ++ now) point → is_active_in c (newer ++ now) v ≡ true → logged c me now v i ≡ Some batch
     → is_active_in c now v ≡ true
 active_once c me v i newer now batch point leaves last h =
@@ -104,7 +104,7 @@ marks_between c me i newer middle past first last =
     and_from (nat_lt (low c me (middle ++ past)) i && nat_le i (low c me (middle ++ past) + span c)) (is_number i)
     (and_from (nat_lt (low c me (middle ++ past)) i) (nat_le i (low c me (middle ++ past) + span c)) (lt-ltb (low c me (middle ++ past)) i above) (le-leb i (low c me (middle ++ past) + span c) within)) a.2
 
--- ---- what is given first since some past
+-- ---- the first value since some past
 
 pub record Since (give : List Entry → Entry → Option (List ℕ)) (x : List ℕ) (part start : List Entry) : Type 0 where
   pub newer : List Entry
@@ -121,7 +121,7 @@ given_since give x (e ∷ part) start none h = go (first_given give (part ++ sta
     go (Some y) is h below = let b = below (is ∙ h) in record { newer = e ∷ b.newer; entry = b.entry; middle = b.middle; splits = ap (λ (xs : List Entry). e ∷ xs) b.splits; gives = b.gives }
     go None is h below = record { newer = []; entry = e; middle = part; splits = refl; gives = h }
 
--- where something is given, something is given first
+-- if a value is given at some entry, one is given first
 pub some_given : (give : List Entry → Entry → Option (List ℕ)) (xs : List Entry) → Once (λ past e. (x : List ℕ) × (give past e ≡ Some x)) xs → (y : List ℕ) × (first_given give xs ≡ Some y)
 some_given give [] h = absurd h
 some_given give (e ∷ past) (inl h) = go (first_given give past)
@@ -135,9 +135,9 @@ some_given give (e ∷ past) (inr h) = go (first_given give past) (some_given gi
     go None k = absurd (let bad = k.1 in cc)
     go (Some y) k = (y, refl)
 
--- ---- what is sent in the part
+-- ---- frames that are sent in the part
 
--- the frame is sent here, and it might be
+-- the replica sends the frame in this entry, as it may
 pub record SentAt (c : Configuration) (me p : ℕ) (bytes : List ℕ) (history : List Entry) : Type 0 where
   pub newer : List Entry
   pub past : List Entry
@@ -155,7 +155,7 @@ sent_at c me p bytes (e ∷ past) point leaves (inr h) =
     let below = sent_at c me p bytes past leaves.0 leaves.1 h in
     record { newer = e ∷ below.newer; past = below.past; splits = ap (λ (xs : List Entry). e ∷ xs) below.splits; point = below.point; own = below.own; may = below.may }
 
--- what is sent of a number that nothing was logged for at first is sent in the part
+-- a frame about a number for which nothing was logged at first is sent in the part
 pub sent_in_part : (c : Configuration) (me p v i : ℕ) (bytes : List ℕ) (part start : List Entry) (point : Point) → Leaves c me (part ++ start) point → logged c me start v i ≡ None
     → ((past : List Entry) (at : Point) → MaySend c me past at (Sent p bytes) bytes → (batch : List ℕ) × (logged c me (Sent p bytes ∷ past) v i ≡ Some batch))
     → HasEntry (Sent p bytes) (part ++ start) → HasEntry (Sent p bytes) part
@@ -170,7 +170,7 @@ sent_in_part c me p v i bytes part start point leaves none says h = go (has_eith
         let there : logged c me start v i ≡ Some s.0 = subst (λ (xs : List Entry). logged c me xs v i ≡ Some s.0) (sym at.splits) (logged_later c me v i s.0 at.newer (Sent p bytes ∷ at.past) s.1) in
         absurd (let bad : None ≡ Some s.0 = sym none ∙ there in cc)
 
--- ---- what goes to all other replicas reaches each
+-- ---- frames for all other replicas reach each
 
 among_others : (c : Configuration) (r s : ℕ) → s < replicas c → s ≢ r → Has (λ x. x ≡ s) (others c r)
 among_others c r s small differ =

@@ -1,4 +1,4 @@
--- A request that a replica got waits there until it ran; and at the primary what waits is numbered.
+-- A request that a replica received waits there until it ran; and the primary numbers its waiting requests.
 use Rattle.std.proofs.Common.{◌≡◌, ℕ, ◌+◌, ◌-◌, ◌≤◌, ◌⊎◌, inl, inr, Bool, true, false, not, cond, List, [], ◌∷◌, ◌++◌, Option, Some, None, reverse, refl, sym, ap, ◌∙◌, subst, arith, append_assoc, ◌&&◌, ◌||◌, eqb-true}
 use Rattle.std.specs.Prelude.{◌==◌, nat_lt, filter, option_and_then}
 use Rattle.std.specs.List.{list_all}
@@ -28,7 +28,7 @@ use Rattle.protocol.proofs.Points.Invoking.{call_body, asked_op, opened_invoked,
 use Rattle.progress.proofs.Flipping.{next_output}
 use Rattle.progress.proofs.Keeping.{invoked_last, open_last, times_grow}
 
--- ---- what waits was heard
+-- ---- waiting requests were heard
 
 call_heard : (c : Configuration) (me : ℕ) (bytes : List ℕ) (body : Body) (call : Call) → heard (members c) me bytes ≡ Some body → call_in c body ≡ Some call
     → heard (members c) me bytes ≡ Some (asking (256 + call.client) call.timestamp modes.Ordered call.op)
@@ -83,7 +83,7 @@ waits_heard c me (e ∷ past) point leaves other h = go e leaves.2.moves (waits_
     go (Installed r k root) move below =
         inr (below (has_filter (λ x. x ≡ other) (λ x. nat_lt (last_time point.state x.client) x.timestamp) leaves.0.waiting (subst (λ (xs : List Call). Has (λ x. x ≡ other) xs) move.waiting h)))
 
--- ---- at the end of a history all that waits at an active primary is numbered, while a number is free
+-- ---- at the end of a history an active primary has numbered all waiting requests, while a number is free
 
 pub all_numbered : (c : Configuration) (me v n : ℕ) (call : Call) → primary c v ≡ me → (xs outputs : List Entry) (new point : Point) → (outputs ≡ [] → new ≡ point) → Proceeds c me xs outputs new point
     → is_active_in c (reverse outputs ++ xs) v ≡ true → Has (λ x. x ≡ call) new.waiting → IsFree c me (reverse outputs ++ xs) new.state.number v n
@@ -98,7 +98,7 @@ all_numbered c me v n call own (e ∷ past) outputs new point ending h active wa
     (subst (λ (xs : List Entry). IsFree c me xs new.state.number v n) (next_output outputs past e) free)))
     (λ p. p.0.numbers v n call active own waits free)
 
--- ---- a request of an open call waits, once it is got, until it ran
+-- ---- a request of an open call waits, once it is received, until it ran
 
 module _ (c : Configuration) (trace : List Entry) (run : Run c trace) (k : ℕ) (client : is_correct_client c (256 + k) ≡ true) (call : OpenCall)
     (opened : open_call (history_of (256 + k) trace) ≡ Some call) (r : ℕ) (correct : is_correct_replica c r ≡ true) where
@@ -125,7 +125,7 @@ module _ (c : Configuration) (trace : List Entry) (run : Run c trace) (k : ℕ) 
   abbrev Waits : Point → Type 0
   Waits point = Has (λ x. x ≡ its) point.waiting ⊎ (call.timestamp ≤ last_time point.state k)
 
-  -- what waits of its client is not later
+  -- its client's waiting request is not later
   waiting_most : (later past : List Entry) (point : Point) → history_of r trace ≡ later ++ past → Leaves c r past point → (other : Call) → Has (λ x. x ≡ other) point.waiting → other.client ≡ k
       → (other.timestamp ≤ call.timestamp) × (other.timestamp ≡ call.timestamp → other ≡ its)
   waiting_most later past point splits leaves other h own =
@@ -160,7 +160,7 @@ module _ (c : Configuration) (trace : List Entry) (run : Run c trace) (k : ℕ) 
           (apart (and_parts (nat_lt (last_time st other.client) other.timestamp) (list_all (is_newer other) waiting) e).1 (k == other.client) refl)
       go false e = h
 
-  -- one of whom a test fails
+  -- an element for which the test fails
   some_fails : (test : Call → Bool) (xs : List Call) → list_all test xs ≡ false → (x : Call) × Has (λ y. y ≡ x) xs × (test x ≡ false)
   some_fails test [] h = absurd cc
   some_fails test (x ∷ xs) h = go (test x) refl h (some_fails test xs)

@@ -1,4 +1,4 @@
--- What a correct replica may say in a new view change is within its bounds.
+-- A new view change that a correct replica may send is within its bounds.
 use Rattle.std.proofs.Common.{◌≡◌, ℕ, ◌+◌, ◌*◌, ◌%◌, ◌^◌, ◌≤◌, ◌<◌, ◌⊎◌, inl, inr, Bool, true, false, cond, ◌&&◌, List, [], ◌∷◌, ◌++◌, reverse, take, Option, Some, None, refl, sym, ap, ◌∙◌, subst, arith, append_assoc, eqb-true, bytes_eq}
 use Rattle.std.specs.Prelude.{◌==◌, nat_le}
 use Rattle.std.specs.List.{list_any}
@@ -36,7 +36,7 @@ use Rattle.progress.proofs.Steady.{marks_parts}
 
 -- ---- the number of a checkpoint that is counted
 
--- what a checkpoint message is
+-- the fields of a checkpoint message
 record IsSaid (s : ℕ) (m : CheckpointEntry) (body : Body) : Type 0 where
   is_body : ◌≡◌ {A = Body} body (record { sender = s; message = Checkpoint m.number m.digest })
   small : is_number m.number ≡ true
@@ -85,7 +85,7 @@ kept_above h (s ∷ ss) st k = go (nat_le h s.number) refl k (kept_above h ss st
     go true e (inr k) below = below k
     go false e k below = below k
 
--- what a number that may be kept is like
+-- the number may be a kept state's
 record IsKept (c : Configuration) (k : ℕ) : Type 0 where
   multiple : k % c.period ≡ 0
   small : k < 2 ^ 48
@@ -94,7 +94,7 @@ module _ (c : Configuration) (setting : IsConfiguration c) (trace : List Entry) 
   safe : AreReplicasSafe c trace
   safe p h = is_replica_right c p (history_of p trace) (is_run.replicas p h)
 
-  -- a correct replica says checkpoints of multiples alone
+  -- a correct replica sends checkpoints of multiples alone
   said_multiple : (s k : ℕ) (root : List ℕ) → is_correct_replica c s ≡ true → Once (Speaks (record { sender = s; message = Checkpoint k root })) (history_of s trace) → k % c.period ≡ 0
   said_multiple s k root from says =
       go (once_at (λ past e. RightAt c s past e × Speaks (record { sender = s; message = Checkpoint k root }) past e × Always (RightAt c s) past) (history_of s trace)

@@ -1,5 +1,5 @@
--- A call that enough correct replicas executed is answered: once its client asks again and all is delivered, the
--- client accepts (Castro and Liskov, TOCS 2002, on the client and on the last reply that replicas keep).
+-- A call that enough correct replicas executed is answered: its client accepts, once it asks again and all is delivered
+-- (Castro and Liskov, TOCS 2002, on the client and on the last reply that replicas keep).
 use Rattle.std.specs.Prelude.{◌≡◌, ℕ, ◌+◌, ◌*◌, ◌≤◌, Bool, true, List, [], ◌++◌, Some}
 use Rattle.quorum.specs.Quorum.{count_below}
 use Rattle.tuple_codec.specs.Operations.{Outcome}
@@ -16,9 +16,9 @@ use Rattle.protocol.specs.Replica.RightReplica.{Point, Leaves}
 use Rattle.protocol.specs.Client.RightClient.{OpenCall, open_call, Vote, count_alike, IsPromptClient}
 use Rattle.progress.specs.Delivery.{HasEntry, AllDelivered}
 
--- ---- what replies say
+-- ---- the contents of replies
 
--- Two ordered replies of correct replicas to one request of a correct client have one number and one answer.
+-- Two ordered replies of correct replicas to one request of a correct client agree in number and answer.
 abbrev pub OrderedRepliesAgree : Type 0
 OrderedRepliesAgree =
     (c : Configuration) → IsConfiguration c → (trace : List Entry) → IsRun c trace → Unforged c trace
@@ -31,7 +31,7 @@ OrderedRepliesAgree =
 
 -- ---- a client accepts at once
 
--- While a call of a client that goes on is open, no 2f + 1 replies of one mode are alike.
+-- While a client that has not stopped has a call open, no 2f + 1 replies of one mode agree.
 abbrev pub OpenCallsLackQuorums : Type 0
 OpenCallsLackQuorums =
     (c : Configuration) (me : ℕ) (history : List Entry) (call : OpenCall) (vote : Vote)
@@ -40,8 +40,8 @@ OpenCallsLackQuorums =
 
 -- ---- the law
 
--- The replica keeps its reply to the client's request of this timestamp: it executed that, and nothing later of that
--- client.
+-- The replica keeps its reply to the client's request of this timestamp: it executed that request, and no later one of
+-- that client.
 pub record KeepsReply (c : Configuration) (r : ℕ) (history : List Entry) (client timestamp : ℕ) : Type 0 where
   pub point : Point
   pub leaves : Leaves c r history point
@@ -49,8 +49,8 @@ pub record KeepsReply (c : Configuration) (r : ℕ) (history : List Entry) (clie
   pub is_kept : kept_of point.state client ≡ Some kept
   pub time : kept.timestamp ≡ timestamp
 
--- Nobody has stopped. A correct client has a call open, to which 2f + 1 correct replicas keep the reply. If time goes
--- by at the client, and then all is delivered that is sent, the client accepts an answer.
+-- Nobody has stopped. A correct client has a call open, and 2f + 1 correct replicas keep the reply. If time goes by at
+-- the client, and then all that is sent is delivered, the client accepts an answer.
 abbrev pub ExecutedCallsAreAccepted : Type 0
 ExecutedCallsAreAccepted =
     (c : Configuration) → IsConfiguration c → (later start : List Entry) → IsRun c (later ++ start)

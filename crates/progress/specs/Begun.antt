@@ -1,4 +1,4 @@
--- What a new view begins its view with is executed: each correct replica that entered the view has logged it.
+-- The batches of a new view are executed: each correct replica that entered the view has logged them.
 use Rattle.std.specs.Prelude.{◌≡◌, ℕ, ◌≤◌, ◌<◌, ◌⊎◌, true, List, [], ◌++◌, Some}
 use Rattle.protocol.specs.System.Configuration.{Configuration, IsConfiguration, primary, is_correct_replica}
 use Rattle.protocol.specs.System.Trace.{Entry, history_of, Unforged}
@@ -7,16 +7,16 @@ use Rattle.protocol.specs.Replica.Certificates.{logged}
 use Rattle.protocol.specs.Space.Linear.{reached}
 use Rattle.progress.specs.Redelivered.{AllRedelivered, StaysActive, StaysInMarks, IsGiven}
 
--- Each correct replica has this batch logged for the number in the view, as one does that the new view has for it, and
--- the number stays within its marks.
+-- Each correct replica has this batch logged for the number in the view, as it has each batch of the new view. The
+-- number stays within its marks.
 pub record IsBegun (c : Configuration) (v i : ℕ) (later start : List Entry) : Type 0 where
   pub batch : List ℕ
   pub each : (q : ℕ) → is_correct_replica c q ≡ true
       → StaysInMarks c i later start q × (logged c q (history_of q start) v i ≡ Some batch)
 
--- Nobody has stopped, each correct replica stays active in the view, whose primary is correct, and all that was ever
--- sent is delivered again. Then each correct replica executes the number m, if all numbers from the replica's own next
--- one on, up to m, were begun with the view or given by the primary.
+-- Nobody has stopped, each correct replica stays active in the view, its primary is correct, and all that was ever sent
+-- is delivered again. Then each correct replica executes the number m, if the new view or the primary assigned all
+-- numbers from the replica's own next one on, up to m.
 abbrev pub BegunNumbersAreExecuted : Type 0
 BegunNumbersAreExecuted =
     (c : Configuration) → IsConfiguration c → (later start : List Entry) → IsRun c (later ++ start)

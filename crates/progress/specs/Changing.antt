@@ -1,5 +1,4 @@
--- A change of view as a whole, from any view and over whatever was prepared before (Castro and Liskov, TOCS 2002,
--- 4.5.2).
+-- A view change as a whole, from any view and over whatever was prepared before (Castro and Liskov, TOCS 2002, 4.5.2).
 use Rattle.std.specs.Prelude.{◌≡◌, ℕ, ◌≤◌, ◌<◌, ◌⊎◌, true, List, []}
 use Rattle.wire.specs.Messages.{ViewChangeData, CheckpointEntryData as CheckpointEntry, view_change as ViewChange}
 use Rattle.protocol.specs.System.Configuration.{Configuration, IsConfiguration, primary, is_correct_replica}
@@ -9,8 +8,7 @@ use Rattle.protocol.specs.Replica.Certificates.{view, target, is_active_in, Prep
 use Rattle.protocol.specs.Replica.Owed.{AreKeysSpent, HasBatch}
 use Rattle.progress.specs.Delivery.{AllDelivered}
 
--- The view changes for the view that correct replicas sent have this low mark, and list the checkpoint of this root for
--- it.
+-- Correct replicas' view changes for the view have this low mark, and list the checkpoint of this root for it.
 abbrev pub AreLevel : Configuration → List Entry → ℕ → ℕ → List ℕ → Type 0
 AreLevel c trace v start root =
     (q : ℕ) (vc : ViewChangeData) → is_correct_replica c q ≡ true

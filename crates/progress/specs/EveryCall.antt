@@ -1,4 +1,4 @@
--- The first view as a whole: where it goes on, every open call of a correct client is accepted.
+-- The first view as a whole: if it goes on, every open call of a correct client is accepted.
 use Rattle.std.specs.Prelude.{◌≡◌, ℕ, suc, ◌+◌, ◌≤◌, true, List, [], ◌++◌, Some}
 use Rattle.tuple_codec.specs.Operations.{Outcome}
 use Rattle.wire.specs.Messages.{pre_prepare as PrePrepare}
@@ -14,9 +14,9 @@ use Rattle.progress.specs.Delivery.{HasEntry, AllDelivered}
 use Rattle.progress.specs.Redelivered.{AllRedelivered}
 use Rattle.progress.specs.FirstView.{NoneInstalls}
 
--- The first view's primary is correct, each correct replica is active in it at the end, and none installed a state. What
--- the primary ever gave a number is authentic to each correct replica, and the number at most the span above the low
--- mark that the replica starts with. At the end the primary's next number is within its marks.
+-- The first view's primary is correct, each correct replica is active in it at the end, and none installed a state. The
+-- batches that the primary assigned are authentic to each correct replica, and their numbers at most the span above the
+-- low mark with which the replica starts. At the end the primary's next number is within its marks.
 pub record FirstViewGoesOn (c : Configuration) (later start : List Entry) : Type 0 where
   pub from : is_correct_replica c (primary c 0) ≡ true
   pub active : (q : ℕ) → is_correct_replica c q ≡ true → is_active_in c (history_of q (later ++ start)) 0 ≡ true
@@ -29,7 +29,7 @@ pub record FirstViewGoesOn (c : Configuration) (later start : List Entry) : Type
       (suc (reached (later ++ start) (primary c 0))) ≡ true
 
 -- Nobody has stopped, and the first view goes on. A correct client with an open call asks again, as time goes by, and
--- all that was ever sent is delivered again. Then it asks once more, and all is delivered that is sent: it has accepted
+-- all that was ever sent is delivered again. Then it asks once more, and all that is sent is delivered: it has accepted
 -- an answer, in the first part or in this one.
 abbrev pub EveryCallIsAccepted : Type 0
 EveryCallIsAccepted =

@@ -1,5 +1,5 @@
--- Where no view changes at all, numbers may leave the marks, as checkpoints become stable: each correct replica still
--- comes as far as the primary numbered.
+-- If no view changes at all, numbers may leave the marks, as checkpoints become stable: each correct replica still
+-- executes all numbers that the primary assigned.
 use Rattle.std.specs.Prelude.{◌≡◌, ℕ, ◌+◌, ◌≤◌, ◌<◌, true, List, [], ◌++◌, Some}
 use Rattle.tuple_codec.specs.Operations.{Outcome}
 use Rattle.wire.specs.Messages.{pre_prepare as PrePrepare}
@@ -15,8 +15,8 @@ use Rattle.protocol.specs.Space.Linear.{reached}
 use Rattle.progress.specs.Delivery.{HasEntry, AllDelivered}
 use Rattle.progress.specs.Redelivered.{AllRedelivered}
 
--- The primary of the first view gave the number a batch, at whatever time. The number is at most the span above the low
--- mark that each correct replica starts with, and the batch's requests are authentic to it.
+-- The primary of the first view assigned the number at some time. The number is at most the span above the low mark
+-- with which each correct replica starts, and the batch's requests are authentic to it.
 pub record IsGivenFirst (c : Configuration) (i : ℕ) (later start : List Entry) : Type 0 where
   pub batch : List ℕ
   pub says : Once (SendsBody (record { sender = primary c 0; message = PrePrepare 0 i batch })) (later ++ start)
@@ -30,8 +30,8 @@ NoneInstalls c trace =
     (r k : ℕ) (root : List ℕ) → is_correct_replica c r ≡ true → HasEntry (Installed r k root) trace → ⊥
 
 -- Nobody has stopped, each correct replica is active in the first view at the end, none installed a state, and all that
--- was ever sent is delivered again. Then each correct replica executes the number m, if the correct primary gave all
--- numbers from the replica's own next one on, up to m.
+-- was ever sent is delivered again. Then each correct replica executes the number m, if the correct primary assigned
+-- all numbers from the replica's own next one on, up to m.
 abbrev pub FirstNumbersAreExecuted : Type 0
 FirstNumbersAreExecuted =
     (c : Configuration) → IsConfiguration c → (later start : List Entry) → IsRun c (later ++ start)
@@ -43,9 +43,9 @@ FirstNumbersAreExecuted =
     → ((i : ℕ) → reached start r < i → i ≤ m → IsGivenFirst c i later start)
     → m ≤ reached (later ++ start) r
 
--- As above, for all of them. One of the numbers that the primary gave, up to m, has a request of a correct client's open
--- call in its batch. Then the client asks again, as time goes by, and all is delivered that is sent: it has accepted an
--- answer, in the first part or in this one.
+-- As above, for all correct replicas. One of the batches that the primary assigned, up to m, has a request of a correct
+-- client's open call. Then the client asks again, as time goes by, and all that is sent is delivered: it has accepted
+-- an answer, in the first part or in this one.
 abbrev pub FirstCallsAreAccepted : Type 0
 FirstCallsAreAccepted =
     (c : Configuration) → IsConfiguration c → (again later start : List Entry)

@@ -23,8 +23,8 @@ EndsInFlush (flush ∷ []) = Unit {0}
 EndsInFlush (step ∷ []) = ⊥
 EndsInFlush (step ∷ next ∷ steps) = EndsInFlush (next ∷ steps)
 
--- From any world that is reached, steps whose last one is a flush add entries to the trace, and all that is sent in
--- them is delivered in them.
+-- From any world that is reached, steps whose last one is a flush add entries to the trace, and deliver all that is
+-- sent in them.
 abbrev pub FlushesDeliverAll : Type 0
 FlushesDeliverAll =
     (c : Configuration) (w v : World) (steps : List Step) (entries : List Entry)
@@ -35,8 +35,8 @@ FlushesDeliverAll =
 abbrev pub AsksAndFlushes : Configuration → ℕ → World → List Entry → World → Type 0
 AsksAndFlushes c client w entries v = Goes c w (ticks (256 + client) ∷ flush ∷ []) entries v
 
--- From any world that is reached, where a correct client has a call open to which 2f + 1 correct replicas keep the
--- reply: the client's tick and a flush make it accept, if nobody has stopped at the end.
+-- From any world that is reached, let a correct client have a call open to which 2f + 1 correct replicas keep the
+-- reply. The client's tick and a flush make it accept, if nobody has stopped at the end.
 abbrev pub FlushesBringAnswers : Type 0
 FlushesBringAnswers =
     (c : Configuration) → IsConfiguration c → (w v : World) (entries : List Entry) → IsReached c w

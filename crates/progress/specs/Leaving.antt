@@ -1,4 +1,4 @@
--- A replica whose time runs out leaves its view, and the primary of the next one begins it over enough view changes
+-- A replica that times out leaves its view, and the primary of the next view begins that over enough view changes
 -- (Castro and Liskov, TOCS 2002, 4.5.2).
 use Rattle.std.specs.Prelude.{◌≡◌, ◌≢◌, ℕ, suc, ◌+◌, ◌*◌, ◌≤◌, ◌<◌, ◌⊎◌, Bool, true, List, [], ◌∷◌, ◌++◌, Some}
 use Rattle.quorum.specs.Quorum.{count_below}
@@ -15,10 +15,10 @@ use Rattle.protocol.specs.Replica.RightReplica.{Point, Leaves, sought_view, Time
 use Rattle.protocol.specs.Replica.Owed.{AreKeysSpent, HasLatestChange, HasBatch}
 use Rattle.progress.specs.Delivery.{AllDelivered}
 
--- ---- a view is left
+-- ---- leaving a view
 
--- Whatever a right replica has logged and prepared, there is a new view change that says it, for each view above its
--- own and above those that it left for, if it has a reason.
+-- Whatever a right replica has logged and prepared, some new view change says it, for each view above its own and above
+-- those that it left for, if it has a reason.
 abbrev pub ViewChangesExist : Type 0
 ViewChangesExist =
     (c : Configuration) (me : ℕ) (past : List Entry) (point behind : Point) → Leaves c me past behind → (v : ℕ)
@@ -26,8 +26,8 @@ ViewChangesExist =
     → TimesOut c me past point.waiting v ⊎ JoinsOthers c me past v
     → (vc : ViewChangeData) × (vc.view ≡ v) × IsNewViewChange c me past point vc
 
--- It is within its bounds, if the replica is a correct one of a run. point: the one before the past, or any with the
--- same snapshots.
+-- A new view change is within its bounds, if the replica is a correct one of a run. point: the one before the past, or
+-- any with the same snapshots.
 abbrev pub ViewChangesAreWithin : Type 0
 ViewChangesAreWithin =
     (c : Configuration) → IsConfiguration c → (trace : List Entry) → IsRun c trace → Unforged c trace
@@ -35,7 +35,7 @@ ViewChangesAreWithin =
     → (point behind : Point) → Leaves c r past behind → behind.snapshots ≡ point.snapshots
     → (vc : ViewChangeData) → IsNewViewChange c r past point vc → is_within c vc ≡ true
 
--- A frame has room for what the replica may say in a new view change for the view: some bytes say it.
+-- A frame has room for each new view change for the view that the replica may send: some bytes say it.
 abbrev pub HasRoom : Configuration → ℕ → List Entry → Point → ℕ → Type 0
 HasRoom c me past point v =
     (vc : ViewChangeData) → vc.view ≡ v → IsNewViewChange c me past point vc
@@ -45,9 +45,9 @@ HasRoom c me past point v =
 abbrev pub IsWaiting : Configuration → List Entry → Point → Type 0
 IsWaiting c past point = (point.waiting ≢ []) ⊎ (view c past < target past)
 
--- Nobody has stopped. Time goes by at a correct replica at which a request waits, or which is inactive: then it has
--- sent a view change for the view after the one that it was in or left for, or for a later one, if a frame has room for
--- it. Its keys may be spent.
+-- Nobody has stopped. Time goes by at a correct replica that has a waiting request or is inactive. Then it has sent a
+-- view change for the view after the one that it was in or left for, or for a later one, if a frame has room for it and
+-- its keys are not spent.
 abbrev pub WaitingReplicasLeave : Type 0
 WaitingReplicasLeave =
     (c : Configuration) → IsConfiguration c → (r : ℕ) (later start : List Entry) → IsRun c (later ++ Tick r ∷ start)
@@ -59,11 +59,11 @@ WaitingReplicasLeave =
     → (sought_view c (history_of r start) < target (history_of r (later ++ Tick r ∷ start)))
     ⊎ AreKeysSpent (history_of r start)
 
--- ---- a view is begun
+-- ---- beginning a view
 
--- Nobody has stopped. If a new view meets the rules, over the latest view changes that its primary has, its own among
--- them or not, and over batches that it has, and the primary left for this view and no later one: it began the view,
--- or its keys are spent.
+-- Nobody has stopped. A new view meets the rules, over the latest view changes that its primary has, with its own or
+-- without, and over batches that it has. The primary left for this view and no later one. Then it began the view, or
+-- its keys are spent.
 abbrev pub PrimariesBeginViews : Type 0
 PrimariesBeginViews =
     (c : Configuration) (trace : List Entry) → OnlyTheseStopped c [] trace
@@ -86,8 +86,8 @@ SaysNothingAbove c p past v start root s =
     (vc : ViewChangeData) × HasLatestChange c p past (s, vc) × (vc.view ≡ v) × (is_within c vc ≡ true)
     × HasNothingAbove start root vc
 
--- So there is such a new view, if the primary has the latest view changes of 2f + 1 replicas for the view, and none of
--- these has anything prepared above a checkpoint that all of them have: the one with no batch.
+-- So the primary begins the view, with no batch, if it has the latest view changes of 2f + 1 replicas for it, and none
+-- of these has anything prepared above a checkpoint that all of them list.
 abbrev pub UnpreparedViewsAreBegun : Type 0
 UnpreparedViewsAreBegun =
     (c : Configuration) (trace : List Entry) → IsRun c trace → OnlyTheseStopped c [] trace
@@ -97,7 +97,7 @@ UnpreparedViewsAreBegun =
     → ((s : ℕ) → s < replicas c → from s ≡ true → SaysNothingAbove c p (history_of p trace) v start root s)
     → (v ≤ view c (history_of p trace)) ⊎ AreKeysSpent (history_of p trace)
 
--- ---- a view is begun over what is prepared
+-- ---- beginning a view over prepared batches
 
 -- The replica's latest view change that p has is for the view and within its bounds. It has this low mark, and lists
 -- the checkpoint of this root for it.
@@ -107,8 +107,8 @@ SaysFrom c p past v start root s =
     × (vc.low ≡ start) × Has (λ (m : CheckpointEntry). (m.number ≡ start) × (m.digest ≡ root)) vc.checkpoints
 
 -- Nobody has stopped. The primary left for its view and no later one. It has the latest view changes of 2f + 1 correct
--- replicas for that view, which have one low mark and one checkpoint there, and each batch above it that one of these
--- replicas holds prepared in an earlier view. Then there is such a new view: it began the view, or its keys are spent.
+-- replicas for that view, with one low mark and one checkpoint there. It also has each batch above the mark that one of
+-- these replicas holds prepared in an earlier view. Then it began the view, or its keys are spent.
 abbrev pub PreparedViewsAreBegun : Type 0
 PreparedViewsAreBegun =
     (c : Configuration) → IsConfiguration c → (trace : List Entry) → IsRun c trace → OnlyTheseStopped c [] trace
@@ -122,10 +122,11 @@ PreparedViewsAreBegun =
     → Prepared c s (history_of s trace) w i batch → HasBatch c p (history_of p trace) batch)
     → (v ≤ view c (history_of p trace)) ⊎ AreKeysSpent (history_of p trace)
 
--- ---- a view is entered
+-- ---- entering a view
 
--- Nobody has stopped. The correct primary of a view above the first begins it in this part of a trace, in which all is
--- delivered that is sent. Then each correct replica that has left for no later view is in the view, or in a later one.
+-- Nobody has stopped. The correct primary of a view above the first begins it in this part of a trace, and all that is
+-- sent in the part is delivered. Then each correct replica that has left for no later view is in the view, or in a
+-- later one.
 abbrev pub NewViewsAreEntered : Type 0
 NewViewsAreEntered =
     (c : Configuration) (later start : List Entry) → IsRun c (later ++ start) → AllDelivered c later

@@ -1,4 +1,4 @@
--- Any view as a whole: where it goes on after it was entered, every open call of a correct client is accepted.
+-- Any view as a whole: if it goes on after it was entered, every open call of a correct client is accepted.
 use Rattle.std.specs.Prelude.{◌≡◌, ℕ, suc, ◌+◌, ◌≤◌, ◌<◌, ◌⊎◌, true, List, [], ◌++◌, Some, is_some}
 use Rattle.tuple_codec.specs.Operations.{Outcome}
 use Rattle.protocol.specs.System.Configuration.{Configuration, IsConfiguration, primary, is_correct_replica, is_correct_client}
@@ -15,16 +15,16 @@ use Rattle.progress.specs.Redelivered.{AllRedelivered, IsGiven}
 use Rattle.progress.specs.Begun.{IsBegun}
 use Rattle.progress.specs.Changing.{IsNextView}
 
--- the number was begun with the view, or given in it, with this batch
+-- the new view or the primary assigned this batch to the number
 abbrev pub HasNumber : Configuration → ℕ → ℕ → List ℕ → List Entry → List Entry → Type 0
 HasNumber c v i batch later start =
     ((begun : IsBegun c v i later start) × (begun.batch ≡ batch))
     ⊎ ((given : IsGiven c v i later start) × (given.batch ≡ batch))
 
--- The primary is correct, and each correct replica is active in the view at the end. What the primary has logged in it
--- was begun with the view or given, from number 1 on, and each batch of its new view it has logged. From each correct
--- replica's own next number on, up to what the primary executed or logged, it has logged all; so it has above its low
--- mark, as far as it executed; and its next number is within its marks.
+-- The primary is correct, and each correct replica is active in the view at the end. The new view or the primary
+-- assigned all that the primary has logged in it, from number 1 on. The primary has logged each batch of its new view.
+-- From each correct replica's own next number on it has logged all, up to each number that it executed or logged; so it
+-- has above its low mark, up to its executed number. Its next number is within its marks.
 pub record ViewGoesOn (c : Configuration) (v : ℕ) (later start : List Entry) : Type 0 where
   pub from : is_correct_replica c (primary c v) ≡ true
   pub active : (q : ℕ) → is_correct_replica c q ≡ true → is_active_in c (history_of q (later ++ start)) v ≡ true
@@ -45,7 +45,7 @@ pub record ViewGoesOn (c : Configuration) (v : ℕ) (later start : List Entry) :
 
 -- Nobody has stopped. Each correct replica has left for a view whose primary is correct, or is in it, and all that was
 -- ever sent is delivered. The view goes on from there. A correct client with an open call asks again, as time goes by,
--- and all that was ever sent is delivered again. Then it asks once more, and all is delivered that is sent: it has
+-- and all that was ever sent is delivered again. Then it asks once more, and all that is sent is delivered: it has
 -- accepted an answer, in the first part or in this one.
 abbrev pub CallsOutliveChanges : Type 0
 CallsOutliveChanges =

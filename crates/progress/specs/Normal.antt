@@ -1,5 +1,5 @@
--- The normal case (Castro and Liskov, TOCS 2002): a batch that the correct primary of a view gives the next number is
--- executed by each correct replica, once all is delivered that is sent.
+-- The normal case (Castro and Liskov, TOCS 2002): each correct replica executes the batch that the correct primary of a
+-- view assigns to the next number, once all that is sent is delivered.
 use Rattle.std.specs.Prelude.{◌≡◌, ℕ, suc, ◌+◌, ◌≤◌, true, List, [], ◌++◌, Some, None}
 use Rattle.tuple_codec.specs.Operations.{Outcome}
 use Rattle.protocol.specs.System.Configuration.{Configuration, IsConfiguration, primary, is_correct_replica, is_correct_client}
@@ -16,8 +16,8 @@ use Rattle.protocol.specs.Client.RightClient.{OpenCall, open_call, IsRequest}
 use Rattle.protocol.specs.Space.Linear.{reached}
 use Rattle.progress.specs.Delivery.{HasEntry, AllDelivered}
 
--- From the start of a part of a trace to its end the replica is active in the view, and the number i is within its
--- marks. It starts with the number before executed, and nothing logged for i.
+-- From the start of a part of a trace to its end the replica is active in the view, and number i is within its marks.
+-- At the start it has executed the number before, and logged nothing for i.
 pub record IsSteady (c : Configuration) (v i : ℕ) (later start : List Entry) (r : ℕ) : Type 0 where
   pub active_first : is_active_in c (history_of r start) v ≡ true
   pub active_last : is_active_in c (history_of r (later ++ start)) v ≡ true
@@ -26,8 +26,8 @@ pub record IsSteady (c : Configuration) (v i : ℕ) (later start : List Entry) (
   pub next : suc (reached start r) ≡ i
   pub unlogged : logged c r (history_of r start) v i ≡ None
 
--- Nobody has stopped, each correct replica is steady, and all is delivered that is sent. If the correct primary of the
--- view gave the number a batch whose requests are authentic to each correct replica, each executes the number.
+-- Nobody has stopped, each correct replica is steady, and all that is sent is delivered. If the correct primary of the
+-- view assigned the number to a batch whose requests are authentic to each correct replica, each executes the number.
 abbrev pub NextBatchesAreExecuted : Type 0
 NextBatchesAreExecuted =
     (c : Configuration) → IsConfiguration c → (later start : List Entry) → IsRun c (later ++ start)
@@ -38,7 +38,7 @@ NextBatchesAreExecuted =
     → logged c (primary c v) (history_of (primary c v) (later ++ start)) v i ≡ Some batch
     → (r : ℕ) → is_correct_replica c r ≡ true → i ≤ reached (later ++ start) r
 
--- Requests that correct clients sealed for all replicas are authentic to each: so is a batch of such requests.
+-- Requests that correct clients sealed for all replicas are authentic to each of these; so is a batch of them.
 abbrev pub CorrectRequestsAreGenuine : Type 0
 CorrectRequestsAreGenuine =
     (c : Configuration) → IsConfiguration c → (batch : List ℕ)
@@ -47,7 +47,7 @@ CorrectRequestsAreGenuine =
     → (r : ℕ) → is_correct_replica c r ≡ true → are_genuine c r batch ≡ true
 
 -- As above, with a request of a correct client's open call in the batch. Then the client asks again, as time goes by,
--- and again all is delivered that is sent: it has accepted an answer, in the first part or in this one.
+-- and again all that is sent is delivered: it has accepted an answer, in the first part or in this one.
 abbrev pub NormalCallsAreAccepted : Type 0
 NormalCallsAreAccepted =
     (c : Configuration) → IsConfiguration c → (again later start : List Entry)

@@ -12,11 +12,11 @@ use Rattle.protocol.specs.System.Run.{IsRun, OnlyTheseStopped}
 use Rattle.protocol.specs.Space.Linear.{reached}
 use Rattle.progress.specs.Delivery.{HasEntry, AllDelivered}
 
--- The replica has executed, or installed, the number n and no later one, before this part of a trace and behind it.
+-- The replica has executed, or installed, number n and no later one, before this part of a trace and after it.
 abbrev pub StaysAt : ℕ → List Entry → List Entry → ℕ → Type 0
 StaysAt n later start r = (reached start r ≡ n) × (reached (later ++ start) r ≡ n)
 
--- Nobody has stopped. A correct client invokes a read, and then all is delivered that is sent, while 2f + 1 correct
+-- Nobody has stopped. A correct client invokes a read, and then all that is sent is delivered, while 2f + 1 correct
 -- replicas stay at one executed number. Then the client accepts an answer.
 abbrev pub ReadsAreAccepted : Type 0
 ReadsAreAccepted =

@@ -1,5 +1,5 @@
--- What is lost may be sent again: where all frames that correct parties ever sent are delivered again, each correct
--- replica executes what the primary numbered, whatever it missed.
+-- Lost frames may be sent again: if all frames that correct parties ever sent are delivered again, each correct replica
+-- executes all numbers that the primary assigned, whatever it missed.
 use Rattle.std.specs.Prelude.{◌≡◌, ℕ, suc, ◌+◌, ◌≤◌, ◌<◌, true, List, [], ◌∷◌, ◌++◌, reverse, filter, map, Some}
 use Rattle.tuple_codec.specs.Operations.{Outcome}
 use Rattle.wire.specs.Messages.{pre_prepare as PrePrepare}
@@ -16,7 +16,7 @@ use Rattle.protocol.specs.Space.Linear.{reached}
 use Rattle.progress.specs.Delivery.{HasEntry, meant, AllDelivered}
 use Rattle.progress.specs.Flushed.{IsReached, AsksAndFlushes}
 
--- Each frame that was ever sent is got in the later part, by each correct party for which it is.
+-- Each correct party that a frame is for receives it in the later part, if it was ever sent.
 abbrev pub AllRedelivered : Configuration → List Entry → List Entry → Type 0
 AllRedelivered c later start =
     (p q : ℕ) (bytes : List ℕ) → HasEntry (Sent p bytes) (later ++ start) → Has (λ x. x ≡ q) (meant c p bytes)
@@ -30,11 +30,11 @@ deliveries c first [] = []
 deliveries c first (made ∷ frames) =
     map (deliver first) (filter (is_correct c) made.receivers) ++ deliveries c (suc first) frames
 
--- All frames of a world go again, and then what is left is delivered.
+-- All frames of a world are delivered again, and then all that is left.
 abbrev pub redelivery : Configuration → World → List Step
 redelivery c w = deliveries c 0 w.frames ++ flush ∷ []
 
--- From any world that is reached, that delivers all that was ever sent.
+-- From any world that is reached, this delivers all that was ever sent.
 abbrev pub RedeliveriesDeliverAll : Type 0
 RedeliveriesDeliverAll =
     (c : Configuration) (w v : World) (entries : List Entry) → IsReached c w → Goes c w (redelivery c w) entries v
@@ -52,16 +52,16 @@ pub record StaysInMarks (c : Configuration) (i : ℕ) (later start : List Entry)
   pub first : is_in_marks c (low c r (history_of r start)) i ≡ true
   pub last : is_in_marks c (low c r (history_of r (later ++ start))) i ≡ true
 
--- The primary gave the number a batch, at whatever time. The number stays within the marks of each correct replica, and
--- the batch's requests are authentic to it.
+-- The primary assigned the number to a batch at some time. The number stays within the marks of each correct replica,
+-- and the batch's requests are authentic to it.
 pub record IsGiven (c : Configuration) (v i : ℕ) (later start : List Entry) : Type 0 where
   pub batch : List ℕ
   pub says : Once (SendsBody (record { sender = primary c v; message = PrePrepare v i batch })) (later ++ start)
   pub each : (q : ℕ) → is_correct_replica c q ≡ true
       → StaysInMarks c i later start q × (are_genuine c q batch ≡ true)
 
--- Nobody has stopped, each correct replica stays active in the view, whose primary is correct, and all that was ever
--- sent is delivered again. Then each correct replica executes the number m, if the primary gave all numbers from the
+-- Nobody has stopped, each correct replica stays active in the view, its primary is correct, and all that was ever sent
+-- is delivered again. Then each correct replica executes the number m, if the primary assigned all numbers from the
 -- replica's own next one on, up to m.
 abbrev pub GivenNumbersAreExecuted : Type 0
 GivenNumbersAreExecuted =
@@ -73,9 +73,9 @@ GivenNumbersAreExecuted =
     → ((i : ℕ) → reached start r < i → i ≤ m → IsGiven c v i later start)
     → m ≤ reached (later ++ start) r
 
--- As above, for all of them. One of the numbers that the primary gave, up to m, has a request of a correct client's
--- open call in its batch. Then the client asks again, as time goes by, and all is delivered that is sent: it has
--- accepted an answer, in the first part or in this one.
+-- As above, for all correct replicas. One of the batches that the primary assigned, up to m, has a request of a correct
+-- client's open call. Then the client asks again, as time goes by, and all that is sent is delivered: it has accepted
+-- an answer, in the first part or in this one.
 abbrev pub GivenCallsAreAccepted : Type 0
 GivenCallsAreAccepted =
     (c : Configuration) → IsConfiguration c → (again later start : List Entry)
@@ -91,8 +91,8 @@ GivenCallsAreAccepted =
     → HasEntry (Tick (256 + k)) again → AllDelivered c again
     → (answer : Outcome) × HasEntry (Accepted k call.timestamp answer) (again ++ later)
 
--- The same as a schedule, from any world that is reached, whose next entry is an input: all frames go again, what is
--- left is delivered, and then the client's tick and a flush make it accept.
+-- The same as a schedule, from any world that is reached and whose next entry is an input: all frames are delivered
+-- again, then all that is left, and then the client's tick and a flush make it accept.
 abbrev pub RedeliveriesBringAnswers : Type 0
 RedeliveriesBringAnswers =
     (c : Configuration) → IsConfiguration c → (w u x : World) (first more : List Entry) → IsReached c w

@@ -1,5 +1,4 @@
--- The second view as a whole: where it goes on after a silent first one, every open call of a correct client is
--- accepted.
+-- The second view as a whole: if it goes on after a silent first one, every open call of a correct client is accepted.
 use Rattle.std.specs.Prelude.{◌≡◌, ℕ, suc, ◌+◌, ◌≤◌, true, List, [], ◌++◌, Some}
 use Rattle.tuple_codec.specs.Operations.{Outcome}
 use Rattle.wire.specs.Messages.{NewViewData, pre_prepare as PrePrepare}
@@ -18,9 +17,9 @@ use Rattle.progress.specs.Redelivered.{AllRedelivered, StaysActive}
 use Rattle.progress.specs.FirstView.{NoneInstalls}
 use Rattle.progress.specs.SilentView.{AreFaultySilent, SecondIsNext, TicksOrLeft}
 
--- None installed a state. What the second view's primary ever gave a number is authentic to each correct replica, and
--- the number at most the span above the low mark that the replica starts with. At the end the primary's next number is
--- within its marks.
+-- No correct replica installed a state. The batches that the second view's primary assigned are authentic to each
+-- correct replica, and their numbers at most the span above the low mark with which the replica starts. At the end the
+-- primary's next number is within its marks.
 pub record SecondHasRoom (c : Configuration) (later start : List Entry) : Type 0 where
   pub none : NoneInstalls c (later ++ start)
   pub given : (i : ℕ) (batch : List ℕ)
@@ -30,7 +29,7 @@ pub record SecondHasRoom (c : Configuration) (later start : List Entry) : Type 0
   pub next : is_in_marks c (low c (primary c 1) (history_of (primary c 1) (later ++ start)))
       (suc (reached (later ++ start) (primary c 1))) ≡ true
 
--- The first view is silent, and the second one's primary is correct and began it with no batch, with room for numbers.
+-- The first view is silent. The second one's primary is correct, began it with no batch, and has room for numbers.
 pub record SecondGoesOn (c : Configuration) (later start : List Entry) : Type 0 where
   pub next : SecondIsNext c (later ++ start)
   pub bare : (new : NewViewData) → Once (Takes c new) (history_of (primary c 1) (later ++ start)) → new.batches ≡ []
@@ -38,7 +37,7 @@ pub record SecondGoesOn (c : Configuration) (later start : List Entry) : Type 0 
 
 -- Nobody has stopped, each correct replica stays active in the second view, and that goes on. A correct client with an
 -- open call asks again, as time goes by, and all that was ever sent is delivered again. Then it asks once more, and all
--- is delivered that is sent: it has accepted an answer, in the first part or in this one.
+-- that is sent is delivered: it has accepted an answer, in the first part or in this one.
 abbrev pub SecondCallsAreAccepted : Type 0
 SecondCallsAreAccepted =
     (c : Configuration) → IsConfiguration c → (again later start : List Entry)
@@ -65,10 +64,10 @@ pub record FaultyAreSilent (c : Configuration) (trace : List Entry) : Type 0 whe
 abbrev pub AllGoOn : Configuration → List Entry → Type 0
 AllGoOn c trace = IsRun c trace × OnlyTheseStopped c [] trace
 
--- The whole way of an open call, where the faulty replicas are silent, the first primary among them. Its client asks
--- again, and all is delivered that is sent. Time goes by at each correct replica, unless it leaves the first view
+-- The whole way of an open call, if the faulty replicas are silent, the first primary among them. Its client asks
+-- again, and all that is sent is delivered. Time goes by at each correct replica, unless it leaves the first view
 -- anyway, and all that was ever sent is delivered. The client asks again, and all that was ever sent is delivered
--- again. It asks once more, and all is delivered that is sent. Then it has accepted an answer.
+-- again. It asks once more, and all that is sent is delivered. Then it has accepted an answer.
 abbrev pub CallsOutliveSilence : Type 0
 CallsOutliveSilence =
     (c : Configuration) → IsConfiguration c → (again later ticks asks start : List Entry)

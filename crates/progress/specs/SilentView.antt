@@ -1,5 +1,5 @@
--- One change of view: where the first view's primary is silent, each correct replica comes into the second view (Castro
--- and Liskov, TOCS 2002, 4.5.2).
+-- One view change: if the first view's primary is silent, each correct replica comes into the second view (Castro and
+-- Liskov, TOCS 2002, 4.5.2).
 use Rattle.std.specs.Prelude.{◌≡◌, ◌≢◌, ℕ, ◌≤◌, ◌⊎◌, true, false, List, [], ◌++◌, Some, None}
 use Rattle.wire.specs.Lists.{Each}
 use Rattle.wire.specs.Messages.{BodyData as Body}
@@ -14,7 +14,7 @@ use Rattle.protocol.specs.Replica.RightReplica.{Point, Leaves}
 use Rattle.protocol.specs.Replica.Owed.{AreKeysSpent}
 use Rattle.progress.specs.Delivery.{HasEntry, AllDelivered}
 
--- In the first view nothing is ever pre-prepared at a correct replica.
+-- No correct replica ever logs anything in the first view.
 abbrev pub IsFirstViewSilent : Configuration → List Entry → Type 0
 IsFirstViewSilent c trace =
     (q i : ℕ) → is_correct_replica c q ≡ true → logged c q (history_of q trace) 0 i ≡ None
@@ -35,8 +35,8 @@ SomeWaits c q history = (point : Point) × Leaves c q history point × (point.wa
 abbrev pub TicksOrLeft : ℕ → List Entry → List Entry → Type 0
 TicksOrLeft q later start = HasEntry (Tick q) later ⊎ (1 ≤ target (history_of q (later ++ start)))
 
--- Nobody has stopped. A request waits at each correct replica, and then time goes by there, or it leaves the first view
--- anyway. If all that was ever sent is delivered, each correct replica is active in the second view.
+-- Nobody has stopped. A request waits at each correct replica, and then time goes by there, unless it leaves the first
+-- view anyway. If all that was ever sent is delivered, each correct replica is active in the second view.
 abbrev pub SilentViewsAreLeft : Type 0
 SilentViewsAreLeft =
     (c : Configuration) → IsConfiguration c → (later start : List Entry) → IsRun c (later ++ start)
@@ -47,12 +47,12 @@ SilentViewsAreLeft =
 
 -- ---- silent faulty replicas
 
--- The frame is of no faulty replica: none is heard here to have made it, and none has signed it.
+-- The frame is of no faulty replica: this replica hears none as its sender, and none has signed it.
 pub record IsOfNoFaulty (c : Configuration) (me : ℕ) (bytes : List ℕ) : Type 0 where
   pub hears : (body : Body) → heard (members c) me bytes ≡ Some body → is_faulty_replica c body.sender ≡ false
   pub signed : (body : Body) → signed_body (members c) bytes ≡ Some body → is_faulty_replica c body.sender ≡ false
 
--- The faulty replicas are silent: no frame that a correct replica gets, alone or carried, is of one of them.
+-- The faulty replicas are silent: no frame that a correct replica receives, alone or carried, is of one of them.
 abbrev pub AreFaultySilent : Configuration → List Entry → Type 0
 AreFaultySilent c trace =
     (q : ℕ) (bytes : List ℕ) → is_correct_replica c q ≡ true → HasEntry (Got q bytes) trace

@@ -16,16 +16,16 @@ use Rattle.progress.specs.Delivery.{HasEntry, AllDelivered}
 use Rattle.progress.specs.Answered.{KeepsReply}
 
 -- The primary of the view keeps the reply to the client's request of this timestamp; or it has numbered the request, if
--- any number is free there.
+-- it has a free number.
 abbrev pub StandsAtPrimary : Configuration → ℕ → ℕ → ℕ → List Entry → Type 0
 StandsAtPrimary c v client timestamp trace =
     KeepsReply c (primary c v) (history_of (primary c v) trace) client timestamp
     ⊎ ((n : ℕ) → IsFree c (primary c v) (history_of (primary c v) trace) (reached trace (primary c v)) v n
     → IsNumbered c (primary c v) (history_of (primary c v) trace) v client timestamp)
 
--- Nobody has stopped. A correct client with an open call asks again, as time goes by, and all is delivered that is
--- sent. Then it has accepted an answer, or the correct primary of the view, if it is active in it, has numbered the
--- call.
+-- Nobody has stopped. A correct client with an open call asks again, as time goes by, and all that is sent is
+-- delivered. Then it has accepted an answer; or the view's correct primary, if active in it, keeps the reply, or has
+-- numbered the call if a number is free.
 abbrev pub OpenCallsAreNumbered : Type 0
 OpenCallsAreNumbered =
     (c : Configuration) → IsConfiguration c → (later start : List Entry) → IsRun c (later ++ start)

@@ -1,6 +1,7 @@
 -- From votes to one state for each number.
 pub mod Voting
 pub mod Marks
+pub mod Checkpoints
 pub mod Offers
 pub mod Agreeing
 pub mod Signed

@@ -1,4 +1,3 @@
 pub mod Words
 pub mod Agreement
 pub mod Points
-pub mod Evidence

@@ -9,6 +9,7 @@ pub mod Bodies
 pub mod Leaving
 pub mod Paging
 pub mod Taking
+pub mod Transfers
 pub mod Standing
 pub mod Roots
 pub mod Reacting
@@ -17,3 +18,4 @@ pub mod Starts
 pub mod Bounds
 pub mod Posting
 pub mod Moving
+pub mod Scheduling

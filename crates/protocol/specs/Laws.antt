@@ -1,4 +1,6 @@
--- What is proved of all histories and runs.
+-- Laws over all histories and runs.
 pub mod Histories
 pub mod Runs
 pub mod Bounds
+pub mod Schedules
+pub mod Transfers

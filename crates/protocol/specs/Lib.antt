@@ -3,4 +3,3 @@ pub mod System
 pub mod Replica
 pub mod Client
 pub mod Laws
-pub mod Evidence

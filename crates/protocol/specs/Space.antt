@@ -1,2 +1,2 @@
--- What one sequential tuple space would do.
+-- Linearizability.
 pub mod Linear

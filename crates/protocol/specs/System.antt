@@ -1,4 +1,4 @@
--- The system: who takes part, what they send each other, what happens, and what a run is.
+-- The system: its parties, their messages, traces and runs.
 pub mod Configuration
 pub mod Frames
 pub mod Trace

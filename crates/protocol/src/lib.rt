@@ -12,46 +12,19 @@
 //! `safe_histories_accept_at_levels`). `posted_frames_may_be_sent` ties what a replica posts to what it may send. What
 //! bytes spell, and what is heard from them, the definitions take from the crates `wire` and `signing`.
 //!
-//! The other modules show what the definitions accept and refuse: the first operation of a client at four replicas,
-//! with the bytes of all its frames, is a run, unforged and fed by its schedule ([`accepted`], [`clients`]); over a
-//! hundred wrong histories, lists and traces are refused ([`refused`] and the six modules beside it); a new view is
-//! selected exactly where it meets the rules ([`selected`]); and further laws say what certificates, schedules and the
-//! premises themselves hold ([`certified`], [`fed`], [`premises`]).
+//! [`taken`] says what a transfer took, entry by entry. The crate `evidence` shows what the definitions accept and
+//! refuse; none of these laws stands on it.
 //!
 //! They are laws over runs: that replicas and clients make runs is promised by the crates that make them.
 #![tactic(auto)]
 
-pub mod accepted;
-pub mod certified;
-pub mod clients;
-pub mod fed;
-pub mod premises;
-pub mod refused;
-pub mod refused_changes;
-pub mod refused_items;
-pub mod refused_kept;
-pub mod refused_marks;
-pub mod refused_runs;
-pub mod refused_steps;
-pub mod selected;
 pub mod taken;
 
 ghost use Rattle.protocol.specs.Laws.Histories.{PostedMaySend, LeavesSignOnce, PreparedAgree, CommittedStays, CommittedAgree, ExecutedAgree, PagesDetermine, PointsAreOne, BatchesLeaveStates, StatesAreExecuted, StatesAgree, StableAgree, InstalledAgree, StartsAgree, LinearOfSafe, NoneBegins, FirstViewStays};
-ghost use Rattle.protocol.specs.Evidence.FirstOperation.{SealedFramesAreHeard};
-ghost use Rattle.protocol.specs.Evidence.RefusedSteps.{SignedFramesAreHeard};
 ghost use Rattle.protocol.specs.Laws.Runs.{PointsAreLinear, NoneRunsTwice, AcceptedAtLevels, LevelsOfSafe, RunsAreLinear};
 
-/// What a party of the configuration seals for others, each of them hears.
-pub fn sealed_frames_are_heard()
-    ensures heard { SealedFramesAreHeard }
-{}
-
-/// What a replica signs with one of its leaves, each party hears.
-pub fn signed_frames_are_heard()
-    ensures heard { SignedFramesAreHeard }
-{}
-
-/// What a replica posts for those it is for, over frames that it has seen, it may send where it may say the message.
+/// A replica may send a frame that it posts for the right receivers, over frames that it has seen, if it may say the
+/// message.
 pub fn posted_frames_may_be_sent()
     ensures may { PostedMaySend }
 {}
@@ -61,39 +34,39 @@ pub fn leaves_sign_once()
     ensures once { LeavesSignOnce }
 {}
 
-/// What two correct replicas hold prepared in one view for one number has one digest (Castro and Liskov, TOCS 2002, on
-/// normal-case operation).
+/// Batches that two correct replicas hold prepared in one view for one number have one digest (Castro and Liskov, TOCS
+/// 2002, on normal-case operation).
 pub fn prepared_agree()
     ensures agree { PreparedAgree }
 {}
 
-/// Each later new view has what is committed, or starts at or above it (Castro and Liskov, TOCS 2002, on view
-/// changes).
+/// Each later new view has a committed batch's digest for its number, or starts at or above it (Castro and Liskov, TOCS
+/// 2002, on view changes).
 pub fn committed_stays()
     ensures stays { CommittedStays }
 {}
 
-/// What two correct replicas hold committed for one number has one digest, over all views.
+/// Batches that two correct replicas hold committed for one number have one digest, over all views.
 pub fn committed_agree()
     ensures agree { CommittedAgree }
 {}
 
-/// What two correct replicas execute for one number is one batch.
+/// Batches that two correct replicas execute for one number are one batch.
 pub fn executed_agree()
     ensures agree { ExecutedAgree }
 {}
 
-/// States are equal where their pages are.
+/// States are equal if their pages are.
 pub fn pages_determine()
     ensures determine { PagesDetermine }
 {}
 
-/// A history leaves a replica at one point at most: what it installs is told by the pages that its transfer took.
+/// A history leaves a replica at one point at most: the pages that its transfer took tell the state that it installs.
 pub fn points_are_one()
     ensures one { PointsAreOne }
 {}
 
-/// Batches leave states.
+/// Fewer than 2^48 batches leave a well-formed state.
 pub fn batches_leave_states()
     ensures leave { BatchesLeaveStates }
 {}
@@ -105,8 +78,8 @@ pub fn states_agree()
     ensures agree { StatesAgree }
 {}
 
-/// The roots that a quorum of checkpoints says, that are installed and that new views start with are those of the
-/// executed batches (Castro and Liskov, TOCS 2002, on garbage collection and view changes).
+/// A root is that of the executed batches if a quorum of checkpoints has it, a replica installed it, or a new view
+/// starts with it (Castro and Liskov, TOCS 2002, on garbage collection and view changes).
 pub fn roots_agree()
     ensures stable { StableAgree }
     ensures installed { InstalledAgree }
@@ -114,8 +87,8 @@ pub fn roots_agree()
 {}
 
 /// Over every run of a valid configuration, if no message of a correct party is forged and the texts of the trace do
-/// not collide, the points of the trace are legal, cover it and are placed: the answers that correct clients accept, of
-/// reads and writes alike, are those of one sequential tuple space, in which each operation acts at most once, an
+/// not collide, the points are legal, cover the trace and are placed in it. So the answers that correct clients accept,
+/// of reads and writes alike, are those of one sequential tuple space. Each operation acts at most once there, an
 /// accepted one exactly once, at a position between its invocation and its acceptance (Herlihy and Wing, TOPLAS 1990,
 /// section 2).
 pub fn points_are_linear()
@@ -144,8 +117,8 @@ pub fn none_runs_twice()
     ensures once { NoneRunsTwice }
 {}
 
-/// Where no correct replica sends a view change, none takes a new view, and each stays in the first: of the signers of
-/// a new view's view changes one is correct (Castro and Liskov, TOCS 2002, on view changes).
+/// If no correct replica sends a view change, none takes a new view, and each stays in the first view: of the signers
+/// of a new view's view changes one is correct (Castro and Liskov, TOCS 2002, on view changes).
 pub fn first_view_stays()
     ensures begins { NoneBegins }
     ensures stays { FirstViewStays }

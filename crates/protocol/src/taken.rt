@@ -1,6 +1,6 @@
 //! Laws that show what a transfer took.
 
-ghost use Rattle.protocol.specs.Evidence.Taken.{AnswersAreTaken, OthersAreLeft, TakenWereAsked, DropsAreLeft, FetchesTell, OutputsTellNothing, TicksTakeNothing, InstallationsEnd, ExecutionsEnd, ExecutionsLeave};
+ghost use Rattle.protocol.specs.Laws.Transfers.{AnswersAreTaken, OthersAreLeft, TakenWereAsked, DropsAreLeft, FetchesTell, OutputsTellNothing, TicksTakeNothing, InstallationsEnd, ExecutionsEnd, ExecutionsLeave};
 
 /// A page is taken exactly where it answers the fetch that was sent last, and its event goes on with the next fetch of
 /// that number, or installs.

@@ -1,4 +1,4 @@
--- What is said again fits, and so does the primary's own batch.
+-- What the replica sends again fits, and so does the primary's own batch.
 use Rattle.std.proofs.Common.{◌≡◌, ℕ, ◌+◌, ◌≤◌, ◌<◌, inl, inr, Bool, true, false, List, [], ◌∷◌, ◌++◌, length, Option, Some, None, refl, sym, ap, ◌∙◌, subst, arith}
 use Rattle.std.specs.Prelude.{is_some, ◌==◌}
 use Rattle.std.proofs.lemmas.Bool.{eqb-true, eqb-false}
@@ -17,12 +17,12 @@ use Rattle.protocol.specs.System.Trace.{Entry, Has}
 use Rattle.protocol.specs.System.Trace.Entry.{Sent}
 use Rattle.protocol.specs.Replica.Certificates.{are_genuine, logged, commit_of}
 use Rattle.protocol.specs.Replica.RightReplica.{others}
-use Rattle.protocol.specs.Replica.Owed.{IsSaying, Gives, IsBegunBelow}
+use Rattle.protocol.specs.Replica.Owed.{IsSaying, SendsMessage, IsBegunBelow}
 use Rattle.protocol.proofs.Words.Options.{some_injective}
 use Rattle.protocol.proofs.Words.Elements.{all_of_each, each_weaker}
 use Rattle.replica_histories.specs.Desk.{Desk}
 use Rattle.replica_histories.specs.Events as events
-use Rattle.replica_histories.specs.Events.{Start, behind}
+use Rattle.replica_histories.specs.Events.{Start, after_outputs}
 use Rattle.replica_histories.specs.Logs.{FitsLog}
 use Rattle.replica_histories.specs.Outputs.{MayNumber}
 use Rattle.replica_histories.proofs.Words.{passed, primary_same}
@@ -44,9 +44,9 @@ use Rattle.replica.proofs.Staying.{sent_beside, fits_on, fits_behind, changes_st
 use Rattle.replica.proofs.Flags.{flags_stay, flags_numbered}
 use Rattle.replica.proofs.Voting.{said_in}
 
--- ---- in which order
+-- ---- the order of messages
 
--- what comes before a place comes before a later one
+-- a message that comes before a place comes before a later one
 below_later : (first end : ℕ) (message : Message) → first ≤ end → IsBelow first message → IsBelow end message
 below_later first end (NewView new) l h = omega (arith, l, h)
 below_later first end (PrePrepare v i batch) l h = omega (arith, l, h)
@@ -59,8 +59,8 @@ are_below_later me first end outputs l h =
     each_weaker (λ e. (message : Message) → IsSaying me message e → IsBelow first message) (λ e. (message : Message) → IsSaying me message e → IsBelow end message)
     (λ e below message says. below_later first end message l (below message says)) outputs h
 
--- what comes before no such place was not said
-pub never_said : (me place : ℕ) (message : Message) (outputs : List Entry) → (IsBelow place message → ⊥) → AreBelow me place outputs → Gives me message outputs → ⊥
+-- a message that comes before no such place was not sent
+pub never_said : (me place : ℕ) (message : Message) (outputs : List Entry) → (IsBelow place message → ⊥) → AreBelow me place outputs → SendsMessage me message outputs → ⊥
 never_said me place message [] above h given = given
 never_said me place message (e ∷ outputs) above h (inl now) = above (h.0 message now)
 never_said me place message (e ∷ outputs) above h (inr before) = never_said me place message outputs above h.1 before
@@ -78,7 +78,7 @@ nothing_again first end o outs l = record { goes = λ is c s desk w known below 
 absent : {A : Type 0} (o : Option A) (x : A) → o ≡ None → o ≡ Some x → ⊥
 absent o x none is = absurd (let bad : None ≡ Some x = sym none ∙ is in cc)
 
--- where the log has no batch, another is the primary, or the new view has the batch
+-- if the log has no batch, another is the primary, or the new view has the batch
 pub no_batch_again : (number : ℕ) (o : OrdererData) (outs : List Output) → logs.logged_batch o.log number ≡ None → SaysAlso (row_place number) (row_place number + 1) (PostsBatch number) o outs o outs
 no_batch_again number o outs none =
     (nothing_again (row_place number) (row_place number + 1) o outs (omega arith), λ text own above is. absurd (absent (logs.logged_batch o.log number) text none is))
@@ -101,7 +101,7 @@ no_checkpoint_again o outs none place = (
   λ entry is. absurd (absent o.last_checkpoint entry none is),
 )
 
--- ---- what stands in the log
+-- ---- the log
 
 pub prepare_again : (number : ℕ) (digest : List ℕ) (o new : OrdererData) (before after : List Output) → IsOrderer o → logs.prepare_of o.log number o.log.me ≡ Some digest
     → Says o (Prepare o.log.view number digest) before after → new ≡ o → SaysAlso (row_place number + 1) (row_place number + 2) (PostsPrepare number) o before new after
@@ -110,7 +110,7 @@ prepare_again number digest o new before after own has says is = (
     goes = λ active c s desk w known below f.
         let k = said_in c o (Prepare o.log.view number digest) before after known says in
         let h = subst (λ m. logs.prepare_of o.log number m ≡ Some digest) own.0 has in
-        let past = behind s (given o.endpoint.me before) in (
+        let past = after_outputs s (given o.endpoint.me before) in (
           fits_on c o.endpoint.me s o o desk w [] [] before after (Sent o.endpoint.me k.bytes) k.is
               (sent_beside c o.endpoint.me (Prepare o.log.view number digest) (others c o.endpoint.me) k.bytes past tt k.posted)
               (sent_keep c o.endpoint.me past (Prepare o.log.view number digest) k.bytes k.posted.says tt (λ signed. absurd cc))
@@ -126,7 +126,7 @@ prepare_again number digest o new before after own has says is = (
   λ other is_it. subst (λ (d : List ℕ). Posted o (Prepare o.log.view number d) after) (some_injective digest other (sym has ∙ is_it)) (posted_now o (Prepare o.log.view number digest) before after says),
 )
 
--- the own commit that stands in the log, the history has
+-- the history has the replica's own commit in the log
 committed_here : (c : Configuration) (me : ℕ) (log : LogData) (history : List Entry) (number : ℕ) (digest : List ℕ) → FitsLog c me log history → logs.commit_of log number me ≡ Some digest
     → commit_of c me history log.view number me ≡ Some digest
 committed_here c me log history number digest f has =
@@ -139,7 +139,7 @@ commit_again number digest o new before after own has says is = (
     goes = λ active c s desk w known below f.
         let k = said_in c o (Commit o.log.view number digest) before after known says in
         let h = subst (λ m. logs.commit_of o.log number m ≡ Some digest) own.0 has in
-        let past = behind s (given o.endpoint.me before) in (
+        let past = after_outputs s (given o.endpoint.me before) in (
           fits_on c o.endpoint.me s o o desk w [] [] before after (Sent o.endpoint.me k.bytes) k.is
               (sent_beside c o.endpoint.me (Commit o.log.view number digest) (others c o.endpoint.me) k.bytes past tt k.posted)
               (sent_keep c o.endpoint.me past (Commit o.log.view number digest) k.bytes k.posted.says (digest, committed_here c o.endpoint.me o.log past number digest f.fits.of_log h) (λ signed. absurd cc))
@@ -155,7 +155,7 @@ commit_again number digest o new before after own has says is = (
   λ other is_it. subst (λ (d : List ℕ). Posted o (Commit o.log.view number d) after) (some_injective digest other (sym has ∙ is_it)) (posted_now o (Commit o.log.view number digest) before after says),
 )
 
--- what stands in the log, the history has
+-- the history has what stands in the log
 logged_here : (c : Configuration) (me : ℕ) (log : LogData) (history : List Entry) (number : ℕ) (text : List ℕ) → FitsLog c me log history → logs.logged_batch log number ≡ Some text
     → logged c me history log.view number ≡ Some text
 logged_here c me log history number text f has = f.batches number (passed (logs.is_in_marks log number) (logs.row_of log number).batch text has).0 ∙ has
@@ -170,7 +170,7 @@ batch_again number text o new before after own primary above has says is = (
   subst (λ (x : OrdererData). SaysAgain (row_place number) (row_place number + 1) o before x after) (sym is) (record {
     goes = λ active c s desk w known below f.
         let k = said_in c o (PrePrepare o.log.view number text) before after known says in
-        let past = behind s (given o.endpoint.me before) in
+        let past = after_outputs s (given o.endpoint.me before) in
         let e = Sent o.endpoint.me k.bytes in
         let here = logged_here c o.endpoint.me o.log past number text f.fits.of_log has in
         let on = batches_go_again c o.endpoint.me s desk o.log [] (given o.endpoint.me before) number text k.bytes active (sym primary ∙ own.0) has
@@ -191,14 +191,14 @@ batch_again number text o new before after own primary above has says is = (
   λ other mine over is_it. subst (λ (t : List ℕ). Posted o (PrePrepare o.log.view number t) after) (some_injective text other (sym has ∙ is_it)) (posted_now o (PrePrepare o.log.view number text) before after says),
 )
 
--- the last checkpoint
+-- the replica's last checkpoint
 pub checkpoint_again : (entry : CheckpointEntry) (o new : OrdererData) (before after : List Output) → o.last_checkpoint ≡ Some entry
     → Says o (Checkpoint entry.number entry.digest) before after → new ≡ o → (place : ℕ) → SaysLastAlso true place PostsCheckpoint o before new after
 checkpoint_again entry o new before after last says is place = (
   subst (λ (x : OrdererData). SaysLastAgain true place o before x after) (sym is) (record {
     goes = λ active c s desk w known below f.
         let k = said_in c o (Checkpoint entry.number entry.digest) before after known says in
-        let past = behind s (given o.endpoint.me before) in
+        let past = after_outputs s (given o.endpoint.me before) in
         fits_on c o.endpoint.me s o o desk w [] [] before after (Sent o.endpoint.me k.bytes) k.is
         (sent_beside c o.endpoint.me (Checkpoint entry.number entry.digest) (others c o.endpoint.me) k.bytes past tt k.posted)
         (sent_keep c o.endpoint.me past (Checkpoint entry.number entry.digest) k.bytes k.posted.says (f.changes.latest ∙ last) (λ signed. absurd cc))
@@ -241,7 +241,7 @@ again_last active first place a b d x y z right p q = subst (λ (o : OrdererData
 
 -- ---- one after another
 
--- what was posted before is said with what is said since
+-- the earlier messages are among the later ones
 also_on : (first middle end : ℕ) (P Q R : OrdererData → List Output → Type 0) (a b d : OrdererData) (x y z : List Output)
     → ((o : OrdererData) (before more after : List Output) → after ≡ before ++ more → P o before → P o after) → ((o : OrdererData) (outs : List Output) → P o outs → Q o outs → R o outs)
     → SaysAlso first middle P a x b y → SaysAlso middle end Q b y d z → SaysAlso first end R a x d z
@@ -292,7 +292,7 @@ all_said executed end a b d x y z whole p q = (
   },
 )
 
--- ---- and so with the desk beside
+-- ---- the same with the desk
 
 pub all_again : (a new : JoinedData) (o : OrdererData) (before after : List Output) → a.orderer.log.active ≡ true → SaysLastAlso true 0 (PostsAll a.desk.executed.state.number) a.orderer before o after
     → new ≡ record a { orderer = o } → AllAgain a before new after
@@ -317,9 +317,9 @@ change_only a new o before after at says is = record {
 pub requests_make_a_batch : (frames : List (List ℕ)) → 1 ≤ length frames → length frames ≤ 16 → Each (IsCarried is_ordered_request) frames → IsBatch 1 (pieces_spelling frames)
 requests_make_a_batch frames some few each = record { requests = frames; whole = refl; enough = some; few = few; each = each }
 
--- what is held is genuine
+-- the requests of the batch are authentic
 held_are_genuine : (c : Configuration) (me : ℕ) (s : Start) (desk : Desk) (log : LogData) (due : List Message) (outputs : List Entry) (number : ℕ) (text : List ℕ) → events.Fits c me s desk log due outputs
-    → MayNumber c me desk log (behind s outputs) number text → are_genuine c me text ≡ true
+    → MayNumber c me desk log (after_outputs s outputs) number text → are_genuine c me text ≡ true
 held_are_genuine c me s desk log due outputs number text f may =
     all_of_each (λ frame. Has (λ x. x ≡ frame) desk.frames) (λ request. is_some (heard (members c) me request)) (λ frame k. (f.of_desk.frames frame k).1) (requests_of text) may.held
 
@@ -338,8 +338,8 @@ says_batch number text o mid new before after own says (claims, adds, logs_it) i
           let on = batches_fit c o.endpoint.me s desk o.log due past number text k.bytes may k.posted f.fits in
           fits_behind c o.endpoint.me s o (record o { log = with_batch o.log number text; claims = claims; used = number }) desk desk w (with_numbered (length (unnumbered w)) w) due due before after
           e k.is refl f on
-          (λ first. (flags_numbered c o.endpoint.me o.log.view o.used number w desk.state desk.waiting text k.bytes (behind s past) calls
+          (λ first. (flags_numbered c o.endpoint.me o.log.view o.used number w desk.state desk.waiting text k.bytes (after_outputs s past) calls
           (sym (primary_same c o.log o.log.view faults) ∙ may.own ∙ own.0) may.free (held_are_genuine c o.endpoint.me s desk o.log due past number text f.fits may) reads k.posted.says (f.numbers first)).1)
-          (batches_are_claimed c o.endpoint.me (behind s past) e o.log (changes_of o) claims o.endpoint.me number text
+          (batches_are_claimed c o.endpoint.me (after_outputs s past) e o.log (changes_of o) claims o.endpoint.me number text
           (outputs_pass c o.endpoint.me s desk desk o.log (with_batch o.log number text) due due past e f.fits on) may.within (sym (f.fits.of_log.batches number may.within) ∙ may.free.unused number (omega arith)) k.posted.says adds f.changes);
     })

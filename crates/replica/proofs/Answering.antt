@@ -1,4 +1,4 @@
--- A fetch is answered from the states that are kept.
+-- The desk answers a fetch from the kept states.
 use Rattle.std.proofs.Common.{◌≡◌, ◌≢◌, ℕ, ◌≤◌, ◌⊎◌, inl, inr, List, [], ◌∷◌, Some, refl, sym, ap, subst, true, ◌∙◌}
 use Rattle.terms.specs.declared.parties.Party.TheVariants as parties
 use Rattle.terms.specs.declared.parties.ReplicaId.{ReplicaId}
@@ -42,32 +42,32 @@ use Rattle.replica.proofs.Given.{GivesOne, gives_one}
 use Rattle.replica.proofs.Parties.{one_self, same_log}
 use Rattle.replica.proofs.Staying.{GivesNoNumber, fits_on, sent_beside}
 
--- a fetch that is heard is of a place
+-- a received fetch is of a place
 within_level : (m : Membership) (me : ℕ) (bytes : List ℕ) (s k index : ℕ) (level : Level)
     → heard m me bytes ≡ Some (record { sender = s; message = FetchMessage k level index }) → index ≤ last_index level
 within_level m me bytes s k index level h =
     let o = heard_was_opened m me bytes _ h in
     (subst (λ (b : Body). IsMessage b.message) o.body_is o.opens.spelled.valid.message).1
 
--- so is the fetch that a message of the program is
+-- so is a fetch message of the program
 pub fetch_within : (m : Membership) (me : ℕ) (bytes : List ℕ) (s : ℕ) (message : WireMessage) (fetch : Fetch) → heard m me bytes ≡ Some (record { sender = s; message = message_data message })
     → message ≡ messages.Fetch fetch → fetch.index ≤ last_index fetch.level
 fetch_within m me bytes s message fetch h is =
     within_level m me bytes s fetch.number.0 fetch.index fetch.level (h ∙ ap (λ (x : WireMessage). Some (record { sender = s; message = message_data x })) is)
 
--- whatever part is given, it is no proposal
+-- a served part is no proposal
 no_number : (pages : List (List ℕ)) (k index : ℕ) (level : Level) → GivesNoNumber (answer_by pages k level index)
 no_number pages k index levels.Root = tt
 no_number pages k index levels.Inner = tt
 no_number pages k index levels.Page = tt
 
--- nor anything new of changes
+-- and nothing new for view changes
 no_news : (c : Configuration) (me : ℕ) (past : List Entry) (pages : List (List ℕ)) (k index : ℕ) (level : Level) → IsNoNews c me past (answer_by pages k level index)
 no_news c me past pages k index levels.Root = tt
 no_news c me past pages k index levels.Inner = tt
 no_news c me past pages k index levels.Page = tt
 
--- nor is it signed
+-- and not signed
 never_signed : {A : Type 0} (pages : List (List ℕ)) (k index : ℕ) (level : Level) → is_signed (answer_by pages k level index) ≡ true → A
 never_signed pages k index levels.Root signed = absurd cc
 never_signed pages k index levels.Inner signed = absurd cc
@@ -147,7 +147,7 @@ module _ (r : JoinedData) (one : AreOne r.orderer r.desk) (sender : ReplicaId) (
     left (inl (same, none)) = subst Left (sym same) (kept_none none)
     left (inr (pages, output, kept, seals, same)) = subst Left (sym same) (gives pages output kept seals)
 
-  -- What is kept is given to whoever asks, and nothing else is left to do.
+  -- The desk sends a kept part to whoever asks, and nothing else is left to do.
   pub answers : GivesPart r.desk sender fetch [] outs → TakesBytes bytes r touched.Nothing r outs
   answers part = record {
     party = one_self r;

@@ -8,7 +8,7 @@ use Rattle.protocol.specs.System.Trace.{Entry}
 use Rattle.protocol.specs.System.Trace.Entry.{Sent}
 use Rattle.protocol.specs.Replica.RightReplica.{others}
 use Rattle.replica_histories.specs.Desk.{Desk}
-use Rattle.replica_histories.specs.Events.{Start, behind}
+use Rattle.replica_histories.specs.Events.{Start, after_outputs}
 use Rattle.replica_histories.specs.Transfers.{MayAsk, AsksNext}
 use Rattle.replica_histories.specs.Events as events
 use Rattle.replica_histories.proofs.ChangesKept.{sent_keep}
@@ -28,7 +28,7 @@ module _ (c : Configuration) (s : Start) (o : OrdererData) (desk : Desk) (w : Wa
   me = o.endpoint.me
 
   abbrev pub past : List Entry
-  past = behind s (given me before)
+  past = after_outputs s (given me before)
 
   said : SaidIn c o (fetch_of t) before after
   said = said_in c o (fetch_of t) before after known says
@@ -36,7 +36,7 @@ module _ (c : Configuration) (s : Start) (o : OrdererData) (desk : Desk) (w : Wa
   abbrev pub with_it : Desk
   with_it = record desk { transfer = Some t }
 
-  -- the desk has it behind its fetch
+  -- the desk has the transfer after its fetch
   behind_it : (due rest : List Message) → FitsEvent c me s o desk w due before → events.Fits c me s with_it o.log rest (Sent me said.bytes ∷ given me before)
       → FitsEvent c me s o with_it w rest after
   behind_it due rest f on =
@@ -47,11 +47,11 @@ module _ (c : Configuration) (s : Start) (o : OrdererData) (desk : Desk) (w : Wa
   pub asks : (due : List Message) → MayAsk c me t desk.state.number past → AsksNext c me t desk.state past → FitsEvent c me s o desk w due before → FitsEvent c me s o with_it w due after
   asks due may next f = behind_it due due f (fetches_fit c me s desk o.log due (given me before) t said.bytes may next said.posted f.fits)
 
-  -- it was due
+  -- the fetch was due
   pub asks_due : (rest : List Message) → MayAsk c me t desk.state.number past → AsksNext c me t desk.state past → FitsEvent c me s o desk w (fetch_of t ∷ rest) before → FitsEvent c me s o with_it w rest after
   asks_due rest may next f = behind_it (fetch_of t ∷ rest) rest f (due_fetches_fit c me s desk o.log rest (given me before) t said.bytes may next said.posted f.fits)
 
-  -- what is open may ask again, as is due
+  -- the open transfer may ask again, if a fetch is due
   pub asks_again : (rest : List Message) → desk.transfer ≡ Some t → MayAsk c me t desk.state.number past → AsksNext c me t desk.state past → FitsEvent c me s o desk w (fetch_of t ∷ rest) before → FitsEvent c me s o desk w rest after
   asks_again rest there may next f =
       subst (λ x. FitsEvent c me s o (record desk { transfer = x }) w rest after) (sym there)

@@ -1,4 +1,4 @@
--- What an orderer holds as batches stays so.
+-- What an orderer holds as batches stays batches.
 use Rattle.std.proofs.Common.{◌≡◌, ℕ, suc, ◌<◌, ◌≤◌, Bool, true, false, not, ◌&&◌, cond, List, [], ◌∷◌, length, map, Option, Some, None, Result, Ok, Err, inl, inr, refl, sym, ap, ◌∙◌, subst, arith, ◌==◌, nat_lt, eqb-true}
 use Rattle.std.specs.Prelude.{IfNone, IfOk, IfSome, MatchOption}
 use Rattle.std.specs.Bool.{then_some}
@@ -46,9 +46,9 @@ use Rattle.replica.specs.State.{HoldsBatches, IsOrderer, OrdererData}
 use Rattle.replica.specs.Transferring.{MayBeSaid}
 use Rattle.replica.proofs.JoiningOthers.{joined_by, joined_by_none, later_above}
 
--- ---- what is heard
+-- ---- received messages
 
--- what the bytes say may be said
+-- a body of the bytes may be sent
 heard_message : (m : Membership) (me : ℕ) (bytes : List ℕ) (body : Body) → heard m me bytes ≡ Some body → IsMessage body.message
 heard_message m me bytes body h =
     let o = heard_was_opened m me bytes body h in
@@ -72,7 +72,7 @@ heard_digests m me s bytes message x h is = heard_message m me bytes _ (h ∙ ap
 
 -- ---- texts
 
--- with a request it is a batch all the more
+-- with a request it is a batch too
 pub batch_with_some : (text : List ℕ) → IsBatch 1 text → IsBatch 0 text
 batch_with_some text b = record { requests = b.requests; whole = b.whole; enough = omega arith; few = b.few; each = b.each }
 
@@ -88,7 +88,7 @@ all_among : (texts less : List (List ℕ)) → Each (IsBatch 0) texts → Each (
 all_among texts [] each among = tt
 all_among texts (x ∷ xs) each among = (one_among (IsBatch 0) texts x each among.0, all_among texts xs each among.1)
 
--- what is selected of batches are batches
+-- a selection over batches has batches
 pub selected_batches : (texts batches : List (List ℕ)) → Each (IsBatch 0) texts → AreFrom texts batches → Each (IsBatch 0) batches
 selected_batches texts [] each from = tt
 selected_batches texts (x ∷ xs) each from = (one from.0, selected_batches texts xs each from.1)
@@ -99,7 +99,7 @@ selected_batches texts (x ∷ xs) each from = (one from.0, selected_batches text
 
 -- ---- the log
 
--- where nothing is logged but what was there before
+-- if nothing new is logged
 less_held : (begun : ℕ) (old new : LogData) (texts less : List (List ℕ)) → ((i : ℕ) (text : List ℕ) → logs.logged_batch new i ≡ Some text → logs.logged_batch old i ≡ Some text) → Each (IsAmong texts) less
     → HoldsBatches begun old texts → HoldsBatches begun new less
 less_held begun old new texts less was among h = record {
@@ -148,7 +148,7 @@ batch_held begun number text log texts more is within batch some among h = recor
 
 -- ---- the orderer
 
--- where nothing that it keeps is touched but the log
+-- if nothing that the orderer keeps changes but the log
 pub with_log : (o : OrdererData) (log : LogData) → IsOrderer o → log.me ≡ o.log.me → log.faults ≡ o.log.faults → HoldsBatches o.begun log o.claims.texts → IsOrderer (record o { log = log })
 with_log o log own me faults held = (me ∙ own.0, faults ∙ own.1, own.2, own.3, held)
 
@@ -200,7 +200,7 @@ view_entered o view last log own is new =
     subst (λ (l : LogData). IsOrderer (record o { log = l; used = last; begun = last })) (sym new)
     (own.0, own.1, own.2, own.3, entered_held o.begun last view o.log o.claims.texts is own.4)
 
--- what is within its bounds is for a number
+-- a view change within its bounds is for a number
 view_within : (c : Configuration) (vc : ViewChangeData) → is_within c vc ≡ true → is_number vc.view ≡ true
 view_within c vc within =
     first (is_number vc.view) (is_number vc.low) (list_all (is_batch_entry_within c vc) vc.prepared) (list_all (is_batch_entry_within c vc) vc.pre_prepared) (list_all (is_checkpoint_within c vc) vc.checkpoints) within
@@ -209,7 +209,7 @@ view_within c vc within =
     first true b d e f h = refl
     first false b d e f h = absurd cc
 
--- the view change of another replica is for a number
+-- another replica's view change is for a number
 held_number : (c : Configuration) (me target view : ℕ) (from : ℕ) (held : List (Option HeldData)) → AreHeldFrom c from held → Has (λ w. w ≡ view) (later_views me target held) → is_number view ≡ true
 held_number c me target view from [] are has = absurd has
 held_number c me target view from (None ∷ held) are has = held_number c me target view (suc from) held are.1 has
@@ -223,7 +223,7 @@ held_number c me target view from (Some h ∷ held) are has = go (held_number c 
 pub joined_is_number : (r : ReceivedState) (me target view : ℕ) → AreReceived r → Has (λ w. w ≡ view) (later_views me target r.held) → is_number view ≡ true
 joined_is_number r me target view are has = held_number (configuration_of r) me target view 0 r.held are.each has
 
--- what the view changes of others move a replica to
+-- the view to which others move the replica is a number
 pub joins_next : (o : OrdererData) (me : ℕ) (target : View) (view : Option View) → AreReceived o.received → target.0 ≡ aimed_view o
     → MatchOption view (length (later_views me target.0 o.received.held) ≤ o.received.sizes.faults) (λ v. IsJoined o.received.sizes.faults (later_views me target.0 o.received.held) v.0)
     → IfSome view (λ v. IsNextView o v.0)
@@ -253,7 +253,7 @@ commit_added o number vote log own is within new =
     subst (λ (l : LogData). IsOrderer (record o { log = l })) (sym new)
     (with_log o (logs.with_commit o.log number vote) own refl refl (commit_held o.begun number vote o.log o.claims.texts is within own.4))
 
--- what is selected of what was claimed
+-- a selection of claimed batches has batches
 pub selected_are : {E : Type 0} (o : OrdererData) (r : Result (Option Selection) E) → IsOrderer o → IfOk r (λ x. IfSome x (λ s. IsSelection o s.start.0 s.root (texts_of s.batches.items)))
     → IfOk r (λ x. IfSome x (λ s. Each (IsBatch 0) (texts_of s.batches.items)))
 selected_are o (Err e) own h = h

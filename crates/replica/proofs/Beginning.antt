@@ -1,4 +1,4 @@
--- An event that begins with bytes: what is dropped, and what the log takes.
+-- An event that begins with bytes: what the replica drops, and what its log takes.
 use Rattle.std.proofs.Common.{◌≡◌, ◌≢◌, ℕ, suc, ◌+◌, ◌*◌, ◌<◌, inl, inr, Bool, true, false, not, cond, ◌&&◌, ◌==◌, List, [], ◌∷◌, Option, Some, None, refl, sym, ap, ◌∙◌, subst, nat_lt, nat_le, arith, eqb-true, ◌⊎◌}
 use Rattle.std.specs.Prelude.{is_none, option_map}
 use Rattle.std.specs.Bool.{then_some}
@@ -68,7 +68,7 @@ use Rattle.replica.proofs.Rows.{due_prepare_elsewhere, due_commit_elsewhere}
 
 -- ---- between events
 
--- nothing is left to say or to execute
+-- no message is left to send, and no batch to execute
 pub rests : (c : Configuration) (r : JoinedData) (past : List Entry) → Runs c r past → Rests r
 rests c r past runs =
     let settled = held_are_settled c (me_of r) runs.desk r.orderer.log past runs.holds in (
@@ -76,7 +76,7 @@ rests c r past runs =
       subst (λ (st : State). logs.committed_batch r.orderer.log (suc st.number) ≡ None) runs.is_desk.state settled.executes,
     )
 
--- ---- what is heard
+-- ---- received messages
 
 -- it is no ordered request, no view change and no new view, and asks for no part of a state
 pub record IsNoCall (c : Configuration) (said : Option Body) : Type 0 where
@@ -86,11 +86,11 @@ pub record IsNoCall (c : Configuration) (said : Option Body) : Type 0 where
   pub views : option_and_then (new_view_from c) said ≡ None
   pub changes : IsNoChange said
 
--- what brings no new view takes none
+-- a message that brings no new view takes none
 pub none_taken : (c : Configuration) (past : List Entry) (e : Entry) → option_and_then (new_view_from c) (brought c e) ≡ None → taken c past e ≡ None
 none_taken c past e h = ap (option_and_then (λ (new : NewViewData). then_some (is_later (view c past) (target past) new) new)) h
 
--- With this log and these claims what is held for changes fits behind the bytes.
+-- With this log and these claims, the view-change data fit after the bytes.
 abbrev pub ChangesFit : (r : JoinedData) (c : Configuration) (past : List Entry) → List ℕ → LogData → ClaimsData → Type 0
 ChangesFit r c past bytes after claims = Passes c (me_of r) past (Got (me_of r) bytes) r.orderer.log after
     → FitsChanges c (me_of r) after (record (changes_of r.orderer) { claims = claims }) (Got (me_of r) bytes ∷ past)
@@ -103,12 +103,12 @@ pub record TakesOne (r : JoinedData) (c : Configuration) (past : List Entry) (ru
   pub changes : ChangesFit r c past bytes after claims
 
 module _ (r : JoinedData) (one : AreOne r.orderer r.desk) where
-  -- the desk hears what the orderer does
+  -- the desk receives what the orderer does
   pub heard_by : (c : Configuration) (bytes : List ℕ) (body : Body) → members c ≡ r.desk.membership → heard r.desk.membership r.desk.me bytes ≡ Some body
       → heard (members c) (me_of r) bytes ≡ Some body
   heard_by c bytes body known h = ap (λ m. heard m (me_of r) bytes) known ∙ ap (λ (x : ℕ). heard r.desk.membership x bytes) (sym one.0) ∙ h
 
-  -- So they do where the bytes bring nothing about, and the low mark stays.
+  -- So they do if the bytes change no view-change data, and the low mark stays.
   pub changes_kept : (c : Configuration) (past : List Entry) (runs : Runs c r past) (bytes : List ℕ) (after : LogData) → IsSameLog r.orderer.log after → after.low ≡ r.orderer.log.low
       → (Passes c (me_of r) past (Got (me_of r) bytes) r.orderer.log after → KeepsChanges c (me_of r) past (Got (me_of r) bytes)) → ChangesFit r c past bytes after r.orderer.claims
   changes_kept c past runs bytes after same low keeps passes =
@@ -152,7 +152,7 @@ module _ (r : JoinedData) (one : AreOne r.orderer r.desk) where
         meant = tt;
       }
 
-  -- What is dropped changes nothing.
+  -- Dropped bytes change nothing.
   pub drops : (bytes : List ℕ)
       → ((c : Configuration) (past : List Entry) → Runs c r past → members c ≡ r.desk.membership
       → Takes c (me_of r) (heard (members c) (me_of r) bytes) r.orderer.log r.orderer.log × IsNoCall c (heard (members c) (me_of r) bytes))
@@ -176,7 +176,7 @@ module _ (r : JoinedData) (one : AreOne r.orderer r.desk) where
           (λ passes. got_keep c (me_of r) past bytes r.orderer.log r.orderer.log passes (record { view = refl; active = refl }) (none_taken c past (Got (me_of r) bytes) silent.views)
           (λ i within. refl) (λ s other. others_bring_none c (me_of r) s past bytes silent.changes other))
 
-  -- What the log takes touches one number.
+  -- A message that the log takes touches one number.
   pub takes_row : (bytes : List ℕ) (number : Number) (after : LogData) (claims : ClaimsData)
       → IsSameLog r.orderer.log after → r.orderer.log.active ≡ true → ((i : ℕ) → i ≢ number.0 → (due_prepare after i ≡ due_prepare r.orderer.log i) × (due_commit after i ≡ due_commit r.orderer.log i))
       → ((c : Configuration) (past : List Entry) (runs : Runs c r past) → members c ≡ r.desk.membership → TakesOne r c past runs bytes after claims)
@@ -193,7 +193,7 @@ module _ (r : JoinedData) (one : AreOne r.orderer r.desk) where
       voted : (c : Configuration) (past : List Entry) → Runs c r past → IsVotedBut number.0 after
       voted c past runs i ne = ((others i ne).0 ∙ (runs.holds.of_log.prepares i), (others i ne).1 ∙ (runs.holds.of_log.commits i))
 
--- ---- what the log has no fault for
+-- ---- messages without a fault
 
 no_fault : {A : Type 0} (first later : Option A) → or_else first later ≡ None → first ≡ None
 no_fault None later h = refl
@@ -220,7 +220,7 @@ fitting log may_send v i h = go may_send (logs.is_active_in log v) (is_in_marks 
 abbrev vote_by : ReplicaId → List ℕ → Vote
 vote_by sender digest = record { sender = sender; digest = digest }
 
--- a vote is no call, and brings nothing about
+-- a vote is no call, and changes no view-change data
 none_of : (r : JoinedData) (bytes : List ℕ) (c : Configuration) (body : Body) → heard (members c) (me_of r) bytes ≡ Some body → IsNoCall c (Some body) → IsNoCall c (heard (members c) (me_of r) bytes)
 none_of r bytes c body hears none = subst (IsNoCall c) (sym hears) none
 
@@ -297,7 +297,7 @@ commit_taken r sender p new one t bytes h =
               (λ passes. votes_keep r bytes c past (commit_none r bytes c sender.0 p.view.0 p.number.0 p.digest hears) (rw hears tt));
         }
 
--- ---- what it has a fault for
+-- ---- messages with a fault
 
 some_fault : (o : Option Dropped) → is_none o ≡ false → (fault : Dropped) × (o ≡ Some fault)
 some_fault None h = absurd cc
@@ -364,7 +364,7 @@ mapped_none : {A B : Type 0} (f : A → B) (o : Option A) → option_map f o ≡
 mapped_none f None h = refl
 mapped_none f (Some x) h = absurd cc
 
--- a number of which the log has no digest has no batch
+-- if the log has no digest for a number, it has no batch
 no_batch : (log : LogData) (i : ℕ) → is_in_marks log i ≡ true → logs.logged_digest log i ≡ None → logged_batch log i ≡ None
 no_batch log i within h = ap (λ (b : Bool). cond b (logs.row_of log i).batch None) within ∙ mapped_none sha256 (logs.row_of log i).batch (sym (ap (λ (b : Bool). cond b (logs.digest_of (logs.row_of log i)) None) within) ∙ h)
 
@@ -396,7 +396,7 @@ batch_taken r sender p new one (free, were_heard, (claims, adds, is)) bytes h =
               (hears ∙ ap (λ (v : ℕ). Some (record { sender = sender.0; message = PrePrepare v p.number.0 p.batch.text.items })) fits.view) adds runs.changes;
         }
 
--- ---- what no rule takes here
+-- ---- messages that no rule takes here
 
 -- no message of the three phases, no checkpoint, no fetch and no part, no view change and no new view
 abbrev pub IsOther : WireMessage → Type 0
@@ -418,7 +418,7 @@ other_beside s (messages.Fetch x) h = tt
 other_beside s (messages.Meta x) h = tt
 other_beside s (messages.Page x) h = tt
 
--- Nor is it a client's, where a replica sent it.
+-- Nor is it a client's, if a replica sent it.
 no_client : (m : Membership) (s : ℕ) → s < 256 → is_client m s ≡ false
 no_client m s below = go (nat_le 256 s) refl
   where
@@ -440,7 +440,7 @@ other_no_call c m s (messages.Fetch x) below sends other = absurd (other.4 x ref
 other_no_call c m s (messages.Meta x) below sends other = absurd (other.7 x refl)
 other_no_call c m s (messages.Page x) below sends other = absurd (other.8 x refl)
 
--- What is heard and has no part in the three phases is dropped.
+-- A received message that has no part in the three phases is dropped.
 drops_heard : (r : JoinedData) (bytes : List ℕ) (body : Body) → AreOne r.orderer r.desk → IsBesideLog (Some body) → ((c : Configuration) → IsNoCall c (Some body))
     → heard r.desk.membership r.desk.me bytes ≡ Some body → TakesBytes bytes r touched.Nothing r []
 drops_heard r bytes body one beside none h = drops r one bytes (λ c past runs known. let hears = heard_by r one c bytes body known h in
@@ -452,7 +452,7 @@ other_dropped r sender m one below other bytes h =
     let sends = subst (λ (b : Body). has_sender r.desk.membership b ≡ true) o.body_is o.opens.sender in
     drops_heard r bytes _ one (other_beside sender.0 m other) (λ c. other_no_call c r.desk.membership sender.0 m below sends other) h
 
--- ---- nothing, and what clients send beside ordered requests
+-- ---- nothing, and client messages beside ordered requests
 
 pub silence_dropped : (r : JoinedData) (bytes : List ℕ) → AreOne r.orderer r.desk → heard r.desk.membership r.desk.me bytes ≡ None → TakesBytes bytes r touched.Nothing r []
 silence_dropped r bytes one h = drops r one bytes (λ c past runs known. let silent = heard_by_none c known in
@@ -461,7 +461,7 @@ silence_dropped r bytes one h = drops r one bytes (λ c past runs known. let sil
     heard_by_none : (c : Configuration) → members c ≡ r.desk.membership → heard (members c) (me_of r) bytes ≡ None
     heard_by_none c known = ap (λ m. heard m (me_of r) bytes) known ∙ ap (λ (x : ℕ). heard r.desk.membership x bytes) (sym one.0) ∙ h
 
--- clients send nothing but requests
+-- clients send only requests
 pub client_dropped : (r : JoinedData) (k : ℕ) (m : WireMessage) (bytes : List ℕ) → AreOne r.orderer r.desk → ((x : WireRequest) → m ≡ messages.Request x → ⊥)
     → heard r.desk.membership r.desk.me bytes ≡ Some (record { sender = 256 + k; message = message_data m }) → TakesBytes bytes r touched.Nothing r []
 client_dropped r k m bytes one other h = drops r one bytes (λ c past runs known.
@@ -486,7 +486,7 @@ client_dropped r k m bytes one other h = drops r one bytes (λ c past runs known
     no_sender c past (messages.Meta x) other f h = no_replica c past f h
     no_sender c past (messages.Page x) other f h = no_replica c past f h
 
--- the request that a message of the program is
+-- the request of a message of the program
 pub heard_request : (m : Membership) (me s : ℕ) (bytes : List ℕ) (message : WireMessage) (x : WireRequest) (mode : Mode) → heard m me bytes ≡ Some (record { sender = s; message = message_data message })
     → message ≡ messages.Request x → x.mode ≡ mode → heard m me bytes ≡ Some (record { sender = s; message = Request x.timestamp.0 mode (operation_of x.op) })
 heard_request m me s bytes message x mode h is same =

@@ -1,4 +1,4 @@
--- A view begins by a new view that is taken or sent: what stood stands, with its batches.
+-- A view begins by a new view that the replica takes or sends: what stood still stands, with its batches.
 use Rattle.std.proofs.Common.{◌≡◌, ◌≢◌, ℕ, zero, suc, ◌+◌, ◌-◌, ◌^◌, ◌<◌, ◌≤◌, ◌⊎◌, inl, inr, Bool, true, false, cond, ◌&&◌, not, ◌==◌, is_none, nat_lt, nat_le, List, [], ◌∷◌, length, Option, Some, None, slice_get, option_map, refl, sym, ap, ◌∙◌, subst, arith}
 use Rattle.std.specs.Prelude.{AllPairs}
 use Rattle.std.proofs.lemmas.Bool.{le-ltb, lt-ltb, leb-true, leb-false}
@@ -19,7 +19,7 @@ use Rattle.protocol.proofs.Words.Options.{some_injective}
 use Rattle.view_change.specs.ClaimsView.{ClaimsData}
 use Rattle.replica_histories.specs.Changes.{AddsBatches, BeginsClaims}
 use Rattle.replica_histories.specs.Desk.{Desk, desk_from}
-use Rattle.replica_histories.specs.Events.{Start, behind}
+use Rattle.replica_histories.specs.Events.{Start, after_outputs}
 use Rattle.replica_histories.specs.Transfers.{open_number}
 use Rattle.replica_histories.specs.Views.{begun_log, start_due, with_batches}
 use Rattle.replica_histories.proofs.Batches.{stays, begun_active, begun_batch, begun_low}
@@ -39,7 +39,7 @@ use Rattle.replica.proofs.Following.{aim_of, aimed_is, aims_desk}
 use Rattle.replica.proofs.Lists.{Pairs, pairs_of, all_pairs}
 use Rattle.replica.proofs.StartsFetched.{start_aims}
 
--- ---- the calls that wait are of different clients
+-- ---- the waiting calls are of different clients
 
 abbrev Differ : WaitingRequest → WaitingRequest → Type 0
 Differ r t = r.client.number ≢ t.client.number
@@ -62,9 +62,9 @@ pairs_differ c (r ∷ rs) (x ∷ calls) h p = (differs_from c r x rs calls h.0 h
 pub calls_differ : (c : Configuration) (rs : List WaitingRequest) (calls : List Call) → AreCallsOf c rs calls → AreOfDifferentClients rs → AllPairs CallsDiffer calls
 calls_differ c rs calls h d = all_pairs CallsDiffer calls (pairs_differ c rs calls h (pairs_of Differ rs d))
 
--- ---- what its log asks for
+-- ---- votes that the log asks for
 
--- of a number without a batch nothing
+-- none for a number without a batch
 digest_of_batch : (m : LogData) (i : ℕ) → logs.logged_digest m i ≡ option_map sha256 (logs.logged_batch m i)
 digest_of_batch m i = go (logs.is_in_marks m i)
   where
@@ -91,7 +91,7 @@ past_end [] (suc k) l = refl
 past_end (x ∷ xs) zero l = absurd (omega (arith, l))
 past_end (x ∷ xs) (suc k) l = past_end xs k (omega (arith, l))
 
--- where a view begins, it may ask for votes of the new view's numbers alone
+-- if a view begins, only for numbers of the new view
 pub asks_there : (log : LogData) (new : NewViewData) → IsLog log → new.start < 2 ^ 48 → (i : ℕ) → ((new.start < i) × (i ≤ new.start + length new.batches)) ⊎ IsVoted (begun_log log new) i
 asks_there log new is small i = go (logs.is_in_marks (begun_log log new) i) refl
   where
@@ -126,7 +126,7 @@ begun_data low calls d = desk_above low (record d { waiting = with_view calls d.
 abbrev pub start_of : NewViewData → CheckpointEntry
 start_of new = record { number = new.start; digest = new.root }
 
--- The replica has begun the view by the new view, and says what that asks for.
+-- The replica has begun the view by the new view, and sends the votes that follow.
 pub record Begins (new : NewViewData) (own : Option (List ℕ)) (r : JoinedData) (before : List Output) (n : JoinedData) (after : List Output) : Type 0 where
   pub claims : ClaimsData
   pub kept : BeginsClaims r.orderer.log new r.orderer.claims claims
@@ -195,7 +195,7 @@ module _ (new : NewViewData) (own : Option (List ℕ)) (r : JoinedData) (before 
     new_is = k.new_is;
   }
 
--- ---- what the fetch leaves
+-- ---- after the fetch
 
 pub record IsFetchedFrom (m fetched : JoinedData) : Type 0 where
   pub orderer : fetched.orderer ≡ m.orderer
@@ -249,7 +249,7 @@ module _ (new : NewViewData) (own : Option (List ℕ)) (r : JoinedData) (before 
 
   -- What fits once the view has begun, stands in the end.
   module _ (c : Configuration) (s : Start) (desk : Desk) (known : members c ≡ r.orderer.endpoint.membership) (own_me : r.desk.me ≡ me) (is : IsDeskOf c r.desk desk)
-      (once : Once (λ past e. taken c past e ≡ Some new) (behind s (given me before)))
+      (once : Once (λ past e. taken c past e ≡ Some new) (after_outputs s (given me before)))
       (f : FitsEvent c me s the_orderer (desk_from the_low desk) (with_view k.calls r.desk.waiting) (start_due desk new) before) where
     abbrev later : Desk
     later = desk_from the_low desk
@@ -267,7 +267,7 @@ module _ (new : NewViewData) (own : Option (List ℕ)) (r : JoinedData) (before 
         → FitsEvent c me s the_orderer later (with_view k.calls r.desk.waiting) (cond b (Fetch new.start levels.Root 0 ∷ []) []) before
     with_due b e = subst (λ (due : List Message). FitsEvent c me s the_orderer later (with_view k.calls r.desk.waiting) due before) (due_is b e) f
 
-    -- the fetch is said
+    -- the fetch is sent
     aimed : (said : List Output) → aimed_at r.desk < new.start → Says the_orderer (fetch_of (aim_of (start_of new) the_desk).transfer) before said → Stands c s the_orderer (aiming (start_of new) the_desk) [] said
     aimed said ahead says = record {
       desk = record later { transfer = Some (aim_of (start_of new) the_desk).transfer };

@@ -1,4 +1,4 @@
--- An event that begins with a message which orders nothing and is no request.
+-- An event that begins with a message that orders nothing and is no request.
 use Rattle.std.proofs.Common.{◌≡◌, ◌∷◌, ℕ, inl, List, [], Some, None, refl, sym, ap, ◌∙◌, subst}
 use Rattle.std.specs.Option.{option_and_then}
 use Rattle.wire.specs.Messages.{BodyData as Body, MessageData as Message}
@@ -36,15 +36,15 @@ pub record IsBeside (c : Configuration) (body : Body) : Type 0 where
 
 module _ (r : JoinedData) (one : AreOne r.orderer r.desk) (c : Configuration) (past : List Entry) (runs : Runs c r past) (bytes : List ℕ) (body : Body)
     (known : members c ≡ r.desk.membership) (hears : heard r.desk.membership r.desk.me bytes ≡ Some body) where
-  -- the desk hears what the orderer does
+  -- the desk receives what the orderer does
   pub heard_so : heard (members c) (me_of r) bytes ≡ Some body
   heard_so = ap (λ m. heard m (me_of r) bytes) known ∙ ap (λ (x : ℕ). heard r.desk.membership x bytes) (sym one.0) ∙ hears
 
-  -- no new view is taken
+  -- it takes no new view
   pub takes_none : new_view_from c body ≡ None → taken c past (Got (me_of r) bytes) ≡ None
   takes_none none = none_taken c past (Got (me_of r) bytes) (ap (option_and_then (new_view_from c)) heard_so ∙ none)
 
-  -- What is held for changes fits, where the log stays, whatever the desk does.
+  -- The view-change data fit, if the log stays, whatever the desk does.
   pub changes_beside : (later : Desk) (due : List Message) → new_view_from c body ≡ None → IsNoChange (Some body) → histories.Fits c (me_of r) (event_of c r past runs bytes) later r.orderer.log due []
       → FitsChanges c (me_of r) r.orderer.log (changes_of r.orderer) (Got (me_of r) bytes ∷ past)
   changes_beside later due none silent enters =
@@ -53,7 +53,7 @@ module _ (r : JoinedData) (one : AreOne r.orderer r.desk) (c : Configuration) (p
       (λ s other. others_bring_none c (me_of r) s past bytes (subst IsNoChange (sym heard_so) silent) other))
       (inputs_enter c (me_of r) runs.desk later r.orderer.log r.orderer.log due past (Got (me_of r) bytes) runs.holds enters)
 
-  -- such a message changes nothing of itself
+  -- such a message alone changes nothing
   pub begins : IsBeside c body → FitsEvent c (me_of r) (event_of c r past runs bytes) r.orderer runs.desk r.desk.waiting [] []
   begins beside = record {
     fits = enters;
@@ -75,7 +75,7 @@ module _ (r : JoinedData) (one : AreOne r.orderer r.desk) (c : Configuration) (p
         due_is = sym (ap (asked runs.desk.state) heard_so ∙ beside.asks runs.desk.state);
       })
 
--- What is dropped so changes nothing, and nothing is owed to it.
+-- Such a dropped message changes nothing, and the replica owes nothing for it.
 module _ (r : JoinedData) (one : AreOne r.orderer r.desk) (bytes : List ℕ) (body : Body) (hears : heard r.desk.membership r.desk.me bytes ≡ Some body) where
   pub drops_beside : ((c : Configuration) → IsBeside c body)
       → ((c : Configuration) (past : List Entry) (runs : Runs c r past) → members c ≡ r.desk.membership → AnswersInput c (me_of r) past (Got (me_of r) bytes) [] runs.holds.of_desk.point r.desk.executed.state.number)

@@ -1,4 +1,4 @@
--- What is heard as an ordered request is the frame of one.
+-- A received ordered request is in the frame of one.
 use Rattle.std.proofs.Common.{◌≡◌, ℕ, true, List, Some, ap, ◌∙◌}
 use Rattle.terms.specs.declared.order.Mode.TheVariants as modes
 use Rattle.wire.specs.Messages.{BodyData as Body, MessageData as Message, request as Request, pre_prepare, new_view}

@@ -1,4 +1,4 @@
--- A view change that comes: it is held, and moves the replica on, or it is dropped.
+-- A view change arrives: the replica stores it, and may move on, or drops it.
 use Rattle.std.proofs.Common.{◌≡◌, ◌≢◌, ℕ, ◌<◌, ◌⊎◌, inl, inr, max, Bool, true, false, List, [], ◌∷◌, map, Option, Some, None, refl, sym, ap, ◌∙◌, subst, ap₂, arith}
 use Rattle.std.specs.Prelude.{is_some, option_and_then}
 use Rattle.std.specs.Option.{option_map_or}
@@ -31,7 +31,7 @@ use Rattle.replica_histories.specs.Questions.{AnswersInput, MovesOn, brings_part
 use Rattle.replica_histories.specs.Changes.{FitsChanges, IsNoBatch, Passes}
 use Rattle.replica_histories.specs.Desk.{Snapshot, snapshot_of}
 use Rattle.replica_histories.specs.Events as histories
-use Rattle.replica_histories.specs.Events.{Start, IsTaken, behind}
+use Rattle.replica_histories.specs.Events.{Start, IsTaken, after_outputs}
 use Rattle.replica_histories.specs.Inputs.{IsBesideLog, asked}
 use Rattle.replica_histories.specs.Received.{held_view}
 use Rattle.replica_histories.specs.Views.{entries_of}
@@ -62,7 +62,7 @@ use Rattle.replica.proofs.Choosing.{active_begins_none}
 use Rattle.replica.proofs.Parties.{one_self, ones_twice, same_log}
 use Rattle.replica.proofs.Staying.{numbers_alike, numbers_beside, said_on}
 
--- ---- by which configuration it is judged
+-- ---- which configuration judges it
 
 pub judges_alike : (o : OrdererData) → IsOrderer o → SizesDecide → JudgesAlike o
 judges_alike o own law c known period = law (configuration_of o.received) c (record {
@@ -71,7 +71,7 @@ judges_alike o own law c known period = law (configuration_of o.received) c (rec
   period = sym period;
 })
 
--- a view change that is heard is signed
+-- a received view change is signed
 pub heard_is_signed : (o : OrdererData) (d : DeskData) (x : Change) (frame : List ℕ) → JudgesAlike o → AreOne o d
     → heard d.membership d.me frame ≡ Some (record { sender = x.sender.0; message = ViewChange (view_change_data x.change) })
     → signed_change (configuration_of o.received) frame ≡ Some (change_pair x)
@@ -80,9 +80,9 @@ heard_is_signed o d x frame rules one h = (rules c one.1 (sym one.2)).signed fra
     c : Configuration
     c = record { faults = d.membership.faults; clients = d.membership.clients; seed = d.membership.seed; period = d.period; faulty_replicas = []; faulty_clients = [] }
 
--- ---- what is heard of a signed one
+-- ---- what the bytes of a signed view change say
 
--- Nothing is heard, or it alone.
+-- Nothing, or this view change alone.
 abbrev IsChangeAtMost : ℕ × ViewChangeData → Option Body → Type 0
 IsChangeAtMost x said = (said ≡ None) ⊎ (said ≡ Some (record { sender = x.0; message = ViewChange x.1 }))
 
@@ -118,7 +118,7 @@ beside_all c x said (inr h) = subst (IsBesideAll c) (sym h) (record { call = ref
 -- ---- an event begins
 
 module _ (r : JoinedData) (one : AreOne r.orderer r.desk) (bytes : List ℕ) where
-  -- where these are held
+  -- with these stored view changes
   abbrev holding : List (Option HeldData) → OrdererData
   holding held = record r.orderer { received = record r.orderer.received { held = held } }
 
@@ -165,7 +165,7 @@ module _ (r : JoinedData) (one : AreOne r.orderer r.desk) (bytes : List ℕ) whe
       });
     }
 
--- ---- it is refused
+-- ---- the replica refuses it
 
 some_fault : (o : Option ChangeFault) → o ≢ None → (fault : ChangeFault) × (o ≡ Some fault)
 some_fault None h = absurd (h refl)
@@ -179,7 +179,7 @@ module _ (r : JoinedData) (one : AreOne r.orderer r.desk) (rules : JudgesAlike r
   signed_in : (c : Configuration) (past : List Entry) → Runs c r past → members c ≡ r.desk.membership → signed_change c bytes ≡ Some x
   signed_in c past runs known = sym ((rule c past runs known).signed bytes) ∙ signed
 
-  -- one that is refused gives no reason to move
+  -- a refused view change gives no reason to move
   refused_move : ChangesAreJudged → refusal_of (configuration_of r.orderer.received) r.orderer.log.view r.orderer.received.held x ≢ None → (c : Configuration) (past : List Entry) (runs : Runs c r past) → members c ≡ r.desk.membership
       → (outputs : List Entry) → MovesOn c (me_of r) past (Got (me_of r) bytes) outputs runs.holds.of_desk.point
   refused_move judge faulty c past runs known outputs vc other (inl t) may within says = absurd (no_time c (me_of r) (me_of r) past bytes runs.holds.of_desk.point.waiting vc.view t)
@@ -249,7 +249,7 @@ module _ (r : JoinedData) (one : AreOne r.orderer r.desk) (rules : JudgesAlike r
           at = ap (λ (v : ℕ). refusal_of c v r.orderer.received.held x) runs.holds.of_log.fits.view
               ∙ sym ((rule c past runs known).untaken r.orderer.log.view r.orderer.received.held x) ∙ fault.1
 
--- One that is held in these bytes is refused: it is as late as itself.
+-- One that is stored in these bytes is refused: it is as late as itself.
 pub change_held : (r : JoinedData) (bytes : List ℕ) (h : HeldData) → AreOne r.orderer r.desk → JudgesAlike r.orderer → ChangesAreJudged → IsHeldIn r.orderer.received bytes h → TakesBytes bytes r touched.Nothing r []
 change_held r bytes h one rules judged is = refused r one rules bytes (h.sender, h.change) is.signed judged late
   where
@@ -258,26 +258,26 @@ change_held r bytes h one rules judged is = refused r one rules bytes (h.sender,
         let newer = ((judged (configuration_of r.orderer.received) r.orderer.log.view r.orderer.received.held (h.sender, h.change)).0 right).2 h is.held in
         omega (arith, newer)
 
--- ---- what goes on behind an input that a rule takes
+-- ---- what follows an input that a rule takes
 
 -- a rule takes the input, which asks for no part
 abbrev IsTakenPartless : Configuration → ℕ → Start → Type 0
 IsTakenPartless c me s = IsTaken c me s × (brings_part c me s.input ≡ false)
 
--- What holds of the past fits the event, with these outputs, and nothing is left to do.
+-- What fits the past fits the event with these outputs, and nothing is left to do.
 record Comes (input : Entry) (old new : JoinedData) (outs : List Output) : Type 0 where
   party : IsOneParty old new
   begins : (c : Configuration) (past : List Entry) (runs : Runs c old past) → members c ≡ old.desk.membership
       → Stands c (event_with c old past runs input) new.orderer new.desk [] outs × Rests new × IsAllNumbered new × IsTakenPartless c (me_of new) (event_with c old past runs input)
 
--- What an event owes where the replica has to move is given where its target is this one.
+-- If the replica has to move and its target is this view, the event has what it owes.
 abbrev MovesAt : Entry → JoinedData → ℕ → Type 0
 MovesAt input old to =
     (c : Configuration) (past : List Entry) (runs : Runs c old past) → members c ≡ old.desk.membership → (outputs : List Entry)
-    → target (behind (event_with c old past runs input) outputs) ≡ to → MovesOn c (me_of old) past input outputs runs.holds.of_desk.point
+    → target (after_outputs (event_with c old past runs input) outputs) ≡ to → MovesOn c (me_of old) past input outputs runs.holds.of_desk.point
 
 module _ (input : Entry) (old : JoinedData) (alone : AreOne old.orderer old.desk) where
-  -- the replica may move to a later view, which others move it to
+  -- the replica may move to a later view, to which others move it
   moves : (v : ℕ) (a b : JoinedData) (x y : List Output) (flag : Bool) → IsJoinedBy a.orderer v → ChangesView v a x b y flag → Comes input old a x → Comes input old b y
   moves v a b x y false joined (same, still, unsaid) came =
       subst (λ (r : JoinedData). Comes input old r y) (sym same) (subst (λ (os : List Output). Comes input old a os) (sym still) came)
@@ -291,9 +291,9 @@ module _ (input : Entry) (old : JoinedData) (alone : AreOne old.orderer old.desk
     );
   }
 
-  -- all that the input asks for is given then
+  -- then the event has all that the input asks for
   answered : (a : JoinedData) (x : List Output) → Comes input old a x → MovesAt input old a.orderer.target → (c : Configuration) (past : List Entry) (runs : Runs c old past) → members c ≡ old.desk.membership → (outputs : List Entry) (executed : ℕ)
-      → target (behind (event_with c old past runs input) outputs) ≡ a.orderer.target → AnswersInput c (me_of old) past input outputs runs.holds.of_desk.point executed
+      → target (after_outputs (event_with c old past runs input) outputs) ≡ a.orderer.target → AnswersInput c (me_of old) past input outputs runs.holds.of_desk.point executed
   answered a x came moved c past runs known outputs executed at =
       let partless = subst (λ (e : EndpointState). brings_part c e.me input ≡ false) came.party.endpoint (came.begins c past runs known).3.1 in
       let parts = others_owe_no_part c (me_of old) past input outputs runs.holds.of_desk.point executed partless in
@@ -327,7 +327,7 @@ module _ (input : Entry) (old : JoinedData) (alone : AreOne old.orderer old.desk
         g.2,
         subst (λ (e : EndpointState). AnswersInput c e.me past input (given e.me x) runs.holds.of_desk.point a.desk.executed.state.number) (sym came.party.endpoint)
             (answered a x came moved c past runs known (given (me_of old) x) a.desk.executed.state.number
-            (subst (λ (m : ℕ). target (behind (event_with c old past runs input) (given m x)) ≡ a.orderer.target) (came.party.me ∙ alone.0) g.0.fits.changes.target)),
+            (subst (λ (m : ℕ). target (after_outputs (event_with c old past runs input) (given m x)) ≡ a.orderer.target) (came.party.me ∙ alone.0) g.0.fits.changes.target)),
         inr g.3.0,
       ),
       none c g.0.is.members_are g.0.is.period_is,
@@ -352,7 +352,7 @@ pub record Joins (a : JoinedData) (x : List Output) (b : JoinedData) (y : List O
 abbrev pub MayJoin : JoinedData → List Output → JoinedData → List Output → Type 0
 MayJoin a x b y = Joins a x b y ⊎ ((b ≡ a) × (y ≡ x) × IsJoinedByNone a.orderer)
 
--- ---- it is taken
+-- ---- the replica takes it
 
 module _ (r : JoinedData) (x : Change) (bytes : List ℕ) (one : AreOne r.orderer r.desk) (rules : JudgesAlike r.orderer) (judge : ChangesAreJudged)
     (h : heard r.desk.membership r.desk.me bytes ≡ Some (record { sender = x.sender.0; message = ViewChange (view_change_data x.change) })) where
@@ -370,7 +370,7 @@ module _ (r : JoinedData) (x : Change) (bytes : List ℕ) (one : AreOne r.ordere
         × ((last : HeldData) → held_of r.orderer.received.held x.sender.0 ≡ Some last → last.change.view < vc.view)
     judged = (judge (configuration_of r.orderer.received) r.orderer.log.view r.orderer.received.held (change_pair x)).0 right
 
-    -- nothing as late is held of its sender
+    -- no view change of its sender that is as late is stored
     later : held_view r.orderer.received.held x.sender.0 < vc.view
     later = go (held_of r.orderer.received.held x.sender.0) refl
       where
@@ -419,7 +419,7 @@ module _ (r : JoinedData) (x : Change) (bytes : List ℕ) (one : AreOne r.ordere
       sought_is : sought_view c (Got (me_of r) bytes ∷ past) ≡ aimed_view with_it.orderer
       sought_is = ap₂ (λ (a b : ℕ). max a b) passed.fits_behind.view (holds c past runs known).target
 
-      -- the views that are ahead in the history are those that are held
+      -- the views ahead in the history are those of the stored view changes
       joined : AreHeldFrom (configuration_of with_it.orderer.received) 0 with_it.orderer.received.held → (v : ℕ) → HasToMove c (me_of r) past (Got (me_of r) bytes) runs.holds.of_desk.point.waiting v
           → IsJoined r.orderer.endpoint.membership.faults (later_views (me_of r) (aimed_view with_it.orderer) with_it.orderer.received.held) v
       joined each v (inl t) = absurd (no_time c (me_of r) (me_of r) past bytes runs.holds.of_desk.point.waiting v t)
@@ -429,7 +429,7 @@ module _ (r : JoinedData) (x : Change) (bytes : List ℕ) (one : AreOne r.ordere
           (subst (λ (t : ℕ). IsJoined c.faults (later_views (me_of r) t with_it.orderer.received.held) v) sought_is
           (ahead_are_held c (configuration_of with_it.orderer.received) (me_of r) v (Got (me_of r) bytes ∷ past) with_it.orderer.received.held f.places each joins f.received))
 
-      -- none, where a view change for the view can't be sent
+      -- none, if a view change for the view can't be sent
       unsaid_move : (v : ℕ) → IsJoinedBy with_it.orderer v → IsUnsayable with_it.orderer (change_for v (entries_of r.desk.snapshots) with_it.orderer) → (outputs : List Entry)
           → MovesOn c (me_of r) past (Got (me_of r) bytes) outputs runs.holds.of_desk.point
       unsaid_move v by unsaid outputs other_vc other reason may within says =
@@ -447,7 +447,7 @@ module _ (r : JoinedData) (x : Change) (bytes : List ℕ) (one : AreOne r.ordere
               runs.holds.of_log.fits.own refl judge (λ y. sym ((rule r one rules bytes (change_pair x) signed c past runs known).within y))
               (subst (λ (xs : List Snapshot). IsUnsayable with_it.orderer (change_for v (entries_of xs) with_it.orderer)) (sym runs.is_desk.snapshots) unsaid) other_vc other at may within says
 
-    -- what is owed where others move the replica
+    -- what the replica owes if others move it
     moved_at : (moved : JoinedData) (said : List Output) → MayJoin with_it [] moved said → MovesAt (Got (me_of r) bytes) r moved.orderer.target
     moved_at moved said (inl j) = go j.flag j.changes
       where
@@ -462,7 +462,7 @@ module _ (r : JoinedData) (x : Change) (bytes : List ℕ) (one : AreOne r.ordere
         let few = none.1 in
         absurd (omega (arith, many, few))
 
-  -- It is held, and moves the replica on.
+  -- The replica stores it and moves on.
   pub change_taken : (received : OrdererData) (moved new : JoinedData) (said outs : List Output) (what : Touched) → Receives (held_as x bytes) r.orderer received true
       → MayJoin (record r { orderer = received }) [] moved said → MayBegin moved said what new outs → TakesBytes bytes r what new outs
   change_taken received moved new said outs what receives joins begins =
@@ -478,7 +478,7 @@ module _ (r : JoinedData) (x : Change) (bytes : List ℕ) (one : AreOne r.ordere
           subst (λ (a : JoinedData). Comes (Got (me_of r) bytes) r a said) (sym same)
           (subst (λ (os : List Output). Comes (Got (me_of r) bytes) r (record r { orderer = received }) os) (sym still) came)
 
-  -- Or it is refused.
+  -- Or it refuses it.
   pub change_refused : (received : OrdererData) → Receives (held_as x bytes) r.orderer received false → TakesBytes bytes r touched.Nothing (record r { orderer = received }) []
   change_refused received receives =
       subst (λ (o : OrdererData). TakesBytes bytes r touched.Nothing (record r { orderer = o }) []) (sym receives.1) (refused r one rules bytes (change_pair x) signed judge receives.0)

@@ -26,7 +26,7 @@ use Rattle.view_change.specs.ReceivedData.{HeldData, held_of, with_held, later_v
 use Rattle.view_change.specs.ReceivedView.{configuration_of, held_as}
 use Rattle.replica_histories.specs.Desk.{Desk, point_of}
 use Rattle.replica_histories.specs.Events as events
-use Rattle.replica_histories.specs.Events.{Start, behind}
+use Rattle.replica_histories.specs.Events.{Start, after_outputs}
 use Rattle.replica_histories.specs.Changes.{FitsChanges, Passes}
 use Rattle.replica_histories.specs.Views.{IsChange, entry_of, entries_of}
 use Rattle.replica_histories.proofs.ChangesKept.{sent_keep, own_are_signed}
@@ -67,7 +67,7 @@ pub none_listed : (xs : List KeptState) → reverse_aux (map listed (drop 0 xs))
 none_listed [] = refl
 none_listed (x ∷ xs) = ap (λ (ys : List CheckpointEntry). reverse_aux ys []) (listed_mapped (x ∷ xs))
 
--- one more stands before those that are listed
+-- one more checkpoint before the listed ones
 one_listed : (xs : List KeptState) (i : ℕ) (x : KeptState) (entries all : List CheckpointEntry) → i < length xs → x ≡ get_or xs i x → reverse_aux (map listed (drop i xs)) entries ≡ all
     → reverse_aux (map listed (drop (suc i) xs)) (listed x ∷ entries) ≡ all
 one_listed [] i x entries all l at h = absurd (omega (arith, l))
@@ -86,9 +86,9 @@ all_listed [] (suc i) entries all l h = h
 all_listed (y ∷ ys) zero entries all l h = absurd (omega (arith, l))
 all_listed (y ∷ ys) (suc i) entries all l h = all_listed ys i entries all (omega (arith, l)) h
 
--- ---- the own one is signed
+-- ---- the replica signs its view change
 
--- the rules by which view changes are judged find it signed by the replica
+-- the rules that judge view changes find the replica's signature on it
 pub own_is_signed : (o : OrdererData) (x : Change) (frame : List ℕ) → IsOrderer o → IsLog o.log → x.sender.0 ≡ o.log.me → IsOwnSigned o.endpoint (ViewChange (view_change_data x.change)) frame
     → signed_change (configuration_of o.received) frame ≡ Some (x.sender.0, view_change_data x.change)
 own_is_signed o x frame own is sender signed =
@@ -119,21 +119,21 @@ signs_change view low checkpoints claims old new x frame sender made at same sig
   new_is = receives.1;
 }
 
--- what holds of the frame that there is
+-- what holds of an existing frame
 pub of_some : {A : Type 0} (P : A → Type 0) (o : Option A) (x : A) → o ≡ Some x → IfSome o P → P x
 of_some P o x is h = subst (λ y. IfSome y P) is h
 
--- what is signed in a frame that there is
+-- what the replica signs in an existing frame
 pub signs_in : (message : Message) (o later : OrdererData) (r : Option (Vec ℕ Global)) (frame : Vec ℕ Global) → r ≡ Some frame → MaySign message o later r
     → IsOwnSigned o.endpoint message frame.items × (leaf_of frame.items ≡ Some o.spent) × (later ≡ record o { spent = o.spent + 1 })
 signs_in message o later r frame is h = subst (MaySign message o later) is h
 
--- what is signed says what the copy does
+-- the signed body says what the copy does
 pub signs_copy : (o : OrdererData) (said x : Change) (message : Message) (frame : List ℕ) → change_pair said ≡ change_pair x → message ≡ ViewChange (view_change_data said.change) → IsOwnSigned o.endpoint message frame
     → IsOwnSigned o.endpoint (ViewChange (view_change_data x.change)) frame
 signs_copy o said x message frame copy is signed = subst (λ (m : Message). IsOwnSigned o.endpoint m frame) (is ∙ ap (λ (p : ℕ × ViewChangeData). ViewChange p.1) copy) signed
 
--- ---- the view is left
+-- ---- the replica leaves the view
 
 module _ (view : ℕ) (old : JoinedData) (signed : OrdererData) (frame : List ℕ) (one : AreOne old.orderer old.desk) (next : IsNextView old.orderer view)
     (own : IsOrderer old.orderer) (k : SignsChange view (entries_of old.desk.snapshots) old.orderer signed frame) where
@@ -152,7 +152,7 @@ module _ (view : ℕ) (old : JoinedData) (signed : OrdererData) (frame : List �
   module _ (c : Configuration) (s : Start) (desk : Desk) (before after : List Output) (known : members c ≡ old.desk.membership) (voted : IsVotedAll old.orderer.log)
       (kept : desk.snapshots ≡ old.desk.snapshots) (calls : AreCallsOf c old.desk.waiting.requests desk.waiting) (reason : HasReason c s old view) (f : FitsEvent c me s o desk old.desk.waiting [] before) where
     abbrev past : List Entry
-    past = behind s (given me before)
+    past = after_outputs s (given me before)
 
     posted : IsPosted c me (ViewChange k.own.change) [] frame
     posted = k.signed c (known ∙ one.1)
@@ -258,7 +258,7 @@ leaves_as view old signed later frame said before after one next own k is same s
     (leaves_view view old signed frame one next own k before after (subst (λ (b : List ℕ). SaysFrame (record signed { log = left signed.log; target = view }) b before after) same
     (subst (λ (x : OrdererData). SaysFrame x said before after) is says)))
 
--- ---- it is said again
+-- ---- it multicasts the view change again
 
 pub no_change_again : (o : OrdererData) (outs : List Output) → option_map (λ h. h.frame) (held_of o.received.held o.log.me) ≡ None → SaysLastAlso false 0 PostsChange o outs o outs
 no_change_again o outs none = (
@@ -283,7 +283,7 @@ change_again o frame before after own has says = (
     goes c s desk w known below inactive f =
         let h = f.changes.own_change inactive in
         let me = o.endpoint.me in
-        let past = behind s (given me before) in
+        let past = after_outputs s (given me before) in
         let there : Some h.own.frame ≡ Some frame =
         ap (option_map (λ (x : HeldData). x.frame)) (sym h.held) ∙ ap (λ (m : ℕ). option_map (λ (x : HeldData). x.frame) (held_of o.received.held m)) (sym own.0) ∙ has in
         let is = some_injective h.own.frame frame there in

@@ -1,4 +1,4 @@
--- Whether a checkpoint is taken.
+-- Whether the orderer takes a checkpoint.
 use Rattle.std.proofs.Common.{◌≡◌, Bool, true, false, Option, None, Result, Ok, Err, inr, sym}
 use Rattle.std.specs.Prelude.{is_err}
 use Rattle.terms.specs.declared.parties.ReplicaId.{ReplicaId}

@@ -1,4 +1,4 @@
--- A checkpoint that comes: it is dropped, or counted, and then the marks move, or its state is fetched.
+-- A checkpoint arrives. The replica drops or counts it. Then its marks move, or it fetches the state.
 use Rattle.std.proofs.Common.{◌≡◌, ◌≤◌, ◌<◌, ◌+◌, ◌*◌, ◌⊎◌, ℕ, suc, inl, inr, Bool, true, false, cond, ◌&&◌, List, [], ◌∷◌, Option, Some, None, refl, sym, ap, ◌∙◌, subst}
 use Rattle.std.specs.Prelude.{nat_le, is_none}
 use Rattle.std.proofs.lemmas.Bool.{leb-true, le-ltb, lt-ltb}
@@ -34,7 +34,7 @@ use Rattle.replica_histories.proofs.Questions.{others_owe_none}
 use Rattle.replica.specs.declared.taking.Touched.TheVariants as touched
 use Rattle.view_change.specs.ClaimsView.{ClaimsData}
 use Rattle.replica.specs.State.{OrdererData, DeskData, JoinedData, AreOne}
-use Rattle.replica.specs.Checkpoints.{Follows, Settles, TakesCheckpoint, counting, said_entry}
+use Rattle.replica.specs.Checkpoints.{StartsTransferIfBehind, Settles, TakesCheckpoint, counting, said_entry}
 use Rattle.replica.specs.Desks.{given, FitsEvent, Stands, changes_of}
 use Rattle.replica.specs.Beginning.{CannotBegin}
 use Rattle.replica.specs.Entering.{event_of, IsTakenAlone, IsTakenBeside, Leaves, TakesBytes, TakesMessage}
@@ -255,7 +255,7 @@ module _ (r : JoinedData) (one : AreOne r.orderer r.desk) (s : ℕ) (entry : Che
     still_begun : (c : Configuration) → CannotBegin c r.orderer → CannotBegin c with_it.orderer
     still_begun c = begun_stays c r.orderer with_it.orderer (same_but_checkpoints r.orderer.log counted.checkpoints) refl (λ off. record { received = refl; spent = refl; logged = λ claim has. has })
 
-    -- Or they don't, and a state may be fetched.
+    -- Or they don't, and the replica may fetch a state.
     module _ (unstable : logs.is_stable counted entry ≡ false) where
       waits : (nat_le (2 * counted.faults + 1) (logs.count_checkpoints counted entry) ≡ false) ⊎ (entry.number ≤ aimed_at r.desk) → TakesBytes bytes r touched.Nothing with_it []
       waits why = record {
@@ -301,7 +301,7 @@ module _ (r : JoinedData) (one : AreOne r.orderer r.desk) (s : ℕ) (entry : Che
                     (subst (λ (m : ℕ). FitsEvent c m (event_of c r past runs bytes) with_it.orderer st.desk r.desk.waiting (Fetch entry.number levels.Root 0 ∷ []) []) one.0 st.fits));
               }
 
-      followed : (n : JoinedData) (outs : List Output) → Follows entry with_it [] n outs → TakesBytes bytes r touched.Nothing n outs
+      followed : (n : JoinedData) (outs : List Output) → StartsTransferIfBehind entry with_it [] n outs → TakesBytes bytes r touched.Nothing n outs
       followed n outs (inl (why, same, silent)) =
           subst (λ (k : JoinedData). TakesBytes bytes r touched.Nothing k outs) (sym same) (subst (λ (os : List Output). TakesBytes bytes r touched.Nothing with_it os) (sym silent) (waits why))
       followed n outs (inr (quorum, ahead, same, says)) = subst (λ (k : JoinedData). TakesBytes bytes r touched.Nothing k outs) (sym same) (fetches outs quorum ahead says)
@@ -329,9 +329,9 @@ module _ (r : JoinedData) (one : AreOne r.orderer r.desk) (sender : ReplicaId) (
     checkpoint_settled n settles bytes h =
         settled r one sender.0 (said_entry m) bytes h takes.0 latest_then n (subst (λ (k : OrdererData). Settles (said_entry m) (record r { orderer = k }) n true) takes.1 settles)
 
-    pub checkpoint_followed : (x n : JoinedData) (outs : List Output) → Settles (said_entry m) (record r { orderer = o }) x false → Follows (said_entry m) x [] n outs
+    pub checkpoint_followed : (x n : JoinedData) (outs : List Output) → Settles (said_entry m) (record r { orderer = o }) x false → StartsTransferIfBehind (said_entry m) x [] n outs
         → TakesMessage sender (Checkpoint m.number.0 m.root) r touched.Nothing n outs
     checkpoint_followed x n outs settles follows bytes h =
         let unstable = subst (λ (k : OrdererData). logs.is_stable k.log (said_entry m) ≡ false) takes.1 settles.0 in
         let x_is = settles.1 ∙ ap (λ (k : OrdererData). record r { orderer = k }) takes.1 in
-        followed r one sender.0 (said_entry m) bytes h takes.0 latest_then unstable n outs (subst (λ (k : JoinedData). Follows (said_entry m) k [] n outs) x_is follows)
+        followed r one sender.0 (said_entry m) bytes h takes.0 latest_then unstable n outs (subst (λ (k : JoinedData). StartsTransferIfBehind (said_entry m) k [] n outs) x_is follows)

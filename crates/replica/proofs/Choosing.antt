@@ -1,4 +1,4 @@
--- What a primary may choose from for a new view: it stays, or gets less, where no view change is taken or sent.
+-- A primary's choice for a new view stays, or gets less, if no view change is taken or sent.
 use Rattle.std.proofs.Common.{◌≡◌, ℕ, ◌+◌, ◌*◌, ◌%◌, ◌⊎◌, inl, inr, Bool, true, false, List, [], Vec, Option, None, IfNone, refl, sym, ap, ap₂, ◌∙◌, subst}
 use Rattle.std.specs.Prelude.{nat_lt}
 use Rattle.std.specs.declared.alloc.Global.{Global}
@@ -37,7 +37,7 @@ pub choices_twice : (a b d : OrdererData) → KeepsChoice a b → KeepsChoice b 
 choices_twice a b d first then =
     record { received = then.received ∙ first.received; spent = then.spent ∙ first.spent; logged = λ claim has. first.logged claim (then.logged claim has) }
 
--- what is claimed above a mark was so before
+-- claims above a mark were claims before
 pub cut_choice : (o : OrdererData) (log : LogData) (low : ℕ) (claims : ClaimsData) → CutsClaims low o.claims claims → KeepsChoice o (record o { log = log; claims = claims })
 cut_choice o log low claims cuts = record {
   received = refl;
@@ -54,7 +54,7 @@ pub settled_choice : (entry : CheckpointEntry) (old new : JoinedData) (b : Bool)
 settled_choice entry old new true (stable, moves) = moved_choice entry.number old new moves
 settled_choice entry old new false (unstable, same) = subst (λ (r : JoinedData). KeepsChoice old.orderer r.orderer) (sym same) (same_choice old.orderer)
 
--- ---- so no view can be begun that couldn't before
+-- ---- so no view can begin that couldn't before
 
 pub begun_stays : (c : Configuration) (old new : OrdererData) → IsSameLog old.log new.log → new.target ≡ old.target → (old.log.active ≡ false → KeepsChoice old new) → CannotBegin c old → CannotBegin c new
 begun_stays c old new log target choice cannot off own = go (choice was_off) (cannot was_off was_own)
@@ -74,16 +74,16 @@ begun_stays c old new log target choice cannot off own = go (choice was_off) (ca
 pub begun_same : (c : Configuration) (old new : OrdererData) → IsSameOrderer old new → CannotBegin c old → CannotBegin c new
 begun_same c old new same = begun_stays c old new same.log same.target same.choice
 
--- an active replica begins none
+-- an active replica begins no view
 pub active_begins_none : (c : Configuration) (o : OrdererData) → o.log.active ≡ true → CannotBegin c o
 active_begins_none c o active off own = absurd (let bad : true ≡ false = sym active ∙ off in cc)
 
--- ---- nothing is selected, or no key is left
+-- ---- no selection exists, or no key is left
 
 of_sizes : ℕ → ℕ → Configuration
 of_sizes faults period = record { faults = faults; clients = 1; seed = []; period = period; faulty_replicas = []; faulty_clients = [] }
 
--- the rules speak of the sizes alone
+-- the rules depend on the sizes alone
 meets_sized : (c : Configuration) (s : Sizes) (view start : ℕ) (root : List ℕ) (set : List (ℕ × ViewChangeData)) (batches : List (List ℕ)) → c.faults ≡ s.faults → c.period ≡ s.period
     → meets c view set start root batches ≡ meets (sized s) view set start root batches
 unfolding of_sizes
@@ -99,7 +99,7 @@ none_selected r one own none c known period off mine =
     faults : c.faults ≡ r.orderer.received.sizes.faults
     faults = ap (λ (m : Membership). m.faults) (known ∙ one.1) ∙ sym own.3
 
--- so no view is begun, and nothing changes
+-- so no view begins, and nothing changes
 pub unselected : (r : JoinedData) (outs : List Output) (o : Option Selection) → AreOne r.orderer r.desk → IsOrderer r.orderer → o ≡ None → IfNone o (HasNoSelection r.orderer) → MayBegin r outs touched.Nothing r outs
 unselected r outs o one own none h = (refl, refl, none_selected r one own (of_none (HasNoSelection r.orderer) o none h))
 

@@ -1,4 +1,4 @@
--- What an open transfer is to a state that comes in the place of another.
+-- An open transfer, after another state replaces the executed one.
 use Rattle.std.proofs.Common.{◌≡◌, ℕ, suc, Bool, true, false, Option, Some, None, option_map, refl, arith, nat_lt}
 use Rattle.std.specs.Bool.{then_some}
 use Rattle.std.specs.Option.{ForSome}
@@ -8,7 +8,7 @@ use Rattle.replica.specs.State.{OpenData}
 use Rattle.replica.specs.Desks.{RestsAt}
 use Rattle.replica.specs.Desking.{above_number}
 
--- it is closed where the history's is
+-- it is closed if the history's is
 pub above_same : (n : ℕ) (o : Option OpenData) → still_open n (option_map (λ x. x.transfer) o) ≡ option_map (λ x. x.transfer) (above_number n o)
 above_same n None = refl
 above_same n (Some o) = go (nat_lt n o.transfer.number)
@@ -17,7 +17,7 @@ above_same n (Some o) = go (nat_lt n o.transfer.number)
     go true = refl
     go false = refl
 
--- one that is left was open
+-- a remaining transfer was open before
 above_was : (n : ℕ) (o : Option OpenData) (x : OpenData) → above_number n o ≡ Some x → o ≡ Some x
 above_was n None x h = absurd cc
 above_was n (Some o) x h = go (nat_lt n o.transfer.number) h

@@ -1,4 +1,4 @@
--- What a desk gives fits.
+-- The outputs of a desk fit.
 use Rattle.std.proofs.Common.{◌≡◌, ◌≢◌, ℕ, suc, ◌+◌, ◌≤◌, Bool, true, false, cond, List, [], ◌∷◌, ◌++◌, map, filter, Some, refl, sym, ap, ◌∙◌, subst, nat_lt, eq-eqb, arith}
 use Rattle.std.proofs.lemmas.List.Kept.{AllPairs-filter}
 use Rattle.terms.specs.declared.parties.ClientId.{ClientId}
@@ -14,12 +14,12 @@ use Rattle.ordering.specs.Log as logs
 use Rattle.protocol.specs.System.Configuration.{Configuration, members}
 use Rattle.protocol.specs.System.Trace.{Entry, Has}
 use Rattle.protocol.specs.System.Trace.Entry.{Executed, Sent}
-use Rattle.protocol.specs.Replica.State.{State, IsState, Call, Ran as RanData, execute, kept_of, last_time, ran_in}
+use Rattle.protocol.specs.Replica.State.{State, IsReplicatedState, Call, Ran as RanData, execute, kept_of, last_time, ran_in}
 use Rattle.protocol.specs.Replica.RightReplica.{reply_of, still_waiting}
 use Rattle.protocol.proofs.Words.Elements.{has_filter, has_map, has_mapped}
 use Rattle.replica_histories.specs.Desk.{Desk, snapshot_of}
 use Rattle.replica_histories.specs.Events as events
-use Rattle.replica_histories.specs.Events.{Start, behind}
+use Rattle.replica_histories.specs.Events.{Start, after_outputs}
 use Rattle.replica_histories.specs.Inputs.{again_for}
 use Rattle.replica_histories.specs.Outputs.{checkpoint_due, executed_desk, replies_to, snapshots_behind}
 use Rattle.replica_histories.specs.Transfers.{still_open}
@@ -51,15 +51,15 @@ pays_one d client kept before after r rest c s o known st = record {
   is = st.is;
   fits = fits_on c d.me s o o st.desk d.waiting (reply ∷ rest) rest before after (Sent d.me r.posts.bytes)
       (gives_one c d.me before after r.output (Sent d.me r.posts.bytes) r.given_is r.posts.sends (r.posts.meant c known))
-      (sent_beside c d.me reply ((256 + client.number) ∷ []) r.posts.bytes (behind s (given d.me before)) tt (r.posts.posted c known))
-      (sent_keep c d.me (behind s (given d.me before)) reply r.posts.bytes (r.posts.posted c known).says tt (λ signed. absurd cc)) (same_log o.log) refl refl refl refl st.fits
+      (sent_beside c d.me reply ((256 + client.number) ∷ []) r.posts.bytes (after_outputs s (given d.me before)) tt (r.posts.posted c known))
+      (sent_keep c d.me (after_outputs s (given d.me before)) reply r.posts.bytes (r.posts.posted c known).says tt (λ signed. absurd cc)) (same_log o.log) refl refl refl refl st.fits
       (replies_fit c d.me s st.desk o.log rest (given d.me before) client.number kept r.posts.bytes (r.posts.posted c known) st.fits.fits);
 }
   where
     reply : Message
     reply = reply_of client.number kept
 
--- of the replies that are due these are left, and whatever is due behind them
+-- of the due replies these are left, and whatever is due after them
 abbrev pub PaysOn : DeskData → List Ran → List Output → List Ran → List Output → Type 0
 PaysOn d due before left after = (rest : List Message) → Pays d (replies_for due ++ rest) before (replies_for left ++ rest) after
 
@@ -75,7 +75,7 @@ pays_next d cur due it xs ys x y z same items p r rest c s o known st =
     let r' : SaysReply d it.client (told it).1 y z = subst (λ (e : DeskData). SaysReply e it.client (told it).1 y z) same r in
     pays_one d it.client (told it).1 y z r' (replies_for ys ++ rest) c s o known (subst (λ (v : List Ran). Stands c s o d (replies_for v ++ rest) y) items (p rest c s o known st))
 
--- the reply that is kept goes again
+-- the kept reply goes again
 pub pays_again : (d : DeskData) (client : ClientId) (t : ℕ) (kept : Kept) (x y : List Output) → kept_of d.executed.state client.number ≡ Some kept → kept.timestamp ≡ t → SaysReply d client kept x y
     → Pays d (again_for client.number t (kept_of d.executed.state client.number)) x [] y
 pays_again d client t kept x y has same r c s o known st = pays_one d client kept x y r [] c s o known (subst (λ (ms : List Message). Stands c s o d ms x) due st)
@@ -83,7 +83,7 @@ pays_again d client t kept x y has same r c s o known st = pays_one d client kep
     due : again_for client.number t (kept_of d.executed.state client.number) ≡ reply_of client.number kept ∷ []
     due = rw (has, eq-eqb kept.timestamp t same) refl
 
--- ---- what waits
+-- ---- waiting requests
 
 calls_kept : (c : Configuration) (st : State) (rs : List WaitingRequest) (calls : List Call) → AreCallsOf c rs calls → AreCallsOf c (filter (is_new st) rs) (still_waiting st calls)
 calls_kept c st [] [] h = h
@@ -106,7 +106,7 @@ frames_kept p rs frame h =
     has_mapped (λ x. x ≡ frame) (λ (r : WaitingRequest). r.frame.items) rs
     (has_filter (λ (r : WaitingRequest). r.frame.items ≡ frame) p rs (has_map (λ x. x ≡ frame) (λ (r : WaitingRequest). r.frame.items) (filter p rs) h))
 
--- Where a desk's calls are those of a history's, and another state comes, they still are without what it ran.
+-- If the desk's calls are the history's, they still are after another state comes, without those that ran.
 pub calls_behind : (c : Configuration) (st later : State) (rs : List WaitingRequest) (calls : List Call) → st ≡ later → AreCallsOf c rs calls → AreCallsOf c (filter (is_new later) rs) (still_waiting st calls)
 calls_behind c st later rs calls same h = subst (λ (x : State). AreCallsOf c (filter (is_new x) rs) (still_waiting st calls)) same (calls_kept c st rs calls h)
 
@@ -122,7 +122,7 @@ map_twice f g (x ∷ xs) = ap (λ ys. f (g x) ∷ ys) (map_twice f g xs)
 replies_same : (ran : List Ran) (rs : List RanData) → map told ran ≡ map told_of rs → replies_to rs ≡ replies_for ran
 replies_same ran rs e = map_twice reply_for told_of rs ∙ ap (map reply_for) (sym e) ∙ sym (map_twice reply_for told ran)
 
--- the desk behind an execution that leaves this
+-- the desk after an execution that leaves this state
 abbrev pub behind_run : DeskData → ExecutedData → DeskData
 behind_run d executed = record d {
   executed = executed;
@@ -131,7 +131,7 @@ behind_run d executed = record d {
   waiting = forgotten executed.state d.waiting;
 }
 
--- the state is kept where it is due, a transfer that is reached is closed, and what ran waits no more
+-- the state is kept if it is due, a reached transfer is closed, and requests that ran wait no more
 keeping_is : (d : DeskData) → keeping_due d ≡ record d { snapshots = snapshots_with d.period d.executed.state d.snapshots }
 keeping_is d = go (is_due d)
   where
@@ -154,7 +154,7 @@ record Run (c : Configuration) (d : DeskData) (text : List ℕ) (ran : List Ran)
   ex : IsAfter c d.executed text (map told ran) executed
   number : executed.state.number ≡ suc d.executed.state.number
   kept : snapshots_with d.period executed.state d.snapshots ≡ all_with d.period executed.state d.snapshots
-  is_state : IsState d.executed.state
+  is_state : IsReplicatedState d.executed.state
   few : c.clients ≤ 256
 
 module _ (c : Configuration) (d : DeskData) (text : List ℕ) (ran : List Ran) (executed : ExecutedData) (was : Desk) (r : Run c d text ran executed was) where
@@ -178,7 +178,7 @@ module _ (c : Configuration) (d : DeskData) (text : List ℕ) (ran : List Ran) (
     differ = AllPairs-filter (λ (x y : WaitingRequest). x.client.number ≢ y.client.number) (is_new executed.state) d.waiting.requests r.is.differ;
   }
 
-  -- which of those that wait have numbers
+  -- which waiting requests have numbers
   run_numbers : (o : OrdererData) (history : List Entry) → FitsWaiting c d.me o d.waiting was history → FitsWaiting c d.me o (forgotten executed.state d.waiting) run_desk history
   run_numbers o history f own =
       subst (λ (x : State). FitsFlags c d.me o.log.view o.used (forgotten x d.waiting) (execute c was.state text) (still_waiting (execute c was.state text) was.waiting) history) run_state
@@ -196,11 +196,11 @@ module _ (c : Configuration) (d : DeskData) (text : List ℕ) (ran : List Ran) (
     e = Executed d.me (suc was.state.number) text
 
     abbrev past : List Entry
-    past = behind s (given d.me before)
+    past = after_outputs s (given d.me before)
 
     run_on : events.Fits c d.me s run_desk o.log (replies_for ran ++ checkpoint_due c executed.state) (e ∷ given d.me before)
     run_on = subst (λ (ms : List Message). events.Fits c d.me s run_desk o.log ms (e ∷ given d.me before)) run_due
-        (executes_fit c d.me s was o.log (given d.me before) text (frames_of (forgotten executed.state d.waiting)) (subst IsState (sym r.is.state) r.is_state) r.few committed (frames_behind executed.state d was.frames r.is.frames) f.fits)
+        (executes_fit c d.me s was o.log (given d.me before) text (frames_of (forgotten executed.state d.waiting)) (subst IsReplicatedState (sym r.is.state) r.is_state) r.few committed (frames_behind executed.state d was.frames r.is.frames) f.fits)
 
     run_fits : FitsEvent c d.me s o run_desk (forgotten executed.state d.waiting) (replies_for ran ++ checkpoint_due c executed.state) after
     run_fits =
@@ -216,7 +216,7 @@ executions_meant c me number text (outputs.Installed n root) e = tt
 executions_meant c me number text (outputs.Send receivers frame) e = absurd cc
 executions_meant c me number text (outputs.Accepted t answer) e = tt
 
-run_stands : (d : DeskData) (executed : ExecutedData) (text : List ℕ) (ran : List Ran) (output : Output) (before after : List Output) (c : Configuration) (s : Start) (o : OrdererData) → IsDesk d → IsState d.executed.state → c.clients ≤ 256 → AreFew d.snapshots → IsAfter c d.executed text (map told ran) executed
+run_stands : (d : DeskData) (executed : ExecutedData) (text : List ℕ) (ran : List Ran) (output : Output) (before after : List Output) (c : Configuration) (s : Start) (o : OrdererData) → IsDesk d → IsReplicatedState d.executed.state → c.clients ≤ 256 → AreFew d.snapshots → IsAfter c d.executed text (map told ran) executed
     → executed.state.number ≡ suc d.executed.state.number → entry_of d.me output ≡ Executed d.me (suc d.executed.state.number) text → after ≡ before ++ output ∷ []
     → logs.committed_batch o.log (suc d.executed.state.number) ≡ Some text → Stands c s o d [] before
     → Stands c s o (behind_run d executed) (replies_for ran ++ checkpoint_due c executed.state) after
@@ -235,7 +235,7 @@ run_stands d executed text ran output before after c s o own is_state clients fe
 pub one_more : (n : ℕ) → n + 1 ≡ suc n
 one_more n = omega arith
 
-pub runs_batch : (old new : DeskData) (executed : ExecutedData) (text : List ℕ) (ran : List Ran) (output : Output) (before after : List Output) → new ≡ behind_run old executed → IsDesk old → IsState old.executed.state → old.executed.clients ≤ 256 → AreFew old.snapshots
+pub runs_batch : (old new : DeskData) (executed : ExecutedData) (text : List ℕ) (ran : List Ran) (output : Output) (before after : List Output) → new ≡ behind_run old executed → IsDesk old → IsReplicatedState old.executed.state → old.executed.clients ≤ 256 → AreFew old.snapshots
     → Executes old.executed text (map told ran) executed → executed.state.number ≡ old.executed.state.number + 1
     → entry_of old.me output ≡ Executed old.me (suc old.executed.state.number) text → after ≡ before ++ output ∷ [] → RunsBatch old text before new (replies_for ran) after
 runs_batch old new executed text ran output before after same is is_state most few runs number entry more = subst (λ (d : DeskData). RunsBatch old text before d (replies_for ran) after) (sym same) (record {

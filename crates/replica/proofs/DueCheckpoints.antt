@@ -16,7 +16,7 @@ use Rattle.protocol.specs.Replica.Owed.{IsSaying, latest_checkpoint}
 use Rattle.protocol.proofs.Words.Options.{some_injective}
 use Rattle.replica_histories.specs.Desk.{Desk, point_of, desk_from, kept_from, snapshot_of}
 use Rattle.replica_histories.specs.Events as events
-use Rattle.replica_histories.specs.Events.{Start, behind}
+use Rattle.replica_histories.specs.Events.{Start, after_outputs}
 use Rattle.replica_histories.specs.Changes.{CutsClaims, FitsChanges}
 use Rattle.replica_histories.specs.Marks.{cut_if_stable, checked_log}
 use Rattle.replica_histories.specs.Outputs.{checkpoint_due}
@@ -103,7 +103,7 @@ pub cut_commits : (log : LogData) (h : ℕ) → IsLog log → CommitsNoMore log 
 cut_commits log h is i text has =
     (passed (logs.is_in_marks (logs.cut_to log h) i) (logs.committed_batch log i) text (sym (cuts_ask_no_more log h i is).2 ∙ has)).1
 
--- what holds of the log, and of a cut of it, holds of the settled one
+-- what holds of a log and of its cut holds of the settled one
 pub either : (P : LogData → Type 0) (log : LogData) (entry : CheckpointEntry) → P log → P (logs.cut_to log entry.number) → P (cut_if_stable log entry)
 either P log entry whole cut = go (logs.is_stable log entry)
   where
@@ -111,9 +111,9 @@ either P log entry whole cut = go (logs.is_stable log entry)
     go true = cut
     go false = whole
 
--- ---- the orderer says it
+-- ---- the orderer sends it
 
--- the checkpoint is counted, and the log cut where it is stable
+-- the checkpoint is counted, and the log cut if it is stable
 abbrev checking : OrdererData → CheckpointEntry → ClaimsData → OrdererData
 checking o entry claims = record o { log = checked_log o.log o.log.me entry; claims = claims; last_checkpoint = Some entry }
 
@@ -129,7 +129,7 @@ module _ (c : Configuration) (s : Start) (o : OrdererData) (desk : Desk) (w : Wa
   me = o.endpoint.me
 
   abbrev past : List Entry
-  past = behind s (given me before)
+  past = after_outputs s (given me before)
 
   abbrev later : Desk
   later = desk_from (checking o entry claims).log.low desk
@@ -146,7 +146,7 @@ module _ (c : Configuration) (s : Start) (o : OrdererData) (desk : Desk) (w : Wa
       (numbers_beside c me w o desk past (Sent me said.bytes) f.fits.of_log.faults f.fits.of_log.own
       (sent_beside c me (Checkpoint entry.number entry.digest) (others c me) said.bytes past tt said.posted) f.numbers)
 
-  -- it is the latest of the own
+  -- it is the latest of the replica's own
   latest : latest_checkpoint c me (Sent me said.bytes ∷ past) ≡ Some entry
   latest =
       let point : Point = point_of desk f.fits.of_desk.states f.fits.of_desk.ran in
@@ -164,10 +164,10 @@ module _ (c : Configuration) (s : Start) (o : OrdererData) (desk : Desk) (w : Wa
   says_due : FitsEvent c me s (checking o entry claims) later w [] after
   says_due = record {
     fits = subst (λ (es : List Entry). events.Fits c me s later (checking o entry claims).log [] es) (sym said.is.is) fitting;
-    numbers = subst (λ (es : List Entry). FitsWaiting c me (checking o entry claims) w later (behind s es)) (sym said.is.is) numbering;
-    said = λ other is. subst (λ (es : List Entry). Once (λ earlier e. IsSaying me (Checkpoint other.number other.digest) e) (behind s es)) (sym said.is.is)
+    numbers = subst (λ (es : List Entry). FitsWaiting c me (checking o entry claims) w later (after_outputs s es)) (sym said.is.is) numbering;
+    said = λ other is. subst (λ (es : List Entry). Once (λ earlier e. IsSaying me (Checkpoint other.number other.digest) e) (after_outputs s es)) (sym said.is.is)
         (inl (subst (λ (z : CheckpointEntry). IsSaying me (Checkpoint z.number z.digest) (Sent me said.bytes)) (some_injective entry other is) said.posted.says));
-    changes = subst (λ (es : List Entry). FitsChanges c me (checking o entry claims).log (changes_of (checking o entry claims)) (behind s es)) (sym said.is.is) changing;
+    changes = subst (λ (es : List Entry). FitsChanges c me (checking o entry claims).log (changes_of (checking o entry claims)) (after_outputs s es)) (sym said.is.is) changing;
     meant = said.is.meant f.meant;
   }
 
@@ -183,7 +183,7 @@ settled_orderer entry m n false (stable, same) =
     subst (λ (r : JoinedData). r.orderer ≡ record m.orderer { log = cut_if_stable m.orderer.log entry; claims = r.orderer.claims }) (sym same)
     (ap (λ (b : Bool). let k : OrdererData = record m.orderer { log = cond b (logs.cut_to m.orderer.log entry.number) m.orderer.log } in k) (sym stable))
 
--- the claims up to the low mark go
+-- the claims up to the low mark are dropped
 pub settled_claims : (entry : CheckpointEntry) (m n : JoinedData) (b : Bool) → Settles entry m n b → CutsClaims m.orderer.log.low m.orderer.claims m.orderer.claims
     → CutsClaims (cut_if_stable m.orderer.log entry).low m.orderer.claims n.orderer.claims
 settled_claims entry m n true (stable, (o, (claims, cuts, o_is), moves)) above =
@@ -269,7 +269,7 @@ module _ (a : JoinedData) (o : OrdererData) (n : JoinedData) (entry : Checkpoint
           (due_when c a.desk true st.is.period_is due.due ∙ ap (λ (e : CheckpointEntry). Checkpoint e.number e.digest ∷ []) (sym due.is)) st.fits
 
       above : desk_from a.orderer.log.low st.desk ≡ st.desk
-      above = kept_are_above c a.desk.me st.desk a.orderer.log st.fits.fits.of_desk.states (behind s (given a.desk.me x)) st.fits.fits.of_log st.fits.fits.of_desk.kept
+      above = kept_are_above c a.desk.me st.desk a.orderer.log st.fits.fits.of_desk.states (after_outputs s (given a.desk.me x)) st.fits.fits.of_log st.fits.fits.of_desk.kept
 
       kept : kept_from a.orderer.log.low a.desk.snapshots ≡ a.desk.snapshots
       kept = ap (kept_from a.orderer.log.low) (sym st.is.snapshots) ∙ ap (λ (d : Desk). d.snapshots) above ∙ st.is.snapshots
@@ -304,9 +304,9 @@ says_none a x kept none = record {
   commits = λ i text h. h;
 }
 
--- ---- behind an execution
+-- ---- after an execution
 
--- the executed state is kept where it is to have a checkpoint
+-- the executed state is kept if it is to have a checkpoint
 pub runs_kept : (old new : DeskData) (text : List ℕ) (x y : List Output) → RunsWhole old text x new y → IsDueKept new
 runs_kept old new text x y r due =
     ap (λ (k : DeskData). newest_entry k.snapshots) r.same

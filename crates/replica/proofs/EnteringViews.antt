@@ -1,4 +1,4 @@
--- What begins with a new view: the calls that have numbers in it, the batches that are logged, and the votes that are said.
+-- How a new view begins: the calls that have numbers in it, the batches that are logged, and the votes that are sent.
 use Rattle.std.proofs.Common.{◌≡◌, ◌≢◌, ℕ, zero, suc, ◌+◌, ◌≤◌, ◌<◌, ◌⊎◌, inl, inr, Bool, true, false, cond, List, [], ◌∷◌, ◌++◌, length, map, take, drop, get_or, Bor, Option, Some, None, refl, sym, ap, ◌∙◌, subst, append_assoc, append-nil, arith, ◌==◌, eqb-true}
 use Rattle.std.specs.Arc.{arc_value}
 use Rattle.std.specs.declared.sync.Arc.{Arc}
@@ -38,9 +38,9 @@ use Rattle.replica.proofs.Lists.{Pairs, pairs_of, all_pairs}
 use Rattle.replica.proofs.Parties.{same_orderer, orderers_twice}
 use Rattle.replica.proofs.Voting.{goes_twice}
 
--- ---- items that a loop puts behind others
+-- ---- items that a loop appends
 
--- What all of them give is what the first gives, and then the others.
+-- All of them give the items of the first, and then those of the others.
 module _ {X A : Type 0} (all : List X → List A) (one : X → List A) (first : (x : X) (xs : List X) → all (x ∷ xs) ≡ one x ++ all xs) where
   one_more : (xs : List X) (i : ℕ) (d : X) (out more whole : List A) → i < length xs → more ≡ out ++ one (get_or xs i d) → out ++ all (drop i xs) ≡ whole → more ++ all (drop (i + 1) xs) ≡ whole
   one_more xs i d out more whole p q w =
@@ -56,7 +56,7 @@ module _ {X A : Type 0} (all : List X → List A) (one : X → List A) (first : 
 abbrev pub frames_in : List (Bor (List ℕ)) → List (List ℕ)
 frames_in xs = map (λ (x : Bor (List ℕ)). x.now) xs
 
--- what is left to add leads to where all of it leads
+-- adding the rest leads to the end of the whole
 abbrev pub CallsLeft : ℕ → List (Bor (List ℕ)) → List BegunCall → List BegunCall → ℕ → Type 0
 CallsLeft clients frames old new i =
     (c : Configuration) → c.clients ≡ clients → begun_of new ++ calls_in c (frames_in (drop i frames)) ≡ begun_of old ++ calls_in c (frames_in frames)
@@ -219,7 +219,7 @@ module _ (k : ℕ) (text : List ℕ) (texts : List (List ℕ)) (a d : OrdererDat
     rest.2 ∙ ap (λ (t : Bool). record a { log = with_batches (cond t (with_batch a.log k text) a.log) (suc k) texts; claims = rest.0 }) (sym w),
   )
 
--- what is left to log leads to where all of it leads
+-- logging the rest leads to the end of the whole
 abbrev pub LogsLeft : ℕ → List (List ℕ) → OrdererData → ℕ → List (List ℕ) → OrdererData → Type 0
 LogsLeft first texts old k left now = (new : OrdererData) → LogsBatches k left now new → LogsBatches first texts old new
 
@@ -245,7 +245,7 @@ pub all_logged : (first : ℕ) (texts : List (List ℕ)) (old now : OrdererData)
 all_logged first texts old now n items none left =
     left now (subst (λ (xs : List (Arc (List ℕ) Global)). LogsBatches (suc n) (texts_of xs) now now) (sym none) (logs_none (suc n) now))
 
--- ---- what waits
+-- ---- waiting requests
 
 texts_renumbered : (begun : List BegunCall) (rs : List WaitingRequest) → texts rs ≡ texts (map (renumbered begun) rs)
 texts_renumbered begun [] = refl
@@ -271,7 +271,7 @@ pairs_differ begun (r ∷ rs) h = (each_differs begun r rs h.0, pairs_differ beg
 differ_renumbered : (begun : List BegunCall) (rs : List WaitingRequest) → AreOfDifferentClients rs → AreOfDifferentClients (map (renumbered begun) rs)
 differ_renumbered begun rs h = all_pairs Differ (map (renumbered begun) rs) (pairs_differ begun rs (pairs_of Differ rs h))
 
--- the desk of a history, where the view begins with these calls and the low mark has moved
+-- the desk of a history, if the view begins with these calls and the low mark has moved
 pub begun_desk : (c : Configuration) (d : DeskData) (desk : Desk) (begun : List BegunCall) (low : ℕ) → IsDeskOf c d desk → IsDeskOf c (desk_above low (record d { waiting = with_view begun d.waiting })) (desk_from low desk)
 begun_desk c d desk begun low is = record {
   members_are = is.members_are;

@@ -1,4 +1,4 @@
--- What is committed is executed.
+-- The execution of committed batches.
 use Rattle.std.proofs.Common.{◌≡◌, ℕ, suc, ◌+◌, ◌≤◌, ◌<◌, ◌^◌, ◌⊎◌, inl, inr, Bool, true, false, cond, not, ◌&&◌, List, [], ◌∷◌, length, filter, Option, Some, None, refl, sym, ap, ◌∙◌, subst, arith, nat_lt, nat_le}
 use Rattle.std.proofs.lemmas.Bool.{and_parts, ltb-true}
 use Rattle.events.specs.declared.output.Output.{Output}
@@ -13,9 +13,9 @@ use Rattle.replica.specs.Checkpoints.{SaysDueCheckpoint}
 use Rattle.replica.proofs.Parties.{same_party, parties_twice}
 use Rattle.replica.proofs.Rows.{within}
 
--- ---- what is committed
+-- ---- committed batches
 
--- a number whose batch is committed is within the marks
+-- the number of a committed batch is within the marks
 pub committed_within : (log : LogData) (i : ℕ) (text : List ℕ) → committed_batch log i ≡ Some text → is_in_marks log i ≡ true
 committed_within log i text h =
     (passed (is_in_marks log i) (row_decided log.faults (replicas log) log.me (row_of log i)) text h).0
@@ -28,7 +28,7 @@ committed_number log i text h =
 none_outside : (log : LogData) (i : ℕ) → is_in_marks log i ≡ false → committed_batch log i ≡ None
 none_outside log i e = rw e refl
 
--- behind so many executions as there are numbers within the marks nothing is committed any more
+-- after as many executions as there are numbers within the marks, no batch is committed any more
 after_span : (log : LogData) (first n : ℕ) → n ≡ first + log.span → (log.span ≡ 0) ⊎ (log.low ≤ first) → committed_batch log (suc n) ≡ None
 after_span log first n same low = go (is_in_marks log (suc n)) refl low
   where
@@ -44,7 +44,7 @@ none_more old new i more none = go (committed_batch new i) refl
     go None e = e
     go (Some text) e = absurd (given_not (committed_batch old i) text (more i text e) none)
 
--- ---- what waits
+-- ---- waiting requests
 
 fewer_left : (p : WaitingRequest → Bool) (xs : List WaitingRequest) → length (all_unnumbered (filter p xs)) ≤ length (all_unnumbered xs)
 fewer_left p [] = omega arith
@@ -64,7 +64,7 @@ fewer_left p (x ∷ xs) = go (p x) (fewer_left p xs)
     go true l = same (not x.numbered) l
     go false l = more (not x.numbered) l
 
--- no more are left without a number
+-- no more requests are left without a number
 forgets_no_more : (p : WaitingRequest → Bool) (w : WaitingData) → count_unnumbered (keeping p w) ≤ count_unnumbered w
 forgets_no_more p w = fewer_left p w.requests
 

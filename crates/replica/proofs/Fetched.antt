@@ -1,4 +1,4 @@
--- A part that comes: the open transfer goes on with what differs.
+-- A part arrives: the open transfer goes on with the parts that differ.
 use Rattle.std.proofs.Common.{◌≡◌, inl, inr, List, [], Option, Some, None, refl, sym, ap, ◌∙◌, subst, length, arith}
 use Rattle.events.specs.declared.output.Output.{Output}
 use Rattle.state_transfer.specs.declared.place.Place.{Place}
@@ -9,8 +9,8 @@ use Rattle.protocol.specs.Replica.State.{State, pages_of}
 use Rattle.protocol.specs.Replica.Transfers.{NoneAsked}
 use Rattle.protocol.proofs.Words.Options.{some_injective}
 use Rattle.replica_histories.specs.Desk.{Desk}
-use Rattle.replica_histories.specs.Events.{Start, behind}
-use Rattle.replica_histories.specs.Transfers.{FitsOpen, MayAsk, AsksNext, IsTold, RestsOn}
+use Rattle.replica_histories.specs.Events.{Start, after_outputs}
+use Rattle.replica_histories.specs.Transfers.{FitsOpen, MayAsk, AsksNext, IsTold, RestsOnState}
 use Rattle.replica_histories.proofs.Fetching.{transfers_change}
 use Rattle.replica_histories.proofs.Transfers.{may_ask_any, pages_rested}
 use Rattle.replica_histories.proofs.TransfersInstalling.{rested_rests}
@@ -23,7 +23,7 @@ use Rattle.replica.specs.Saying.{Says}
 use Rattle.replica.specs.Transferring.{IsRestedAt, AsksPlace}
 use Rattle.replica.proofs.Asking.{asks}
 
--- ---- what stays as the next part is sought
+-- ---- what stays while the next part is sought
 
 asking_number : (place : Option Place) (t : TransferData) → (asking place t).number ≡ t.number
 asking_number None t = refl
@@ -50,12 +50,12 @@ pub asked_long : (st : State) (n m : OpenData) (place : Option Place) → AsksPl
 asked_long st n m place (rested, rests, next, m_is, all) =
     ap (λ (x : OpenData). length x.transfer.held) m_is ∙ ap length (asking_held place rested.transfer) ∙ rested_long st n rested rests all.0
 
--- The transfer n is at the desk, and may ask on; so far the event fits with this one open.
+-- The transfer n is at the desk, and may ask on. Up to here the event fits with this one open.
 module _ (c : Configuration) (s : Start) (o : OrdererData) (d : DeskData) (desk : Desk) (w : WaitingData) (n : OpenData) (outs : List Output)
     (there : d.transfer ≡ Some n) (is : IsDeskOf c d desk) (open_one : Option TransferData) (f : FitsEvent c o.endpoint.me s o (record desk { transfer = open_one }) w [] outs)
-    (may : MayAsk c o.endpoint.me n.transfer desk.state.number (behind s (given o.endpoint.me outs))) (told : IsTold n.transfer) (none : NoneAsked (behind s (given o.endpoint.me outs))) where
+    (may : MayAsk c o.endpoint.me n.transfer desk.state.number (after_outputs s (given o.endpoint.me outs))) (told : IsTold n.transfer) (none : NoneAsked (after_outputs s (given o.endpoint.me outs))) where
   abbrev past : List Entry
-  past = behind s (given o.endpoint.me outs)
+  past = after_outputs s (given o.endpoint.me outs)
 
   -- rested, it may ask, and rests on the state
   rested_ask : (rested : OpenData) → IsRestedAt d.executed.state n rested → MayAsk c o.endpoint.me rested.transfer desk.state.number past
@@ -70,8 +70,8 @@ module _ (c : Configuration) (s : Start) (o : OrdererData) (d : DeskData) (desk 
   rested_open rested (inl (same, at)) fits = subst (λ (x : OpenData). FitsOpen c o.endpoint.me (Some x.transfer) desk.state.number past) (sym at) fits
   rested_open rested (inr (rests, at)) fits = (pages_rested c o.endpoint.me (pages_of d.executed.state) n.transfer rested.transfer desk.state.number past rests).0 fits
 
-  rested_on : (rested : OpenData) → IsRestedAt d.executed.state n rested → RestsOn rested.transfer d.executed.state
-  rested_on rested (inl (same, at)) = subst (λ (x : OpenData). RestsOn x.transfer d.executed.state) (sym at) ((is.rests n there).1 same)
+  rested_on : (rested : OpenData) → IsRestedAt d.executed.state n rested → RestsOnState rested.transfer d.executed.state
+  rested_on rested (inl (same, at)) = subst (λ (x : OpenData). RestsOnState x.transfer d.executed.state) (sym at) ((is.rests n there).1 same)
   rested_on rested (inr (rests, at)) = rested_rests n.transfer rested.transfer d.executed.state rests
 
   rested_held : (rested : OpenData) → IsRestedAt d.executed.state n rested → length n.transfer.held ≡ 1024 → length rested.transfer.held ≡ 1024
@@ -83,7 +83,7 @@ module _ (c : Configuration) (s : Start) (o : OrdererData) (d : DeskData) (desk 
   rested_at rested (inr (rests, at)) = at
 
   -- the desk with a transfer that rests on its state
-  desk_with : (m : OpenData) → m.rests_at ≡ d.executed.state.number → RestsOn m.transfer d.executed.state → IsDeskOf c (with_transfer m d) (record desk { transfer = Some m.transfer })
+  desk_with : (m : OpenData) → m.rests_at ≡ d.executed.state.number → RestsOnState m.transfer d.executed.state → IsDeskOf c (with_transfer m d) (record desk { transfer = Some m.transfer })
   desk_with m at rests = record {
     members_are = is.members_are;
     period_is = is.period_is;
@@ -105,18 +105,18 @@ module _ (c : Configuration) (s : Start) (o : OrdererData) (d : DeskData) (desk 
   asks_next m place after known (rested, rests, next, m_is, all) says =
       let at = ap (λ (x : OpenData). x.rests_at) m_is ∙ rested_at rested rests in
       let asking_on = may_ask_any c o.endpoint.me rested.transfer (Some place) desk.state.number past (rested_ask rested rests) in
-      let first = nexts_are_first c o.endpoint.me rested.transfer desk.state past place (rested_ask rested rests) (subst (λ (st : State). RestsOn rested.transfer st) (sym is.state) (rested_on rested rests)) (rested_held rested rests all.0) none (rested_told rested rests) (sym next) in (
-        desk_with m at (subst (λ (x : OpenData). RestsOn x.transfer d.executed.state) (sym m_is) (rested_on rested rests)),
+      let first = nexts_are_first c o.endpoint.me rested.transfer desk.state past place (rested_ask rested rests) (subst (λ (st : State). RestsOnState rested.transfer st) (sym is.state) (rested_on rested rests)) (rested_held rested rests all.0) none (rested_told rested rests) (sym next) in (
+        desk_with m at (subst (λ (x : OpenData). RestsOnState x.transfer d.executed.state) (sym m_is) (rested_on rested rests)),
         asks c s o (record desk { transfer = open_one }) w outs after m.transfer known says [] (subst (λ (x : OpenData). MayAsk c o.endpoint.me x.transfer desk.state.number past) (sym m_is) asking_on) (subst (λ (x : OpenData). AsksNext c o.endpoint.me x.transfer desk.state past) (sym m_is) (inl first)) f,
       )
 
   -- nothing differs any more: it rests on the state, and may ask; and if it fitted, it fits
   pub rests_now : (m : OpenData) → AsksPlace d.executed.state n m None
-      → IsDeskOf c (with_transfer m d) (record desk { transfer = Some m.transfer }) × MayAsk c o.endpoint.me m.transfer desk.state.number past × RestsOn m.transfer d.executed.state
+      → IsDeskOf c (with_transfer m d) (record desk { transfer = Some m.transfer }) × MayAsk c o.endpoint.me m.transfer desk.state.number past × RestsOnState m.transfer d.executed.state
       × (FitsOpen c o.endpoint.me (Some n.transfer) desk.state.number past → FitsEvent c o.endpoint.me s o (record desk { transfer = Some m.transfer }) w [] outs)
   rests_now m (rested, rests, next, m_is, all) =
       let at = ap (λ (x : OpenData). x.rests_at) m_is ∙ rested_at rested rests in
-      let on = subst (λ (x : OpenData). RestsOn x.transfer d.executed.state) (sym m_is) (rested_on rested rests) in (
+      let on = subst (λ (x : OpenData). RestsOnState x.transfer d.executed.state) (sym m_is) (rested_on rested rests) in (
         desk_with m at on,
         subst (λ (x : OpenData). MayAsk c o.endpoint.me x.transfer desk.state.number past) (sym m_is) (rested_ask rested rests),
         on,

@@ -1,4 +1,4 @@
--- Where a replica begins.
+-- A new replica fits the empty history.
 use Rattle.std.proofs.Common.{◌≡◌, ℕ, ◌+◌, ◌*◌, ◌<◌, ◌≤◌, [], true, false, Some, None, refl, sym, ap, arith}
 use Rattle.ordering.specs.Log.{new_log}
 use Rattle.protocol.specs.System.Configuration.{Configuration, IsConfiguration, span}
@@ -16,7 +16,7 @@ use Rattle.replica.specs.Joined.{Fits}
 none_some : {A : Type 0} (x : A) → None ≡ Some x → ⊥
 none_some x e = absurd cc
 
--- a replica that begins
+-- a new replica
 module _ (c : Configuration) (me : ℕ) (valid : IsConfiguration c) (mine : me < 3 * c.faults + 1) where
   few : span c ≤ 32
   few = let most = valid.period_most in omega (arith, most)

@@ -1,4 +1,4 @@
--- What waits, with the flags that say which of it has numbers: they stay those of the history.
+-- The waiting requests, with the flags that say which of them have numbers: the flags stay those of the history.
 use Rattle.std.proofs.Common.{◌≡◌, ◌≢◌, ℕ, zero, suc, ◌+◌, Bool, true, false, cond, not, ◌==◌, ◌||◌, ◌&&◌, nat_lt, List, [], ◌∷◌, ◌++◌, length, map, filter, take, drop, Some, refl, sym, ap, ◌∙◌, subst, AllPairs}
 use Rattle.std.proofs.lemmas.List.{take-append-drop, take_at}
 use Rattle.std.specs.Prelude.{Vec}
@@ -30,7 +30,7 @@ use Rattle.replica.specs.Flags.{begun_of, flagged, FitsFlags}
 
 -- ---- the calls, with the flags of their requests
 
--- of those that are kept
+-- of the kept ones
 flagged_kept : (c : Configuration) (p : WaitingRequest → Bool) (q : Call → Bool) → ((r : WaitingRequest) (x : Call) → IsCallOf c r x → p r ≡ q x) → (rs : List WaitingRequest) (calls : List Call) → AreCallsOf c rs calls
     → flagged (filter p rs) (filter q calls) ≡ filter (λ w. q w.call) (flagged rs calls)
 flagged_kept c p q same [] [] h = refl
@@ -67,7 +67,7 @@ flagged_with c [] (y ∷ calls) r x h = absurd h
 flagged_with c (t ∷ rs) [] r x h = absurd h
 flagged_with c (t ∷ rs) (y ∷ calls) r x h = ap (λ (ws : List Waiting). record { call = y; numbered = t.numbered } ∷ ws) (flagged_with c rs calls r x h.1)
 
--- where the first ones get numbers
+-- if the first ones get numbers
 flagged_numbered : (c : Configuration) (n : ℕ) (rs : List WaitingRequest) (calls : List Call) → AreCallsOf c rs calls → flagged (all_numbered n rs) calls ≡ numbers.with_numbered n (flagged rs calls)
 flagged_numbered c n [] [] h = refl
 flagged_numbered c n [] (x ∷ calls) h = absurd h
@@ -81,7 +81,7 @@ flagged_numbered c (suc n) (r ∷ rs) (x ∷ calls) h = go r.numbered refl (flag
     go true e many fewer = ap (λ (ws : List Waiting). record { call = x; numbered = r.numbered } ∷ ws) many
     go false e many fewer = ap (λ (ws : List Waiting). record { call = x; numbered = true } ∷ ws) fewer
 
--- where a view begins
+-- if a view begins
 begun_same : (begun : List BegunCall) (client timestamp : ℕ) → list_any (λ b. (b.client == client) && (b.timestamp == timestamp)) (begun_of begun) ≡ is_begun begun client timestamp
 begun_same [] client timestamp = refl
 begun_same (b ∷ begun) client timestamp = ap (λ t. ((b.client.number == client) && (b.timestamp.0 == timestamp)) || t) (begun_same begun client timestamp)
@@ -223,7 +223,7 @@ flags_begun c me w begun st calls past e new h enters none differ is =
     (subst (λ (bs : List HistoryCall). FitsNumbers c me new.view (new.start + length new.batches) bs (map (arrived bs) calls) st calls (e ∷ past)) (sym is)
     (views_begin c me st calls past e new enters none differ))
 
--- nothing is owed of numbers
+-- the replica owes no numbers
 pub flags_given : (c : Configuration) (me v used : ℕ) (w : WaitingData) (st : State) (calls : List Call) (history : List Entry) → AreCallsOf c w.requests calls → FitsFlags c me v used w st calls history
     → (IsNextFree c me history used st.number → count_unnumbered w ≡ 0) → (i : ℕ) (call : Call) → Has (λ x. x ≡ call) calls → IsFree c me history st.number v i → IsNumbered c me history v call.client call.timestamp
 flags_given c me v used w st calls history h f all =

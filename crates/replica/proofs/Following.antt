@@ -1,4 +1,4 @@
--- A transfer is aimed at a checkpoint that a quorum said.
+-- The replica starts a transfer to a quorum's checkpoint.
 use Rattle.std.proofs.Common.{◌≡◌, ◌≤◌, ◌<◌, ◌+◌, ◌*◌, ℕ, List, ◌∷◌, Option, Some, None, refl, sym, ap, ◌∙◌, subst, option_map, arith}
 use Rattle.std.specs.Option.{ForSome}
 use Rattle.terms.specs.declared.state.Level.TheVariants as levels
@@ -10,7 +10,7 @@ use Rattle.protocol.specs.System.Configuration.{Configuration, members}
 use Rattle.protocol.specs.Replica.State.{State, pages_of}
 use Rattle.protocol.proofs.Words.Options.{some_injective}
 use Rattle.replica_histories.specs.Desk.{Desk}
-use Rattle.replica_histories.specs.Events.{Start, behind}
+use Rattle.replica_histories.specs.Events.{Start, after_outputs}
 use Rattle.replica_histories.specs.Transfers.{MayAsk, AsksNext, open_number, transfer_to}
 use Rattle.replica_histories.proofs.Fetching.{quorums_may_ask}
 use Rattle.replica_histories.proofs.TransfersInstalling.{started_rests}
@@ -21,9 +21,9 @@ use Rattle.replica.specs.Fetching.{aimed_at, aiming, fetch_of, opened}
 use Rattle.replica.specs.Saying.{Says}
 use Rattle.replica.proofs.Asking.{asks_due}
 
--- ---- what is open then
+-- ---- the open transfer
 
--- the transfer that a desk has then
+-- the transfer that the desk has then
 abbrev pub aim_of : CheckpointEntry → DeskData → OpenData
 aim_of entry d = opened d.executed.state d.transfer entry
 
@@ -37,7 +37,7 @@ opened_same : (st : State) (open_one : Option OpenData) (entry : CheckpointEntry
 opened_same st None entry = refl
 opened_same st (Some o) entry = refl
 
--- What was not fetched is of the state still.
+-- The pages that were not fetched are still the state's.
 opened_rests : (st : State) (open_one : Option OpenData) (entry : CheckpointEntry) → ForSome open_one (RestsAt st) → RestsAt st (opened st open_one entry)
 opened_rests st None entry rests = ((omega arith), λ same. started_rests entry.number entry.digest st)
 opened_rests st (Some o) entry rests = rests o refl
@@ -46,7 +46,7 @@ aimed_same : (number : ℕ) (open_one : Option OpenData) → open_number number 
 aimed_same number None = refl
 aimed_same number (Some o) = refl
 
--- the number that a history's desk is aimed at
+-- the number above which a history's desk fetches
 pub aimed_is : (c : Configuration) (d : DeskData) (desk : Desk) → IsDeskOf c d desk → open_number desk.state.number desk.transfer ≡ aimed_at d
 aimed_is c d desk is =
     ap (λ (st : State). open_number st.number desk.transfer) is.state
@@ -70,15 +70,15 @@ module _ (c : Configuration) (s : Start) (o : OrdererData) (d : DeskData) (desk 
   }
 
   may_ask : (due : List Message) → 2 * o.log.faults + 1 ≤ logs.count_checkpoints o.log entry → o.log.low < entry.number → aimed_at d < entry.number → FitsEvent c o.endpoint.me s o desk w due before
-      → MayAsk c o.endpoint.me (aim_of entry d).transfer desk.state.number (behind s (given o.endpoint.me before))
-      × AsksNext c o.endpoint.me (aim_of entry d).transfer desk.state (behind s (given o.endpoint.me before))
+      → MayAsk c o.endpoint.me (aim_of entry d).transfer desk.state.number (after_outputs s (given o.endpoint.me before))
+      × AsksNext c o.endpoint.me (aim_of entry d).transfer desk.state (after_outputs s (given o.endpoint.me before))
   may_ask due enough over ahead f =
-      subst (λ (t : TransferData). MayAsk c o.endpoint.me t desk.state.number (behind s (given o.endpoint.me before)) × AsksNext c o.endpoint.me t desk.state (behind s (given o.endpoint.me before)))
+      subst (λ (t : TransferData). MayAsk c o.endpoint.me t desk.state.number (after_outputs s (given o.endpoint.me before)) × AsksNext c o.endpoint.me t desk.state (after_outputs s (given o.endpoint.me before)))
       (ap (λ (t : Option TransferData). transfer_to t entry.number entry.digest (pages_of d.executed.state)) is.transfer ∙ opened_same d.executed.state d.transfer entry)
       (quorums_may_ask c o.endpoint.me s desk o.log due (given o.endpoint.me before) entry (pages_of d.executed.state) enough over
       (subst (λ (n : ℕ). n < entry.number) (sym (aimed_is c d desk is)) ahead) f.fits)
 
-  -- The fetch that is due is said, and the transfer is open behind it.
+  -- The due fetch is sent, and the transfer is open after it.
   pub aims : (rest : List Message) → members c ≡ o.endpoint.membership → 2 * o.log.faults + 1 ≤ logs.count_checkpoints o.log entry → o.log.low < entry.number → aimed_at d < entry.number
       → Says o (Fetch entry.number levels.Root 0) before after → FitsEvent c o.endpoint.me s o desk w (Fetch entry.number levels.Root 0 ∷ rest) before
       → FitsEvent c o.endpoint.me s o (record desk { transfer = Some (aim_of entry d).transfer }) w rest after

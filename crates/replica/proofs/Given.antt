@@ -1,4 +1,4 @@
--- What an event gave, with one output more.
+-- The outputs of an event, with one more.
 use Rattle.std.proofs.Common.{◌≡◌, ℕ, List, [], ◌∷◌, ◌++◌, map, reverse, ap, ◌∙◌}
 use Rattle.std.proofs.lemmas.List.{map-append, reverse-append}
 use Rattle.events.specs.declared.output.Output.{Output}
@@ -12,7 +12,7 @@ pub given_one : (me : ℕ) (outs more : List Output) (o : Output) → more ≡ o
 given_one me outs more o same =
     ap (given me) same ∙ ap reverse (map-append (entry_of me) outs (o ∷ [])) ∙ reverse-append (map (entry_of me) outs) (entry_of me o ∷ [])
 
--- One output more was given, of this entry. If it is a frame, it goes to the parties for whom it is.
+-- The event has one output more, of this entry. If it is a frame, it goes to the parties for whom it is.
 pub record GivesOne (c : Configuration) (me : ℕ) (before after : List Output) (e : Entry) : Type 0 where
   pub is : given me after ≡ e ∷ given me before
   pub meant : AreSentAsMeant c me before → AreSentAsMeant c me after

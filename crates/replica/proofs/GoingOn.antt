@@ -1,4 +1,4 @@
--- Votes that are said, and what is executed behind them.
+-- Votes that the replica sends, and the executions after them.
 use Rattle.std.proofs.Common.{◌≡◌, ◌≢◌, ℕ, Bool, true, false, List, [], refl, sym, ◌∙◌, subst, ◌==◌, eqb-true}
 use Rattle.std.proofs.lemmas.Bool.{eqb-false}
 use Rattle.events.specs.declared.output.Output.{Output}
@@ -11,7 +11,7 @@ use Rattle.replica.specs.Going.{Proceeds, ExecutesAll, GoesOnWith, GoesOn, IsVot
 use Rattle.replica.specs.Saying.{GoesAgain, SaysVotes}
 use Rattle.replica.proofs.Parties.{orderers_twice}
 
--- what the orderer says stands on the same desk
+-- what the orderer sends stands on the same desk
 pub said_stands : (a : JoinedData) (o : OrdererData) (x y : List Output) → AreOne a.orderer a.desk → GoesOn a.orderer x o y → Proceeds a x (record a { orderer = o }) y
 said_stands a o x y one goes c s known st = record {
   desk = st.desk;
@@ -20,7 +20,7 @@ said_stands a o x y one goes c s known st = record {
       (goes c s st.desk a.desk.waiting [] (known ∙ one.1) (subst (λ (m : ℕ). FitsEvent c m s a.orderer st.desk a.desk.waiting [] x) one.0 st.fits));
 }
 
--- what is said again, from the event's beginning on
+-- what the replica sends again, from the event's beginning on
 pub again_stands : (a : JoinedData) (y : List Output) → AreOne a.orderer a.desk → GoesAgain 0 a.orderer [] a.orderer y → (c : Configuration) (s : Start) → members c ≡ a.desk.membership → Stands c s a.orderer a.desk [] []
     → Stands c s a.orderer a.desk [] y
 again_stands a y one goes c s known st = record {
@@ -30,7 +30,7 @@ again_stands a y one goes c s known st = record {
       (goes c s st.desk a.desk.waiting (known ∙ one.1) tt (subst (λ (m : ℕ). FitsEvent c m s a.orderer st.desk a.desk.waiting [] []) one.0 st.fits));
 }
 
--- where it asks for votes of one number alone, and these are said, it asks for none
+-- if the log asks for votes of one number alone, and these are sent, it asks for none
 pub all_voted : (number : ℕ) (old new : LogData) → ((i : ℕ) → i ≢ number → IsVoted old i → IsVoted new i) → IsVoted new number → IsVotedBut number old → IsVotedAll new
 all_voted number old new others here but i = go (i == number) refl
   where

@@ -1,4 +1,4 @@
--- What is got or sent beside ordering is idle.
+-- Entries of frames that a replica gets or sends beside ordering are idle.
 use Rattle.std.proofs.Common.{◌≡◌, ℕ, inl, inr, Bool, true, false, cond, List, [], ◌∷◌, refl, ap, ◌∙◌, Option, Some, None}
 use Rattle.std.specs.Prelude.{option_and_then, not, ◌==◌, ◌&&◌, nat_lt}
 use Rattle.std.specs.Option.{option_map_or}
@@ -19,7 +19,7 @@ use Rattle.replica.specs.Idle.{IsQuiet, IsIdle, LeavesOut}
 use Rattle.replica.proofs.ReadMarks.{marked_are_requests, marked_are_replies}
 use Rattle.replica.specs.Idle.LeavesOut.{none, both, beside}
 
--- what quiet messages give
+-- quiet messages bring nothing that counts
 module _ (c : Configuration) (me sender : ℕ) where
   no_view : (m : Message) → IsQuiet m → new_view_from c (record { sender = sender; message = m }) ≡ None
   no_view (Request t mode op) h = refl
@@ -162,7 +162,7 @@ parted c me (e ∷ past) = go (is_beside e) refl (parted c me past)
     go true is p = beside e (without_reads past) past (beside_idle c me e is) p
     go false is p = both e (without_reads past) past p
 
--- ---- what happened once
+-- ---- entries that happened once
 
 pub once_over : (c : Configuration) (me : ℕ) (P : List Entry → Entry → Type 0) → ((e : Entry) (g h : List Entry) → LeavesOut c me g h → P g e → P h e) → (g h : List Entry) → LeavesOut c me g h → Once P g → Once P h
 once_over c me P over _ _ none k = k

@@ -1,4 +1,4 @@
--- The state that was fetched is installed.
+-- The replica installs the fetched state.
 use Rattle.std.proofs.Common.{◌≡◌, ◌≢◌, ℕ, ◌<◌, ◌^◌, true, List, [], ◌∷◌, Option, Some, None, refl, sym, ap, ◌∙◌, subst, ◌≤◌, arith}
 use Rattle.std.proofs.lemmas.List.Kept.{AllPairs-filter}
 use Rattle.terms.specs.declared.order.Number.{Number}
@@ -18,10 +18,10 @@ use Rattle.protocol.specs.System.Trace.Entry.{Installed}
 use Rattle.protocol.specs.Replica.State.{State}
 use Rattle.replica_histories.specs.Desk.{Desk, Snapshot, snapshot_of, kept_from}
 use Rattle.replica_histories.specs.Events as events
-use Rattle.replica_histories.specs.Events.{Start, behind}
+use Rattle.replica_histories.specs.Events.{Start, after_outputs}
 use Rattle.replica_histories.specs.Changes.{CutsClaims}
 use Rattle.replica_histories.specs.Outputs.{installed_desk}
-use Rattle.replica_histories.specs.Transfers.{MayAsk, RestsOn}
+use Rattle.replica_histories.specs.Transfers.{MayAsk, RestsOnState}
 use Rattle.replica_histories.proofs.Cutting.{cut_low}
 use Rattle.replica_histories.proofs.Installing.{installations_fit}
 use Rattle.replica_histories.proofs.ChangesKept.{silent_keep}
@@ -44,18 +44,18 @@ use Rattle.replica.proofs.Newest.{below_next, kept_alone}
 use Rattle.replica.proofs.Flags.{flags_forgotten}
 use Rattle.replica.proofs.Staying.{changes_cut, fits_behind, installed_beside, numbers_alike, numbers_beside}
 
--- All that the transfer holds has the root that is wanted, it rests on the executed state, and may ask; so far the event
--- fits with this one open.
+-- All held pages have the wanted root. The transfer rests on the executed state, and may ask. Up to here the event fits
+-- with this one open.
 pub record IsFetched (c : Configuration) (s : Start) (a : JoinedData) (desk : Desk) (m : OpenData) (before : List Output) : Type 0 where
   pub is_open : a.desk.transfer ≡ Some m
   pub is : IsDeskOf c a.desk desk
   pub open_one : Option TransferData
   pub fits : FitsEvent c (me_of a) s a.orderer (record desk { transfer = open_one }) a.desk.waiting [] before
-  pub may : MayAsk c (me_of a) m.transfer desk.state.number (behind s (given (me_of a) before))
-  pub rests : RestsOn m.transfer a.desk.executed.state
+  pub may : MayAsk c (me_of a) m.transfer desk.state.number (after_outputs s (given (me_of a) before))
+  pub rests : RestsOnState m.transfer a.desk.executed.state
   pub root : root_of_pages m.transfer.held ≡ m.transfer.root
 
--- the desk with the state installed, the kept states from a low mark on
+-- the desk with the installed state, and the kept states from a low mark on
 abbrev with_state : State → ℕ → DeskData → DeskData
 with_state st low d = record d {
   executed = record d.executed { state = st };
@@ -67,7 +67,7 @@ with_state st low d = record d {
 none_some : (x : OpenData) (P : Type 0) → None ≡ Some x → P
 none_some x P e = absurd cc
 
--- ---- what an installation leaves
+-- ---- after an installation
 
 -- the orderer with its log cut, and these claims
 abbrev cut_orderer : ℕ → ClaimsData → OrdererData → OrdererData
@@ -95,7 +95,7 @@ module _ (c : Configuration) (s : Start) (a : JoinedData) (desk : Desk) (m : Ope
   me = a.orderer.endpoint.me
 
   abbrev past : List Entry
-  past = behind s (given me before)
+  past = after_outputs s (given me before)
 
   abbrev e : Entry
   e = Installed me m.transfer.number m.transfer.root
@@ -118,8 +118,8 @@ module _ (c : Configuration) (s : Start) (a : JoinedData) (desk : Desk) (m : Ope
   low_is : cut.low ≡ st.number
   low_is = cut_low a.orderer.log m.transfer.number (reached_asking c me a.orderer.log.low desk.state.number m.transfer past g.fits.fits.low g.may) ∙ sym has.number
 
-  rests_here : RestsOn m.transfer desk.state
-  rests_here = subst (λ (x : State). RestsOn m.transfer x) (sym g.is.state) g.rests
+  rests_here : RestsOnState m.transfer desk.state
+  rests_here = subst (λ (x : State). RestsOnState m.transfer x) (sym g.is.state) g.rests
 
   falls_here : NoneFalls desk.state st
   falls_here = subst (λ (x : State). NoneFalls x st) (sym g.is.state) falls
@@ -141,7 +141,7 @@ module _ (c : Configuration) (s : Start) (a : JoinedData) (desk : Desk) (m : Ope
   installed_fits = fits_behind c me s a.orderer new open_desk later a.desk.waiting (forgotten st a.desk.waiting) [] [] before after e gives refl g.fits fitting numbering
       (changes_cut c me s a.orderer new open_desk later [] [] (given me before) e g.fits.fits fitting (silent_keep c me past e tt) (same_cut a.orderer.log m.transfer.number) cuts refl g.fits.changes)
 
-  -- what was kept before is below the low mark
+  -- the earlier kept states are below the low mark
   all_below : Each (λ x. x.number < cut.low) a.desk.snapshots
   all_below = below_next a.desk.executed.state.number cut.low a.desk.snapshots ahead below
     where
@@ -201,7 +201,7 @@ installed_party a n claims st low cuts = record {
   membership = refl;
 }
 
--- The number of what was fetched is reached.
+-- The fetched state's number is reached.
 pub number_reached : (a b : JoinedData) (m : OpenData) (before after : List Output) → a.desk.transfer ≡ Some m → InstallsFetched a before b after true → b.desk.executed.state.number ≡ m.transfer.number
 number_reached a b m before after there (d, number, root, installs, gives, moves) =
     let i = installs_so a b d m number root there installs moves in
@@ -213,7 +213,7 @@ moved_party a b m before after there (d, number, root, installs, gives, moves) =
     let i = installs_so a b d m number root there installs moves in
     subst (λ (r : JoinedData). IsSameParty a r) (sym i.new_is) (installed_party a m.transfer.number i.claims d.executed.state (logs.cut_to a.orderer.log m.transfer.number).low i.cuts)
 
--- What was fetched is installed.
+-- The replica installs the fetched state.
 pub installs_fetched : (c : Configuration) (s : Start) (a b : JoinedData) (desk : Desk) (m : OpenData) (before after : List Output) → AreOne a.orderer a.desk → IsFetched c s a desk m before → IsVotedAll a.orderer.log
     → InstallsFetched a before b after true → Stands c s b.orderer b.desk [] after × IsVotedAll b.orderer.log
 installs_fetched c s a b desk m before after one g voted (d, number, root, installs, gives, moves) =

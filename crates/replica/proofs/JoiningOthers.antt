@@ -1,4 +1,4 @@
--- The view that others move a replica to.
+-- The view to which others move a replica.
 use Rattle.std.proofs.Common.{◌≡◌, ℕ, ◌≤◌, ◌<◌, length, inl, inr, Bool, true, false, not, ◌&&◌, ◌==◌, List, [], ◌∷◌, Option, Some, None, nat_lt, map, refl, ◌∙◌, subst}
 use Rattle.std.specs.Bool.{then_some}
 use Rattle.std.proofs.lemmas.Bool.{and_parts, ltb-true}
@@ -21,7 +21,7 @@ later_above me target view (Some h ∷ held) has = go (later_above me target vie
     go rest true is (inl same) = subst (λ (v : ℕ). target < v) same (ltb-true target h.change.view (and_parts (not (h.sender == me)) (nat_lt target h.change.view) is).1)
     go rest true is (inr has) = rest has
 
--- it is joined
+-- the replica joins it
 pub joined_by : (o : OrdererData) (me t v : ℕ) → IsOrderer o → AreReceived o.received → me ≡ o.log.me → t ≡ aimed_view o → IsJoined o.received.sizes.faults (later_views me t o.received.held) v → IsJoinedBy o v
 joined_by o me t v own are mine aimed joined = (
   are.each,
@@ -30,7 +30,7 @@ joined_by o me t v own are mine aimed joined = (
       (subst (λ (n : ℕ). IsJoined o.received.sizes.faults (later_views me n o.received.held) v) aimed joined)),
 )
 
--- or none is
+-- or it joins none
 pub joined_by_none : (o : OrdererData) (me t : ℕ) → IsOrderer o → AreReceived o.received → me ≡ o.log.me → t ≡ aimed_view o → length (later_views me t o.received.held) ≤ o.received.sizes.faults → IsJoinedByNone o
 joined_by_none o me t own are mine aimed few = (
   are.each,

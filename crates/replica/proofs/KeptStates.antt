@@ -1,4 +1,4 @@
--- The states that are kept, those of a number among them, and their parts.
+-- The kept states, the one of a number among them, and their parts.
 use Rattle.std.proofs.Common.{◌≡◌, ◌≢◌, ℕ, zero, suc, ◌<◌, ◌⊎◌, Bool, true, false, cond, inl, inr, ◌≤◌, List, [], ◌∷◌, length, map, filter, get_or, refl, sym, ap, ◌∙◌, subst, arith, nat_le}
 use Rattle.std.specs.Prelude.{slice_index_or}
 use Rattle.terms.specs.declared.state.Level.{Level}
@@ -11,7 +11,7 @@ use Rattle.partition_tree.specs.Levels.{children_of}
 use Rattle.execution.proofs.Measuring.{pages_are_short}
 use Rattle.execution.proofs.Renewing.{page_there}
 use Rattle.protocol.specs.System.Trace.{Has}
-use Rattle.protocol.specs.Replica.State.{State, IsState, pages_of}
+use Rattle.protocol.specs.Replica.State.{State, IsReplicatedState, pages_of}
 use Rattle.replica_histories.specs.Desk.{Snapshot, kept_from}
 use Rattle.replica_histories.specs.TransfersAnswers.{answer_by}
 use Rattle.replica.specs.declared.snapshots.KeptState.{KeptState}
@@ -42,7 +42,7 @@ pub none_kept : (n : ℕ) (xs : List KeptState) → AreOthers n xs → Each (λ 
 none_kept n [] h = tt
 none_kept n (x ∷ xs) h = (h.0, none_kept n xs h.1)
 
--- ---- the part that is asked for
+-- ---- the requested part
 
 pub digests_answer : (pages : List (List ℕ)) (k : ℕ) (level : Level) (index at : ℕ) (digests : List (List ℕ)) → (level ≡ levels.Root) ⊎ (level ≡ levels.Inner) → at ≡ index → digests ≡ children_of pages level at
     → Meta k level index digests ≡ answer_by pages k level index
@@ -58,10 +58,10 @@ page_answer pages k level index at text is same text_is =
 
 -- ---- the lengths of pages
 
-pub pages_short : (st : State) → IsState st → HaveShortPages (pages_of st)
+pub pages_short : (st : State) → IsReplicatedState st → HaveShortPages (pages_of st)
 pages_short st is i below = subst (λ (text : List ℕ). length text ≤ 66176) (sym (page_there st i below)) (pages_are_short st i is)
 
--- a page that is short fits a frame
+-- a short page fits a frame
 pub page_fits : (pages : List (List ℕ)) (m : Message) (k : ℕ) (level : Level) (index at : ℕ) (text : List ℕ) → HaveShortPages pages → m ≡ Page k index text → level ≡ levels.Page → index ≤ last_index level
     → at ≡ index → text ≡ slice_index_or pages at [] → FitsFrame m
 page_fits pages m k level index at text short says is within same text_is =

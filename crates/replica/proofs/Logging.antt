@@ -1,4 +1,4 @@
--- What is kept for view changes to come.
+-- What the replica keeps for later view changes.
 use Rattle.std.proofs.Common.{◌≡◌, ℕ, List, ◌∷◌, ap, ◌∙◌, subst}
 use Rattle.wire.specs.Lists.{Each}
 use Rattle.ordering.specs.Log.{with_batch}

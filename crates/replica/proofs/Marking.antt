@@ -5,7 +5,7 @@ use Rattle.replica.specs.Claiming.{CutsLog}
 use Rattle.replica.specs.Desking.{desk_above}
 use Rattle.replica.specs.Marking.{MovesMarks}
 
--- first the orderer's, and then the desk's to the low mark that the orderer has then
+-- the orderer's move first, and then the desk's, to the low mark that the orderer has then
 pub moves_so : (low at : ℕ) (old mid new : JoinedData) (o : OrdererData) (desk : DeskData) → CutsLog low old.orderer o → mid ≡ record old { orderer = o } → at ≡ mid.orderer.log.low
     → desk ≡ desk_above at mid.desk → new ≡ record mid { desk = desk } → MovesMarks low old new
 moves_so low at old mid new o desk cuts mid_is at_is desk_is new_is = (

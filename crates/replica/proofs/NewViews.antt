@@ -1,4 +1,4 @@
--- New views that are said again, and texts that are batches.
+-- New views that the replica sends again, and texts that are batches.
 use Rattle.std.proofs.Common.{◌≡◌, ℕ, ◌⊎◌, inl, inr, true, false, List, [], ◌∷◌, ◌++◌, length, map, Vec, Option, Some, None, Result, Ok, Err, IfOk, IfSome, IfNone, MatchOption, refl, sym, ap, ◌∙◌, subst, append_assoc, arith}
 use Rattle.std.specs.Arc.{arc_value}
 use Rattle.std.specs.Option.{option_map_or}
@@ -27,7 +27,7 @@ use Rattle.protocol.specs.System.Trace.Entry.{Sent}
 use Rattle.protocol.specs.Replica.Certificates.{view}
 use Rattle.protocol.specs.Replica.Selection.{may_select}
 use Rattle.protocol.proofs.Words.Options.{some_injective}
-use Rattle.replica_histories.specs.Events.{behind}
+use Rattle.replica_histories.specs.Events.{after_outputs}
 use Rattle.replica_histories.specs.Numbers.{is_pre_prepare}
 use Rattle.replica_histories.specs.Changes.{KeepsChanges, IsOwnView}
 use Rattle.replica_histories.proofs.Changing.{new_views_go_again}
@@ -47,7 +47,7 @@ use Rattle.replica.proofs.Staying.{IsBeside, fits_on}
 pub no_view_again : (o : OrdererData) (outs : List Output) → o.new_view ≡ None → SaysAlso 0 1 PostsNewView o outs o outs
 no_view_again o outs none = (nothing_again 0 1 o outs (omega arith), λ frame is. absurd (let bad : None ≡ Some frame = sym none ∙ is in cc))
 
--- a new view of the own view is taken no more
+-- the replica takes no second new view of its view
 module _ (c : Configuration) (me v : ℕ) (past : List Entry) (frame : List ℕ) (own : IsOwnView c me v past frame) (here : view c past ≡ v) where
   keeps_all : KeepsChanges c me past (Sent me frame)
   keeps_all = sent_keep c me past (NewView own.new) frame own.posted.says (let a = own.view in let b = here in omega (arith, a, b)) (λ signed. own.sent)
@@ -64,7 +64,7 @@ view_again frame o before after there says = (
   record {
     goes = λ active c s desk w known below f.
         let me : ℕ = o.endpoint.me in
-        let past : List Entry = behind s (given me before) in
+        let past : List Entry = after_outputs s (given me before) in
         let own : IsOwnView c me o.log.view past frame = f.changes.own_view frame there in
         let is : GivesOne c me before after (Sent me frame) =
         gives_one c me before after says.output (Sent me frame) says.given_is says.sends.sends (says.sends.meant c (NewView own.new) known own.posted) in (
@@ -107,7 +107,7 @@ is_selection N o (Err e) inactive primary h = h
 is_selection N o (Ok None) inactive primary h = tt
 is_selection N o (Ok (Some s)) inactive primary h = record { inactive = inactive; primary = primary; meets = h.meets; from = h.from }
 
--- over what is held
+-- over the stored view changes
 pub held_selects : {E : Type 0} (N : Type 0) (o : OrdererData) (r : Result (Option Selection) E) (sizes : Sizes) (set : List (ℕ × ViewChangeData)) (texts : List (List ℕ)) → o.log.active ≡ false → logs.primary o.log o.target ≡ o.log.me
     → sizes ≡ o.received.sizes → set ≡ pairs_for o.target o.received.held → texts ≡ o.claims.texts → IfOk r (SelectsSome N sizes o.target set texts)
     → IfOk r (λ x. IfSome x (λ s. IsSelection o s.start.0 s.root (texts_of s.batches.items)))
@@ -117,7 +117,7 @@ held_selects N o r sizes set texts inactive primary size_is set_is texts_are h =
     (subst (λ (xs : List (ℕ × ViewChangeData)). IfOk r (SelectsSome N o.received.sizes o.target xs texts)) set_is
     (subst (λ (x : Sizes). IfOk r (SelectsSome N x o.target set texts)) size_is h)))
 
--- or nothing is
+-- or none exists
 no_selection : {E : Type 0} (o : OrdererData) (r : Result (Option Selection) E) → map sha256 o.claims.texts ≡ digests_of o.claims.logged
     → IfOk r (SelectsSome (NothingSelects (sized o.received.sizes) o.target (pairs_for o.target o.received.held) o.claims.texts) o.received.sizes o.target (pairs_for o.target o.received.held) o.claims.texts)
     → IfOk r (λ x. IfNone x (HasNoSelection o))

@@ -1,4 +1,4 @@
--- A new view that comes: it is refused, and nothing changes, or the replica enters its view.
+-- A new view arrives. The replica refuses it, and nothing changes, or enters its view.
 use Rattle.std.proofs.Common.{◌≡◌, ◌≢◌, ℕ, ◌≤◌, ◌<◌, ◌^◌, inl, Bool, true, false, ◌&&◌, ◌==◌, List, [], length, Option, Some, None, refl, sym, ap, ◌∙◌, subst, arith}
 use Rattle.std.specs.Prelude.{option_and_then}
 use Rattle.std.specs.Bool.{then_some}
@@ -48,9 +48,9 @@ use Rattle.replica.proofs.Staying.{numbers_beside, said_on}
 use Rattle.replica.proofs.Choosing.{active_begins_none}
 use Rattle.replica.proofs.ViewsEntered.{Entered, entered, entered_active, entered_party, entered_stands, entered_votes, start_in}
 
--- ---- which new views are taken
+-- ---- which new views the replica takes
 
--- what is not refused starts at a number, with few batches
+-- a new view that is not refused starts at a number, with few batches
 pub right_views_are_small : NewViewsAreJudged → (r : ReceivedState) (v t sender : ℕ) (new : NewViewData) → refusal (configuration_of r) v t sender new ≡ None → (new.start < 2 ^ 48) × (length new.batches ≤ 32)
 right_views_are_small judge r v t sender new h =
     let selected = (and_parts (sender == primary (configuration_of r) new.view) (may_select (configuration_of r) new) ((judge (configuration_of r) v t sender new).0 h).0).1 in
@@ -58,7 +58,7 @@ right_views_are_small judge r v t sender new h =
     let short = r.sizes.short in
     (start_small (configuration_of r) new selected, omega (arith, few, short))
 
--- of what is heard, what is taken is what is not refused
+-- the replica takes exactly the received new views that it does not refuse
 module _ (judge : NewViewsAreJudged) (c : Configuration) (me sender : ℕ) (past : List Entry) (new : NewViewData) (bytes : List ℕ) (hears : heard (members c) me bytes ≡ Some (record { sender = sender; message = NewView new })) where
   abbrev Later : NewViewData → Bool
   Later x = is_later (view c past) (target past) x
@@ -79,7 +79,7 @@ module _ (judge : NewViewsAreJudged) (c : Configuration) (me sender : ℕ) (past
       go true false p q = ap (λ (b : Bool). then_some b new) q
       go true true p q = absurd (refused ((judge c (view c past) (target past) sender new).1 (p, q)))
 
--- ---- it comes
+-- ---- it arrives
 
 module _ (judge : NewViewsAreJudged) (decide : SizesDecide) (r : JoinedData) (one : AreOne r.orderer r.desk) (own : IsOrderer r.orderer) (sender : ℕ) (new : NewViewData) (bytes : List ℕ)
     (h : heard r.desk.membership r.desk.me bytes ≡ Some (record { sender = sender; message = NewView new })) where
@@ -110,11 +110,11 @@ module _ (judge : NewViewsAreJudged) (decide : SizesDecide) (r : JoinedData) (on
         period = runs.is_desk.period_is ∙ sym one.2;
       }
 
-  -- nothing of a state is asked for
+  -- it asks for no part of a state
   asks_no_part : (c : Configuration) → members c ≡ r.desk.membership → has_question (heard (members c) me bytes) ≡ false
   asks_no_part c known = ap has_question (hears c known)
 
-  -- ---- it is refused
+  -- ---- the replica refuses it
 
   module _ (c : Configuration) (past : List Entry) (runs : Runs c r past) (known : members c ≡ r.desk.membership) (free : taken c past e ≡ None) where
     enters : histories.Fits c me (event_of c r past runs bytes) runs.desk r.orderer.log [] []
@@ -157,7 +157,7 @@ module _ (judge : NewViewsAreJudged) (decide : SizesDecide) (r : JoinedData) (on
     );
   }
 
-  -- ---- it is taken
+  -- ---- the replica takes it
 
   module _ (clients : r.desk.executed.clients ≡ r.desk.membership.clients) (n : JoinedData) (outs : List Output) (x : Entered new None r [] n outs) (c : Configuration) (past : List Entry) (runs : Runs c r past)
       (known : members c ≡ r.desk.membership) (t : taken c past e ≡ Some new) where
@@ -200,7 +200,7 @@ module _ (judge : NewViewsAreJudged) (decide : SizesDecide) (r : JoinedData) (on
 
 -- ---- the function's own words
 
--- what is entered by the selection in the new view
+-- the replica enters with the selection in the new view
 pub enters_with : (new : NewViewData) (start : ℕ) (root : List ℕ) (texts : List (List ℕ)) (r n : JoinedData) (before after : List Output) → start ≡ new.start → root ≡ new.root → texts ≡ new.batches → before ≡ []
     → Enters new.view (record { number = start; digest = root }) texts None r before n after → Enters new.view (start_in new) new.batches None r [] n after
 enters_with new start root texts r n before after start_is root_is texts_are none x =

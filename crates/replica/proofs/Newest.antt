@@ -1,4 +1,4 @@
--- The states that are kept are few, in order, and none is given up for want of room.
+-- The kept states are few, in order, and none is dropped for lack of room.
 use Rattle.std.proofs.Common.{◌≡◌, ℕ, suc, ◌+◌, ◌*◌, ◌^◌, ◌%◌, ◌/◌, ◌<◌, ◌≤◌, Bool, true, false, cond, List, [], ◌∷◌, length, Some, refl, sym, ap, ◌∙◌, subst, arith, nat_le, nat_lt, eqb-true, ◌==◌, ◌&&◌, IsTrue}
 use Rattle.std.proofs.Math.Nat.{div-add-mod, lt_of_mul-lt-mul_left, mul-le-mul_left, mul-suc}
 use Rattle.std.proofs.lemmas.Bool.{and_parts, leb-true, lt-leb, lt-ltb}
@@ -12,7 +12,7 @@ use Rattle.protocol.specs.System.Configuration.{Configuration}
 use Rattle.protocol.specs.Replica.State.{State}
 use Rattle.protocol.proofs.Words.Elements.{each_filtered}
 use Rattle.replica_histories.specs.Desk.{Snapshot, snapshot_of, kept_from}
-use Rattle.replica_histories.specs.Events.{Start, behind}
+use Rattle.replica_histories.specs.Events.{Start, after_outputs}
 use Rattle.replica_histories.specs.Views.{entries_of}
 use Rattle.replica_histories.proofs.Giving.{kept_are_above}
 use Rattle.replica_histories.proofs.Words.{passed}
@@ -21,7 +21,7 @@ use Rattle.replica.specs.Desks.{Stands, given}
 use Rattle.replica.specs.Desking.{MayKeep, is_due, snapshots_with}
 use Rattle.replica.specs.Keeping.{Descend, AreFew, AreDue, AreKept, newest_with}
 
--- ---- what is kept
+-- ---- the kept states
 
 -- a multiple of the period may stand first
 pub due_first : (period : ℕ) (x : Snapshot) (older : List Snapshot) → x.number % period ≡ 0 → AreDue period older → AreDue period (x ∷ older)
@@ -70,12 +70,12 @@ kept_on period number low xs h = record {
   due = due_from period low xs h.due;
 }
 
--- where the executed number grows
+-- if the executed number grows
 pub below_next : (number later : ℕ) (xs : List Snapshot) → number < later → Each (λ x. x.number ≤ number) xs → Each (λ x. x.number < later) xs
 below_next number later [] more h = tt
 below_next number later (x ∷ xs) more h = ((let l = h.0 in omega (arith, l, more)), below_next number later xs more h.1)
 
--- what is below the low mark goes
+-- those below the low mark are dropped
 pub kept_alone : (low : ℕ) (x : Snapshot) (older : List Snapshot) → Each (λ y. y.number < low) older → kept_from low (x ∷ older) ≡ kept_from low (x ∷ [])
 kept_alone low x older below = ap (λ (ys : List Snapshot). cond (nat_le low x.number) (x ∷ ys) ys) (none older below)
   where
@@ -92,7 +92,7 @@ listed_ascend (a ∷ b ∷ []) h = let l = lt-ltb b.number a.number h.descend.0.
 listed_ascend (a ∷ b ∷ d ∷ []) h = let l = lt-ltb b.number a.number h.descend.0.0 in let k = lt-ltb d.number b.number h.descend.1.0.0 in rw (k, l) refl
 listed_ascend (a ∷ b ∷ d ∷ e ∷ rest) h = absurd (let l = h.few in omega (arith, l))
 
--- ---- none is given up for want of room
+-- ---- none is dropped for lack of room
 
 -- two multiples of the period are a period apart
 multiples_apart : (period a b : ℕ) → a % period ≡ 0 → b % period ≡ 0 → a < b → a + period ≤ b
@@ -133,7 +133,7 @@ few_before low period number (x ∷ y ∷ z ∷ rest) within multiple above orde
     let two = multiples_apart period y.number x.number h.due.1.0 h.due.0 order.0.0 in
     absurd (omega (arith, one, two, least, last, within))
 
--- all are kept, where there is room
+-- all are kept, if there is room
 abbrev pub all_with : ℕ → State → List Snapshot → List Snapshot
 all_with period st snapshots = cond (st.number % period == 0) (snapshot_of st ∷ snapshots) snapshots
 
@@ -159,7 +159,7 @@ all_kept c s o d before text st is few next committed stands = go (st.number % d
 
     same : kept_from log.low d.snapshots ≡ d.snapshots
     same = subst (λ (xs : List Snapshot). kept_from log.low xs ≡ xs) stands.is.snapshots
-        (ap (λ x. x.snapshots) (kept_are_above c d.me stands.desk log stands.fits.fits.of_desk.states (behind s (given d.me before)) stands.fits.fits.of_log stands.fits.fits.of_desk.kept))
+        (ap (λ x. x.snapshots) (kept_are_above c d.me stands.desk log stands.fits.fits.of_desk.states (after_outputs s (given d.me before)) stands.fits.fits.of_log stands.fits.fits.of_desk.kept))
 
     go : (b : Bool) → (st.number % d.period == 0) ≡ b → cond b (newest_with (snapshot_of st) d.snapshots) d.snapshots ≡ cond b (snapshot_of st ∷ d.snapshots) d.snapshots
     go true e =

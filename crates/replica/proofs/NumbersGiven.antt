@@ -1,4 +1,4 @@
--- The oldest requests without a number get the next one.
+-- The primary assigns the next number to the oldest requests without one.
 use Rattle.std.proofs.Common.{◌≡◌, ◌≢◌, ℕ, zero, suc, ◌+◌, ◌≤◌, ◌<◌, inl, inr, Bool, true, false, cond, not, List, [], ◌∷◌, length, map, filter, take, drop, max, refl, sym, ap, ◌∙◌, subst, arith, AllPairs}
 use Rattle.std.proofs.lemmas.List.{take-append-drop, length-take, length-map}
 use Rattle.wire.specs.Lists.{Each}
@@ -17,7 +17,7 @@ use Rattle.protocol.specs.Replica.Owed.{IsNumbered, AreDifferent}
 use Rattle.protocol.proofs.Words.Elements.{has_map, has_mapped}
 use Rattle.replica_histories.specs.Desk.{Desk}
 use Rattle.replica_histories.specs.Logs.{FitsLog}
-use Rattle.replica_histories.specs.Events.{Start, behind}
+use Rattle.replica_histories.specs.Events.{Start, after_outputs}
 use Rattle.replica_histories.specs.Numbers as numbers
 use Rattle.replica_histories.specs.Numbers.{AreCalls, Waiting, HasNumber, HasNone, IsRightly}
 use Rattle.replica_histories.specs.Outputs.{MayNumber}
@@ -37,9 +37,9 @@ use Rattle.replica.proofs.Flags.{calls_unnumbered, calls_taken, are_calls}
 use Rattle.replica.proofs.Parties.{same_party, orderers_twice, parties_twice}
 use Rattle.replica.proofs.Rows.{due_prepare_elsewhere, due_commit_elsewhere}
 
--- ---- what waits
+-- ---- waiting requests
 
--- what is kept was there
+-- a kept request was there
 has_kept : {A : Type 0} (P : A → Type 0) (p : A → Bool) (xs : List A) → Has P (filter p xs) → Has P xs
 has_kept P p [] h = h
 has_kept {A} P p (x ∷ xs) h = go (p x) (has_kept P p xs) h
@@ -49,7 +49,7 @@ has_kept {A} P p (x ∷ xs) h = go (p x) (has_kept P p xs) h
     go true rest (inr k) = inr (rest k)
     go false rest k = inr (rest k)
 
--- what is among the oldest ones without a number, waits
+-- one of the oldest without a number waits
 frame_waits : (frame : List ℕ) (w : WaitingData) → Has (λ x. x ≡ frame) (texts (unnumbered w)) → Has (λ x. x ≡ frame) (frames_of w)
 frame_waits frame w h =
     let at = has_map (λ x. x ≡ frame) (λ (r : WaitingRequest). r.frame.items) (unnumbered w) h in
@@ -57,7 +57,7 @@ frame_waits frame w h =
     (has_kept (λ (r : WaitingRequest). r.frame.items ≡ frame) (λ (r : WaitingRequest). not r.numbered) w.requests
     (has_taken (λ (r : WaitingRequest). r.frame.items ≡ frame) 16 (all_unnumbered w.requests) at))
 
--- what is flagged rightly as without a number, has none
+-- a request that is rightly flagged as without a number has none
 none_numbered : (c : Configuration) (me v : ℕ) (history : List Entry) (client timestamp : ℕ) (es : List Waiting) → Each (IsRightly c me v history) es
     → Has (λ (e : Waiting). IsAt client timestamp e.call) (numbers.unnumbered es) → IsNumbered c me history v client timestamp → ⊥
 none_numbered c me v history client timestamp [] r h n = h
@@ -73,7 +73,7 @@ none_numbered c me v history client timestamp (e ∷ es) r h n = go e.numbered r
 
 -- ---- with numbers
 
--- what isn't the flag stays
+-- all but the flag stays
 same_numbered : {A : Type 0} (f : WaitingRequest → A) → ((r : WaitingRequest) → f (record r { numbered = true }) ≡ f r) → (n : ℕ) (rs : List WaitingRequest) → map f (all_numbered n rs) ≡ map f rs
 same_numbered f same n [] = refl
 same_numbered f same zero (r ∷ rs) = refl
@@ -195,12 +195,12 @@ module _ (number : ℕ) (a b : JoinedData) (x y : List Output) (one : AreOne a.o
     me = a.orderer.endpoint.me
 
     abbrev past : List Entry
-    past = behind s (given me x)
+    past = after_outputs s (given me x)
 
     fits : FitsEvent c me s a.orderer st.desk w [] x
     fits = subst (λ (m : ℕ). FitsEvent c m s a.orderer st.desk w [] x) one.0 st.fits
 
-    -- the next number by the log is so by the history
+    -- the next number by the log is the next one by the history
     free : IsFree c me past st.desk.state.number a.orderer.log.view number
     free =
         let of_log = fits.fits.of_log in
@@ -253,7 +253,7 @@ module _ (number : ℕ) (a b : JoinedData) (x y : List Output) (one : AreOne a.o
       let left = left_numbered (length (unnumbered w)) w.requests (omega (arith, most)) in
       omega (arith, left, some))
 
-  -- the number is given, and what it asks for is done
+  -- the primary assigns the number, and goes on with it
   pub gives_number : (d : JoinedData) (z : List Output) → GoesOnWith number b y d z → GivesNumber a x d z
   gives_number d z e = record {
     proceeds = λ rest c s known st.
@@ -270,7 +270,7 @@ module _ (number : ℕ) (a b : JoinedData) (x y : List Output) (one : AreOne a.o
 
 -- ---- one turn after another
 
--- so many numbers are given
+-- so many numbers are assigned
 pub record NumbersSoFar (count : ℕ) (old : JoinedData) (before : List Output) (new : JoinedData) (after : List Output) : Type 0 where
   pub proceeds : Rests old → Proceeds old before new after
   pub party : IsSameParty old new
@@ -295,7 +295,7 @@ numbers_stop count a b d x y z f (same, outs, all) =
     subst (λ (r : JoinedData). NumbersWaiting a x r z) (sym same) (subst (λ (o : List Output). NumbersWaiting a x b o) (sym outs)
     (record { proceeds = f.proceeds; party = f.party; rises = f.rises; rests = f.rests; all = all }))
 
--- behind as many numbers as requests without one, none is left
+-- after as many numbers as requests without one, none is left
 pub numbers_end : (count : ℕ) (a b : JoinedData) (x y : List Output) → count ≡ count_unnumbered a.desk.waiting → NumbersSoFar count a x b y → NumbersWaiting a x b y
 numbers_end count a b x y whole f = record {
   proceeds = f.proceeds;

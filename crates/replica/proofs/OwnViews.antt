@@ -33,7 +33,7 @@ use Rattle.replica_histories.specs.Changes.{FitsChanges}
 use Rattle.replica_histories.specs.Claims.{WasLogged}
 use Rattle.replica_histories.specs.Desk.{Desk, desk_from}
 use Rattle.replica_histories.specs.Events as events
-use Rattle.replica_histories.specs.Events.{Start, behind}
+use Rattle.replica_histories.specs.Events.{Start, after_outputs}
 use Rattle.replica_histories.specs.Views.{begun_log, start_due}
 use Rattle.replica_histories.proofs.Batches.{begun_view}
 use Rattle.replica_histories.proofs.Beginning.{start_small}
@@ -57,7 +57,7 @@ use Rattle.replica.proofs.Flags.{flags_begun}
 use Rattle.replica.proofs.Given.{GivesOne, gives_one}
 use Rattle.replica.proofs.Staying.{fits_behind}
 
--- ---- how much it has
+-- ---- sizes
 
 pub few_batches : (c : Configuration) (view : ℕ) (set : List (ℕ × ViewChangeData)) (start : ℕ) (root : List ℕ) (batches : List (List ℕ)) → meets c view set start root batches ≡ true → c.period ≤ 16 → length batches ≤ 32
 few_batches c view set start root batches fit short =
@@ -67,7 +67,7 @@ few_batches c view set start root batches fit short =
     let most = largest_of-le (start + span c) set in
     omega (arith, long, most, short)
 
--- what is selected has as few batches
+-- a selection has as few batches
 pub selects_few : (o : OrdererData) (start : ℕ) (root : List ℕ) (batches : List (Arc (List ℕ) Global)) → IsSelection o start root (texts_of batches) → length batches ≤ 32
 selects_few o start root batches sel =
     let few = few_batches (sized o.received.sizes) o.target (pairs_for o.target o.received.held) start root (texts_of batches) sel.meets o.received.sizes.short in
@@ -77,9 +77,9 @@ selects_few o start root batches sel =
 pub starts_small : (o : OrdererData) (start : ℕ) (root frame : List ℕ) (texts : List (List ℕ)) → SignsView o (new_view_of o start root texts) frame → start < 2 ^ 48
 starts_small o start root frame texts signs = start_small (configuration_of o.received) (new_view_of o start root texts) signs.right
 
--- ---- what it carries was seen
+-- ---- what the new view carries was seen
 
--- the view changes that are held
+-- the stored view changes
 frames_are : (P : List ℕ → Type 0) (v : ℕ) (held : List (Option HeldData)) → ((s : ℕ) (h : HeldData) → held_of held s ≡ Some h → P h.frame) → Each P (frames_for v held)
 frames_are P v [] f = tt
 frames_are P v (None ∷ held) f = frames_are P v held (λ s h is. f (suc s) h is)
@@ -89,7 +89,7 @@ frames_are P v (Some x ∷ held) f = go (x.change.view == v) (frames_are P v hel
     go true e = (f zero x refl, e)
     go false e = e
 
--- the requests of batches that are claimed
+-- the requests of claimed batches
 requests_are : (P : List ℕ → Type 0) (texts batches : List (List ℕ)) → ((text : List ℕ) → Has (λ t. t ≡ text) texts → Each P (requests_of text)) → AreFrom texts batches → Each P (requests_of_all batches)
 requests_are P texts [] f from = tt
 requests_are P texts (batch ∷ batches) f from = each_append P (requests_of batch) (requests_of_all batches) (go from.0) (requests_are P texts batches f from.1)
@@ -147,7 +147,7 @@ module _ (decide : SizesDecide) (o : OrdererData) (start : ℕ) (root frame : Li
         (requests_are (λ bytes. Once (HasSeen bytes) past) o.claims.texts texts
         (λ text has. let was : WasLogged c me past text = each_has (WasLogged c me past) o.claims.texts text x.claims.texts has in logged_are_seen c me was.0 was.1 text past was.2) sel.from)
 
--- ---- all stands behind it
+-- ---- all stands after it
 
 -- the leaf is spent
 abbrev signing : JoinedData → JoinedData
@@ -180,7 +180,7 @@ module _ (decide : SizesDecide) (r : JoinedData) (start : ℕ) (root frame : Lis
 
   module _ (c : Configuration) (s : Start) (desk : Desk) (known : members c ≡ r.desk.membership) (rests : Rests r) (is : IsDeskOf c r.desk desk) (f : FitsEvent c mine s o desk r.desk.waiting [] before) where
     abbrev past : List Entry
-    past = behind s (given mine before)
+    past = after_outputs s (given mine before)
 
     abbrev e : Entry
     e = Sent mine frame
@@ -228,8 +228,8 @@ module _ (decide : SizesDecide) (r : JoinedData) (start : ℕ) (root frame : Lis
     fits =
         fits_behind c mine s o begun desk (desk_from low desk) r.desk.waiting (with_view k.calls r.desk.waiting) [] (start_due desk its) before said e gives refl f on numbers changes
 
-    once : Once (λ earlier x. taken c earlier x ≡ Some its) (behind s (given mine said))
-    once = subst (λ (es : List Entry). Once (λ earlier x. taken c earlier x ≡ Some its) (behind s es)) (sym gives.is) (inl takes)
+    once : Once (λ earlier x. taken c earlier x ≡ Some its) (after_outputs s (given mine said))
+    once = subst (λ (es : List Entry). Once (λ earlier x. taken c earlier x ≡ Some its) (after_outputs s es)) (sym gives.is) (inl takes)
 
     stands : Stands c s n.orderer n.desk [] after
     stands = begun_stands its (Some frame) (signing r) said n after k c s desk to one.0 is once fits
@@ -243,7 +243,7 @@ module _ (decide : SizesDecide) (r : JoinedData) (start : ℕ) (root frame : Lis
     voted = λ rests. all_voted its (Some frame) (signing r) said n after k is_log small;
   }
 
--- what is signed in a frame that there is
+-- what the replica signs in an existing frame
 pub signs_in : (o : OrdererData) (its : NewViewData) (later : OrdererData) (r : Option (Vec ℕ Global)) (frame : Vec ℕ Global) → r ≡ Some frame → MaySignView its o later r → SignsView o its frame.items × (later ≡ record o { spent = o.spent + 1 })
 signs_in o its later r frame is h = subst (MaySignView its o later) is h
 

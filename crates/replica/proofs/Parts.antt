@@ -1,4 +1,4 @@
--- A part that comes and is taken: the open transfer has it, and the event goes on.
+-- A part arrives and is taken: the open transfer has it, and the event goes on.
 use Rattle.std.proofs.Common.{◌≡◌, ◌≢◌, ℕ, ◌/◌, ◌%◌, slice_get, slice_index_or, inl, inr, true, false, List, [], ◌∷◌, Option, Some, None, refl, sym, ap, ◌∙◌, subst, option_map}
 use Rattle.wire.specs.Messages.{BodyData as Body, MessageData, MessageData as Message, fetch as FetchMessage, meta as MetaMessage, page as PageMessage}
 use Rattle.std.specs.Option.{option_map_or}
@@ -25,7 +25,7 @@ use Rattle.replica_histories.specs.Events as histories
 use Rattle.replica_histories.specs.Events.{IsTaken}
 use Rattle.replica_histories.specs.Fetching.{IsOther}
 use Rattle.replica_histories.specs.Changes.{IsNoChange}
-use Rattle.replica_histories.specs.Transfers.{FitsOpen, MayAsk, IsTold, RestsOn}
+use Rattle.replica_histories.specs.Transfers.{FitsOpen, MayAsk, IsTold, RestsOnState}
 use Rattle.replica_histories.proofs.Fetching.{digests_enter, pages_enter, asked_digests_count, asked_pages_count}
 use Rattle.replica_histories.proofs.PartsOwed.{fetches_suffice, other_digests_owe_none, other_pages_owe_none}
 use Rattle.replica_histories.proofs.Transfers.{digests_keep, digests_open}
@@ -45,7 +45,7 @@ use Rattle.replica.proofs.Fetched.{asked_number, asks_next}
 use Rattle.replica.proofs.Staying.{numbers_beside, said_on}
 use Rattle.replica.proofs.Voting.{said_in}
 
--- A part below the root is wanted by the digests of the root's children.
+-- If a part below the root is wanted, the digests of the root's children are known.
 told_below : (t : TransferData) (level : Level) (index : ℕ) (digest : List ℕ) → wanted_at t level index ≡ Some digest → level ≢ levels.Root → IsTold t
 told_below t levels.Root index digest h below = absurd (below refl)
 told_below t levels.Inner index digest h below = let w = and_then_some (λ digests. slice_get digests index) t.part_digests digest h in (w.0, w.1)
@@ -55,14 +55,14 @@ told_below t levels.Page index digest h below =
     let u = and_then_some (λ digests. slice_get digests (index / 32)) t.part_digests v.0 v.1 in
     (u.0, u.1)
 
--- They are known behind digests that were wanted.
+-- They are known once wanted digests are taken.
 told_with : (t : TransferData) (level : Level) (index : ℕ) (digests : List (List ℕ)) (digest : List ℕ) → wanted_at t level index ≡ Some digest → IsTold (with_digests t (record { level = level; index = index }) digests)
 told_with t levels.Root index digests digest h = (digests, refl)
 told_with t levels.Inner index digests digest h = told_below t levels.Inner index digest h (λ same. cc)
 told_with t levels.Page index digests digest h = told_below t levels.Page index digest h (λ same. cc)
 
--- In the event that begins with the bytes, which are a part, this transfer may ask on. It is of the open one's number. So
--- far the event fits with that one open, and nothing else changed.
+-- In the event that begins with the bytes, which are a part, this transfer may ask on. It has the open one's number. Up
+-- to here the event fits with that one open, and nothing else changed.
 pub record Comes (c : Configuration) (r : JoinedData) (past : List Entry) (runs : Runs c r past) (bytes : List ℕ) (n : OpenData) : Type 0 where
   pub is : IsDeskOf c (with_transfer n r.desk) (record runs.desk { transfer = Some n.transfer })
   pub open_one : Option TransferData
@@ -77,7 +77,7 @@ pub record Comes (c : Configuration) (r : JoinedData) (past : List Entry) (runs 
   pub heard_is : heard (members c) (me_of r) bytes ≡ Some body
   pub part : is_part body ≡ true
 
--- behind the bytes it is open
+-- after the bytes it is open
 abbrev pub IsOpen : (c : Configuration) (r : JoinedData) (past : List Entry) → Runs c r past → List ℕ → OpenData → Type 0
 IsOpen c r past runs bytes n = FitsOpen c (me_of r) (Some n.transfer) runs.desk.state.number (Got (me_of r) bytes ∷ past)
 
@@ -89,12 +89,12 @@ module _ (r : JoinedData) (one : AreOne r.orderer r.desk) (bytes : List ℕ) (se
   open_there : runs.desk.transfer ≡ Some o.transfer
   open_there = runs.is_desk.transfer ∙ ap (option_map (λ (x : OpenData). x.transfer)) there
 
-  -- the event that is heard to begin with a part, of which the transfer has what is here
+  -- the event that begins with a received part, from which the transfer has this
   module _ (message : Message) (t : TransferData) (n_is : n ≡ record o { transfer = t }) (hears : heard r.desk.membership r.desk.me bytes ≡ Some (record { sender = sender; message = message })) where
     abbrev body : Body
     body = record { sender = sender; message = message }
 
-    comes : is_part body ≡ true → t.number ≡ o.transfer.number → new_view_from c body ≡ None → IsNoChange (Some body) → (RestsOn o.transfer r.desk.executed.state → RestsOn t r.desk.executed.state) → Counts c me past runs.holds.of_desk.point bytes sender message
+    comes : is_part body ≡ true → t.number ≡ o.transfer.number → new_view_from c body ≡ None → IsNoChange (Some body) → (RestsOnState o.transfer r.desk.executed.state → RestsOnState t r.desk.executed.state) → Counts c me past runs.holds.of_desk.point bytes sender message
         → (open_one : Option TransferData) → histories.Fits c me (event_of c r past runs bytes) (record runs.desk { transfer = open_one }) r.orderer.log [] []
         → MayAsk c me t runs.desk.state.number (Got me bytes ∷ past) → IsTold t → Comes c r past runs bytes n
     comes part number views changes rests counts open_one fits may told = subst (Comes c r past runs bytes) (sym n_is) (record {
@@ -175,10 +175,10 @@ module _ (r : JoinedData) (one : AreOne r.orderer r.desk) (bytes : List ℕ) (se
       (asked_pages_count c me runs.desk r.orderer.log past o.transfer sender page.index text bytes runs.holds open_there asked wants)
       runs.desk.transfer enters.0 enters.1 (told_below o.transfer levels.Page page.index (sha256 text) wants (λ same. cc))
 
--- Where more is to be fetched then, the event asks for it.
+-- If more is to be fetched then, the event asks for it.
 module _ (r : JoinedData) (one : AreOne r.orderer r.desk) (bytes : List ℕ) (n : OpenData)
     (comes : (c : Configuration) (past : List Entry) (runs : Runs c r past) → members c ≡ r.desk.membership → Comes c r past runs bytes n) where
-  -- its fetch is given
+  -- the fetch is sent
   fetch_given : (c : Configuration) → members c ≡ r.orderer.endpoint.membership → (m : OpenData) (outs : List Output) → Says r.orderer (fetch_of m.transfer) [] outs → (k : ℕ) → m.transfer.number ≡ k
       → Has (λ e. fetch_sent e ≡ k) (given (me_of r) outs)
   fetch_given c known m outs says k number =
@@ -224,7 +224,7 @@ module _ (r : JoinedData) (one : AreOne r.orderer r.desk) (bytes : List ℕ) (n 
 -- ---- what the code does
 
 module _ (r : JoinedData) (one : AreOne r.orderer r.desk) (bytes : List ℕ) (sender : ℕ) (desk : DeskData) (outs : List Output) where
-  -- what is owed nothing is dropped, with a desk that is the same
+  -- an input to which the replica owes nothing is dropped, with the same desk
   dropped : (message : Message) → heard r.desk.membership r.desk.me bytes ≡ Some (record { sender = sender; message = message }) → ((c : Configuration) → IsBeside c (record { sender = sender; message = message }))
       → ((c : Configuration) (past : List Entry) (runs : Runs c r past) → members c ≡ r.desk.membership → AnswersInput c (me_of r) past (Got (me_of r) bytes) [] runs.holds.of_desk.point r.desk.executed.state.number)
       → desk ≡ r.desk → outs ≡ [] → TakesBytes bytes r touched.Nothing (record r { desk = desk }) outs
@@ -259,7 +259,7 @@ module _ (r : JoinedData) (one : AreOne r.orderer r.desk) (bytes : List ℕ) (se
       (of_open c past runs (λ t. IsOther t page.number.0 (page_place page.index) (sha256 page.text.items)) others)) same silent
 
   module _ (before : List Output) (first : before ≡ []) (new : JoinedData) (asks : AsksOn (record r { desk = desk }) before new outs true) where
-    -- what is taken, behind which more is asked for
+    -- the transfer takes it, and asks for more after it
     asked : (n : OpenData) → desk ≡ with_transfer n r.desk
         → ((c : Configuration) (past : List Entry) (runs : Runs c r past) → members c ≡ r.desk.membership → Comes c r past runs bytes n) → TakesBytes bytes r touched.Nothing new outs
     asked n desk_is comes = asks_on r one bytes n comes new outs (subst (λ (d : DeskData). AsksOn (record r { desk = d }) [] new outs true) desk_is (subst (λ (os : List Output). AsksOn (record r { desk = desk }) os new outs true) first asks))

@@ -1,4 +1,4 @@
--- The last part of a state came: the state is installed, or it is none.
+-- The last part of a state arrived: the replica installs the state, or it is none.
 use Rattle.std.proofs.Common.{◌≡◌, ℕ, inl, inr, true, false, List, [], Option, Some, None, refl, sym, ap, ◌∙◌, subst, arith}
 use Rattle.wire.specs.Messages.{meta as MetaMessage, page as PageMessage}
 use Rattle.wire.specs.declared.messages.Meta.{Meta}
@@ -17,7 +17,7 @@ use Rattle.replica_histories.proofs.Transfers.{pages_give_back}
 use Rattle.replica_histories.specs.Events.{IsTaken}
 use Rattle.replica_histories.specs.Fetching.{Reaches}
 use Rattle.replica_histories.specs.Questions.{AnswersInput}
-use Rattle.replica_histories.specs.Transfers.{RestsOn}
+use Rattle.replica_histories.specs.Transfers.{RestsOnState}
 use Rattle.replica_histories.proofs.PartsOwed.{fetched_suffice}
 use Rattle.replica.specs.declared.open_transfer.Taken.{Taken}
 use Rattle.replica.specs.declared.taking.Touched.TheVariants as touched
@@ -46,7 +46,7 @@ holding n r = record r { desk = with_transfer n r.desk }
 same_holding : (r : JoinedData) (n : OpenData) → IsSameParty r (holding n r)
 same_holding r n = record { orderer = same_orderer r.orderer; me = refl; membership = refl }
 
--- Behind a part that came no other is asked for: the transfer rests on the state, and all that it holds has the root.
+-- After this part the transfer asks for no other: it rests on the state, and all held pages have the root.
 pub record Rested (r : JoinedData) (n m : OpenData) (a : JoinedData) (outs : List Output) : Type 0 where
   pub asks : AsksPlace r.desk.executed.state n m None
   pub root : root_of_pages m.transfer.held ≡ m.transfer.root
@@ -75,24 +75,24 @@ module _ (r : JoinedData) (one : AreOne r.orderer r.desk) (bytes : List ℕ) (n 
       let now = rests_now c (event_of c r past runs bytes) r.orderer (with_transfer n r.desk) (record runs.desk { transfer = Some n.transfer }) r.desk.waiting n [] refl k.is k.open_one k.fits k.may k.told tt m f.asks in
       record { is_open = refl; is = now.0; open_one = k.open_one; fits = k.fits; may = now.1; rests = now.2; root = f.root }
 
-  -- Nothing is owed to the part, if the number is reached wherever the pages are those of a state that can be installed.
+  -- The replica owes nothing to the part, if pages of a state that can be installed imply that the number is reached.
   whole : (c : Configuration) (past : List Entry) (runs : Runs c r past) → members c ≡ r.desk.membership → (given : List Entry) (executed : ℕ) → Reaches r.desk.executed.state m.transfer executed
       → AnswersInput c (me_of r) past (Got (me_of r) bytes) given runs.holds.of_desk.point executed
   whole c past runs known given executed reaches =
       let k = comes c past runs known in
       let g = fetched c past runs known in
       fetched_suffice c (me_of r) runs.desk r.orderer.log past k.was m.transfer k.body bytes given executed runs.holds k.is_open k.heard_is k.part (asked_number r.desk.executed.state n m None f.asks ∙ k.number) g.may
-      (subst (λ (st : State). RestsOn m.transfer st) (sym runs.is_desk.state) g.rests) (asked_long r.desk.executed.state n m None f.asks) f.root
+      (subst (λ (st : State). RestsOnState m.transfer st) (sym runs.is_desk.state) g.rests) (asked_long r.desk.executed.state n m None f.asks) f.root
       (subst (λ (st : State). Reaches st m.transfer executed) (sym runs.is_desk.state) reaches)
 
-  -- none can be
+  -- no state can be installed
   pub none_owed : CannotInstall a.desk → (c : Configuration) (past : List Entry) (runs : Runs c r past) → members c ≡ r.desk.membership
       → AnswersInput c (me_of r) past (Got (me_of r) bytes) [] runs.holds.of_desk.point r.desk.executed.state.number
   none_owed cannot c past runs known =
       whole c past runs known [] r.desk.executed.state.number
       (λ st is number pages rises. absurd (subst (λ (x : JoinedData). CannotInstall x.desk) f.new_is cannot m refl f.root st (record { state = is; number = number; pages = pages }) rises))
 
-  -- it is a state, which is installed
+  -- it is a state, and the replica installs it
   pub state_comes : InstallsFetched a mid b outs true → TakesBytes bytes r touched.State b outs
   state_comes installs = record {
     party = party;
@@ -122,7 +122,7 @@ module _ (r : JoinedData) (one : AreOne r.orderer r.desk) (bytes : List ℕ) (n 
             λ given executed above. whole c past runs known given executed (λ st is number pages rises. let at = reached in omega (arith, at, above)),
           )
 
-  -- it is none, and what is open stays so
+  -- it is none, and the open transfer stays
   pub none_comes : ((c : Configuration) (past : List Entry) (runs : Runs c r past) → members c ≡ r.desk.membership → IsOpen c r past runs bytes n)
       → InstallsFetched a mid b outs false → TakesBytes bytes r touched.Nothing b outs
   none_comes opened (same, none, cannot) =
@@ -149,7 +149,7 @@ module _ (r : JoinedData) (one : AreOne r.orderer r.desk) (bytes : List ℕ) (n 
 
 -- ---- a page is given back
 
--- where the transfer rested since
+-- the place where the transfer rested since
 given_back_rested : (t new : TransferData) (replaced : Replaced) (held : List (List ℕ)) → new ≡ record t { held = held } → given_back new replaced ≡ given_back t replaced
 given_back_rested t new replaced held is = ap (λ (x : TransferData). given_back x replaced) is
 
@@ -183,7 +183,7 @@ desk_back d e o m back there same (inr (k, x, is_open, e_is, gives)) =
     ∙ ap (λ (y : OpenData). with_transfer y d) (same x (subst (λ (y : OpenData). x ≡ record { transfer = given_back y.transfer back.replaced; rests_at = back.rests_at.0 }) (sym (same_open m k is_open)) gives))
     ∙ ap (λ (t : Option OpenData). let new : DeskData = record d { transfer = t } in new) (sym there)
 
--- So the replica is, and the page is dropped.
+-- So is the replica, and it drops the page.
 pub page_back : (r : JoinedData) (one : AreOne r.orderer r.desk) (sender : ReplicaId) (page : Page) (bytes : List ℕ) (o n m : OpenData) (back : Taken) (a b : JoinedData) (d : DeskData) (mid outs : List Output)
     → heard r.desk.membership r.desk.me bytes ≡ Some (record { sender = sender.0; message = PageMessage page.number.0 page.index page.text.items })
     → ((c : Configuration) (past : List Entry) (runs : Runs c r past) → members c ≡ r.desk.membership → AnswersInput c (me_of r) past (Got (me_of r) bytes) [] runs.holds.of_desk.point r.desk.executed.state.number)

@@ -1,4 +1,4 @@
--- Desk and orderer together hold of the whole history what a whole replica holds, and the other way round.
+-- Desk and orderer together hold what a whole replica holds of the whole history, and the other way round.
 use Rattle.std.proofs.Common.{◌≡◌, ℕ, ◌+◌, ◌*◌, ◌≤◌, ◌<◌, ◌⊎◌, inl, inr, Bool, true, false, cond, List, [], ◌∷◌, length, refl, sym, ap, ◌∙◌, subst, arith, Option, Some, None, is_some}
 use Rattle.std.specs.Prelude.{nat_le, nat_lt, slice_get, not, ◌&&◌, ◌^◌}
 use Rattle.sha2.specs.Sha256.{sha256}
@@ -147,7 +147,7 @@ module _ (c : Configuration) (me : ℕ) (g h : List Entry) (s : CertifySame c me
     texts = logged_over claims.texts f.texts;
   }
 
--- ---- what is held for changes of the view
+-- ---- view-change data
 
 saying_sent : (me : ℕ) (message : Message) (frame : List ℕ) (past : List Entry) (e : Entry) → said frame ≡ Some (record { sender = me; message = message }) → SendsBytes frame past e → IsSaying me message e
 saying_sent me message frame past (Sent p text) says is = ap said is ∙ says
@@ -193,7 +193,7 @@ can_begin_idle c me past e idle s new can = record {
     has batch (inl null) = inl null
     has batch (inr (v, i, here, within)) = inr (v, i, sym (s.logged v i) ∙ here, subst (λ (n : ℕ). is_in_marks c n i ≡ true) s.low within)
 
--- keys that were spent stay so
+-- spent keys stay spent
 pub spent_on : (past : List Entry) (e : Entry) → AreKeysSpent past → AreKeysSpent (e ∷ past)
 spent_on past e spent leaf l = let k = spent leaf l in (k.0, k.1, inr k.2)
 
@@ -261,7 +261,7 @@ module _ (c : Configuration) (me : ℕ) (g h : List Entry) (p : LeavesOut c me g
   sent_over : (frame : List ℕ) → SentBefore frame g → SentBefore frame h
   sent_over frame k = once_over c me (SendsBytes frame) (λ e g h p x. sends_so frame g h e x) g h p k
 
-  -- what counts for nothing has no leaf
+  -- an entry that counts for nothing has no leaf
   leaf_back : (sent : List ℕ) (leaf : ℕ) → leaf_of sent ≡ Some leaf → SentBefore sent h → SentBefore sent g
   leaf_back sent leaf by k = once_back c me (SendsBytes sent) (λ e g h p x. sends_so sent h g e x) (λ e past idle x. none e past idle x (frame_of sent) refl) g h p k
     where
@@ -370,7 +370,7 @@ module _ (c : Configuration) (me : ℕ) (g h : List Entry) (p : LeavesOut c me g
   said_back last f entry is = once_back c me (λ past e. IsSaying me (Checkpoint entry.number entry.digest) e) (λ e g h p x. x)
       (λ e past idle x. idle.says (Checkpoint entry.number entry.digest) x) g h p (f entry is)
 
--- ---- numbers that are used, and what waits
+-- ---- used numbers, and waiting requests
 
 pub used_over : (c : Configuration) (me used : ℕ) (g h : List Entry) → CertifySame c me g h → IsUsed c me (view c g) used g → IsUsed c me (view c h) used h
 used_over c me used g h s u = record {
@@ -378,7 +378,7 @@ used_over c me used g h s u = record {
   full = λ j above below. ap is_some (s.logged (view c h) j) ∙ subst (λ (v : ℕ). is_some (logged c me g v j) ≡ true) (sym s.view) (u.full j (subst (λ (n : ℕ). n < j) s.low above) below);
 }
 
--- where each has a number, none is flagged as without
+-- if each has a number, none is flagged as without
 none_left : (c : Configuration) (me v : ℕ) (history : List Entry) (entries : List numbers.Waiting) → Each (numbers.IsRightly c me v history) entries
     → ((call : Call) → Has (λ x. x ≡ call) (numbers.calls_of entries) → numbers.HasNumber c me v history call) → numbers.unnumbered entries ≡ []
 none_left c me v history [] right all = refl

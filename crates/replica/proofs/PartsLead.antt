@@ -1,4 +1,4 @@
--- The parts of a replica fit what their joined replica fits.
+-- The parts of a replica fit the histories that their joined replica fits.
 use Rattle.std.proofs.Common.{◌≡◌, ℕ, zero, suc, ◌+◌, ◌*◌, ◌<◌, inr, Bool, true, false, List, [], ◌∷◌, refl, sym, ap, ◌∙◌, subst, Option, Some, None}
 use Rattle.std.specs.Prelude.{is_none, IsTrue}
 use Rattle.authenticator.specs.Membership.{Membership}
@@ -33,7 +33,7 @@ use Rattle.replica.proofs.PartsJoining.{parts_join, holds_part}
 none_some : {A : Type 0} (x : A) → None ≡ Some x → ⊥
 none_some x e = absurd cc
 
--- ---- what is held for changes of the view
+-- ---- view-change data
 
 change_said : (c : Configuration) (h : HeldData) → signed_change c h.frame ≡ Some (h.sender, h.change)
     → (sender : ℕ) × (said h.frame ≡ Some (record { sender = sender; message = ViewChange h.change }))
@@ -75,7 +75,7 @@ orderer_fits c me m o ordering mine members_are holds = record {
   running = λ x is. subst (λ (y : OrdererData). HoldsOrderer c me y ordering) (some_injective o x is) holds;
 }
 
--- both fit what they fit when they are joined
+-- both fit the histories that they fit when joined
 both_fit : (c : Configuration) (m : MemberData) (o : OrdererData) (d : DeskData) (history : List Entry) → AreOne o d → AreChanges o.received.held → o.endpoint.me ≡ m.me
     → members c ≡ m.membership → joined_ones.Fits c (joined o d) history → FitBoth c m.me (orders m o) (answers m d) history
 both_fit c m o d history one are mine members_are fits = (
@@ -152,7 +152,7 @@ steps_send o d x later_x y later_y event outs o_is d_is same are one r =
     (subst (λ (q : DeskPart). BothSendAsMeant (orders o.member x) q outs) (ap (λ (h : Option DeskData). let q : DeskPart = record { member = d.member; holds = h } in q) (sym d_is))
     (both_send o.member d.member x later_x y later_y event outs (sym same) (are x o_is).0 (are x o_is).1 one r.one r.changes r.endpoint r.leads))
 
--- parts that are together have checkpoints as often
+-- parts that are together have the same period of checkpoints
 pub one_period : (o : OrdererPart) (d : DeskPart) (x : OrdererData) (y : DeskData) → AreTogether o d → o.holds ≡ Some x → d.holds ≡ Some y → x.received.sizes.period ≡ y.period
 one_period o d x y t o_is d_is =
     ap (λ (k : OrdererData). k.received.sizes.period) (some_injective x t.orderer (sym o_is ∙ t.orders)) ∙ t.period ∙ ap (λ (k : DeskData). k.period) (some_injective t.desk y (sym t.answers ∙ d_is))
@@ -223,7 +223,7 @@ desk_stops d stopped same none c me history other = stopped_desk c me d stopped 
 pub orderer_stops : (o stopped : OrdererPart) → stopped.member ≡ o.member → stopped.holds ≡ None → OrdererStops o stopped
 orderer_stops o stopped same none c me ordering other = stopped_orderer c me o stopped ordering other same none
 
--- an input of the party, behind which there is no output
+-- an input of the party, without an output after it
 stops_right : (c : Configuration) (me : ℕ) (event : Event) (history : List Entry) → IsReplica c me history → IsReplica c me (input_of me event ∷ history)
 stops_right c me (events.Got bytes) history right = inr (refl, tt, right)
 stops_right c me events.Timeout history right = inr (refl, tt, right)

@@ -1,4 +1,4 @@
--- What is posted again, among the outputs, and as entries.
+-- What the replica sends again, among the outputs and as entries.
 use Rattle.std.proofs.Common.{◌≡◌, ℕ, ◌+◌, inl, true, false, List, [], ◌∷◌, ◌++◌, map, Some, sym, ◌∙◌, subst}
 use Rattle.wire.specs.Messages.{MessageData as Message, pre_prepare as PrePrepare, prepare as Prepare, commit as Commit, checkpoint as Checkpoint}
 use Rattle.posting.specs.Endpoint.{PostsToOthers}
@@ -8,7 +8,7 @@ use Rattle.events.specs.Outputs.{entry_of}
 use Rattle.protocol.specs.System.Configuration.{Configuration, members}
 use Rattle.protocol.specs.System.Trace.{Entry, Has}
 use Rattle.protocol.specs.System.Trace.Entry.{Sent}
-use Rattle.protocol.specs.Replica.Owed.{IsSaying, Gives}
+use Rattle.protocol.specs.Replica.Owed.{IsSaying, SendsMessage}
 use Rattle.protocol.proofs.Words.Elements.{has_weaker, has_left, has_right, has_mapped, has_reversed}
 use Rattle.view_change.specs.ReceivedData.{held_of}
 use Rattle.replica_histories.specs.Resending.{FrameGoes, RowGoes, ViewGoes, AllGoes}
@@ -27,7 +27,7 @@ pub frame_now : (o : OrdererData) (frame : List ℕ) (before after : List Output
 frame_now o frame before after s =
     subst (PostedFrame o frame) (sym s.given_is) (has_right (λ output. entry_of o.endpoint.me output ≡ Sent o.endpoint.me frame) before (s.output ∷ []) (inl s.sends.sends))
 
--- what is among them stays so
+-- messages among them stay there
 module _ (before more after : List Output) (given_is : after ≡ before ++ more) (o : OrdererData) where
   posted_on : (message : Message) → Posted o message before → Posted o message after
   posted_on message h = subst (Posted o message) (sym given_is) (has_left (λ output. PostsToOthers o.endpoint message output) before more h)
@@ -63,7 +63,7 @@ module _ (c : Configuration) (o : OrdererData) (outs : List Output) (known : mem
   as_entry : (P : Output → Type 0) (Q : Entry → Type 0) → ((output : Output) → P output → Q (entry_of me output)) → Has P outs → Has Q entries
   as_entry P Q f h = has_reversed Q (map (entry_of me) outs) (has_mapped Q (entry_of me) outs (has_weaker P (λ output. Q (entry_of me output)) f outs h))
 
-  posted_goes : (message : Message) → Posted o message outs → Gives me message entries
+  posted_goes : (message : Message) → Posted o message outs → SendsMessage me message entries
   posted_goes message = as_entry (λ output. PostsToOthers o.endpoint message output) (IsSaying me message)
       (λ output p. subst (IsSaying me message) (sym p.sends) (p.posted c known).says)
 

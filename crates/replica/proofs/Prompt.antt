@@ -1,4 +1,4 @@
--- What fits a replica that has not stopped is prompt to its end.
+-- The history of a replica that has not stopped is prompt to its end.
 use Rattle.std.proofs.Common.{◌≡◌, ℕ, Bool, true, false, List, Option, Some, None, refl}
 use Rattle.std.specs.Prelude.{is_none, ◌||◌}
 use Rattle.std.specs.Option.{ForSome}

@@ -1,8 +1,8 @@
--- A whole event: where nothing is left to do, the history behind it fits.
+-- A whole event: if nothing is left to do, the history after it fits.
 use Rattle.std.proofs.Common.{◌≡◌, ℕ, suc, ◌+◌, ◌≤◌, ◌⊎◌, inl, inr, true, false, List, [], ◌∷◌, ◌++◌, reverse, map, None, refl, sym, ap, ◌∙◌, subst, append_assoc, arith, max}
 use Rattle.std.proofs.lemmas.List.{reverse-append}
 use Rattle.events.specs.declared.output.Output.{Output}
-use Rattle.events.specs.Outputs.{entry_of, behind, after_event, AreSentAsMeant}
+use Rattle.events.specs.Outputs.{entry_of, after_entries, after_event, AreSentAsMeant}
 use Rattle.ordering.specs.Log as logs
 use Rattle.ordering.specs.Log.{LogData}
 use Rattle.protocol.specs.System.Configuration.{Configuration, members}
@@ -43,15 +43,15 @@ use Rattle.replica.proofs.Choosing.{begun_same}
 use Rattle.replica.proofs.Flags.{flags_given}
 use Rattle.replica.proofs.Parties.{same_party, one_of_same, ones_twice}
 
--- ---- what was given, on the history
+-- ---- the outputs, on the history
 
-behind_is : (es past : List Entry) → reverse es ++ past ≡ behind es past
+behind_is : (es past : List Entry) → reverse es ++ past ≡ after_entries es past
 behind_is [] past = refl
 behind_is (e ∷ es) past = ap (λ (xs : List Entry). xs ++ past) (reverse-append (e ∷ []) es) ∙ append_assoc (reverse es) (e ∷ []) past ∙ behind_is es (e ∷ past)
 
--- ---- what is numbered
+-- ---- assigned numbers
 
--- the number that is next by the history is so by the log
+-- the next number by the history is the next one by the log
 next_free : (c : Configuration) (me used executed : ℕ) (log : LogData) (history : List Entry) → FitsLog c me log history → numbers.IsNextFree c me history used executed
     → (logs.is_in_marks log (suc (max log.low used)) ≡ true) × (suc (max log.low used) ≤ executed + 2)
 next_free c me used executed log history fits next = rw (fits.span, sym fits.low) next
@@ -128,13 +128,13 @@ module _ (old new : JoinedData) (one : AreOne old.orderer old.desk) (party : IsO
           (settled c (me_of old) new st.desk now st.is event.fits.of_log event.numbers rest all)
           (subst (λ (x : State). AnswersInput c (me_of old) past input (given (me_of old) outs) runs.holds.of_desk.point x.number) (sym st.is.state) answered) none_left is (taken_so why)
 
--- ---- by what was touched
+-- ---- by what the event touched
 
 module _ (input : Entry) (old : JoinedData) (one : AreOne old.orderer old.desk) (is_input : is_output input ≡ false) where
   known : (c : Configuration) (past : List Entry) → Fits c old past → members c ≡ old.desk.membership
   known c past f = f.members_are ∙ sym one.1
 
-  -- what is taken is so to the replica as it is then
+  -- a rule that takes it at the later replica takes it at the earlier one
   taken_then : (c : Configuration) (s : Start) (new : JoinedData) → IsOneParty old new → IsTaken c (me_of new) s → IsTaken c (me_of old) s
   taken_then c s new party t = subst (λ (e : EndpointState). IsTaken c e.me s) party.endpoint t
 
@@ -142,11 +142,11 @@ module _ (input : Entry) (old : JoinedData) (one : AreOne old.orderer old.desk) 
   why c s new outs party (inl e) = inl e
   why c s new outs party (inr t) = inr (taken_then c s new party t)
 
-  -- what is no part, and asks for none, is owed nothing
+  -- an input that is no part, and asks for none, owes no part
   beside_answered : (c : Configuration) (me : ℕ) (s : Start) (number : ℕ) → IsTakenBeside c me s → IsTaken c me s × IsAnswered c me s number
   beside_answered c me s number t = (t.0, λ outputs executed above. others_owe_none c me s.before s.input outputs s.old executed t.1)
 
-  -- an event that ends with numbers for what waits
+  -- an event that ends with numbers for waiting requests
   ends_numbered : (c : Configuration) (past : List Entry) (mid before new : JoinedData) (x outs : List Output) (f : Fits c old past) (runs : Runs c old past)
       → IsOneParty old mid → IsSameParty mid before → NumbersWaiting before x new outs → mid.desk.executed.state.number ≤ before.desk.executed.state.number → Rests before
       → Stands c (event_with c old past runs input) before.orderer before.desk [] x → CannotBegin c mid.orderer
@@ -160,7 +160,7 @@ module _ (input : Entry) (old : JoinedData) (one : AreOne old.orderer old.desk) 
       (t.1 (given (me_of old) outs) new.desk.executed.state.number (let more = n.rises in omega (arith, above, more))))
       (begun_same c before.orderer new.orderer n.party.orderer (begun_same c mid.orderer before.orderer then.orderer begun)) (inr (taken_then c (event_with c old past runs input) mid first t.0))
 
-  -- What an event does, and then what is done behind it, by what it touched.
+  -- The event's own part, and then what follows by what it touched.
   leads_nothing : (new : JoinedData) (outs : List Output) → TakesInput input old touched.Nothing new outs → Leads old input outs new
   leads_nothing new outs t c past f =
       let runs = f.runs in
@@ -199,8 +199,8 @@ module _ (input : Entry) (old : JoinedData) (one : AreOne old.orderer old.desk) 
       let st = g.proceeds b.1.0 c s (known c past f ∙ sym t.party.membership) b.0 in
       let whole = ones_twice old run new first (one_of_same run new n.party) in
       let p = n.proceeds (g.rests b.1.0) c s (known c past f ∙ sym first.membership) st in
-      let there : target (histories.behind s (given (me_of old) outs)) ≡ new.orderer.target =
-      subst (λ (m : ℕ). target (histories.behind s (given m outs)) ≡ new.orderer.target) (whole.me ∙ one.0) p.fits.changes.target in
+      let there : target (histories.after_outputs s (given (me_of old) outs)) ≡ new.orderer.target =
+      subst (λ (m : ℕ). target (histories.after_outputs s (given m outs)) ≡ new.orderer.target) (whole.me ∙ one.0) p.fits.changes.target in
       ends old new one whole c past input outs f runs is_input p (n.rests (g.rests b.1.0)) n.all
       (subst (λ (e : EndpointState). AnswersInput c e.me past input (given (me_of old) outs) runs.holds.of_desk.point new.desk.executed.state.number) t.party.endpoint
       (b.1.1.1 (given (me_of old) outs) new.desk.executed.state.number (there ∙ n.party.orderer.target ∙ g.party.orderer.target)))

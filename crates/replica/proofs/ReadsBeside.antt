@@ -1,4 +1,4 @@
--- A read that is answered beside ordering keeps what the desk holds; no orderer is mentioned.
+-- A read beside ordering keeps what the desk holds; no orderer is mentioned.
 use Rattle.std.proofs.Common.{◌≡◌, ℕ, suc, ◌+◌, ◌-◌, ◌≤◌, inl, inr, true, false, List, [], ◌∷◌, map, refl, sym, ap, ◌∙◌, subst, arith, Option, Some, None, is_some, ◌<◌}
 use Rattle.std.specs.Option.{option_map_or}
 use Rattle.std.specs.Prelude.{option_and_then}
@@ -63,7 +63,7 @@ addressed : (c : Configuration) (me : ℕ) (past : List Entry) (client timestamp
 addressed c me past client timestamp number a (macs entries) h = h
 addressed c me past client timestamp number a (signature s) h = tt
 
--- ---- a read that is answered
+-- ---- an answered read
 
 module _ (c : Configuration) (me : ℕ) (h : List Entry) (p : Point) (bytes answer : List ℕ) (client timestamp : ℕ) (op : Operation) (proceeds : Proceeds c me h [] p p) (fetched : QuorumsFetched c p.state.number h)
     (hears : heard (members c) me bytes ≡ Some (read_from client timestamp op)) (is_read : is_read_only op ≡ true)
@@ -164,7 +164,7 @@ module _ (c : Configuration) (me : ℕ) (h : List Entry) (p : Point) (bytes answ
 -- ---- what the desk holds
 
 module _ (c : Configuration) (me : ℕ) (d : DeskData) (h : List Entry) (hd : HoldsDesk c me d h) where
-  -- idle entries, over which the point stays but for what ran
+  -- idle entries: the point stays, except for what ran
   module _ (now : List Entry) (s : CertifySame c me h now) (later : Point) (proceeds : Proceeds c me now [] later later)
       (same_point : later ≡ record hd.holds.point { ran = [] }) (frames : FitsFrames c me hd.desk now) (opened : FitsOpen c me hd.desk.transfer hd.desk.state.number now)
       (flags : (v used : ℕ) → FitsFlags c me v used d.waiting hd.desk.state hd.desk.waiting h → FitsFlags c me v used d.waiting hd.desk.state hd.desk.waiting now)

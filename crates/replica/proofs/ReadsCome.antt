@@ -1,4 +1,4 @@
--- A read is answered from what is executed.
+-- The desk answers a read from the executed state.
 use Rattle.std.proofs.Common.{◌≡◌, ℕ, ◌+◌, ◌-◌, arith, ◌⊎◌, inl, inr, true, false, List, [], ◌∷◌, Some, refl, sym, ap, ◌∙◌, subst}
 use Rattle.tuple_codec.specs.Operations.{Operation}
 use Rattle.space.specs.Applying.{is_read_only}
@@ -36,7 +36,7 @@ use Rattle.replica.proofs.Given.{GivesOne, gives_one}
 use Rattle.replica.proofs.Parties.{one_self, same_log}
 use Rattle.replica.proofs.Staying.{fits_on, sent_beside}
 
--- ---- a request is heard that is to be answered beside the order
+-- ---- a received request is to be answered beside the order
 
 module _ (r : JoinedData) (one : AreOne r.orderer r.desk) (client t : ℕ) (op : Operation) (bytes : List ℕ) (hears : heard r.desk.membership r.desk.me bytes ≡ Some (read_from client t op)) where
   module _ (c : Configuration) (past : List Entry) (runs : Runs c r past) (known : members c ≡ r.desk.membership) where
@@ -54,7 +54,7 @@ module _ (r : JoinedData) (one : AreOne r.orderer r.desk) (client t : ℕ) (op :
         × AnswersInput c me past (Got me bytes) (given me outs) runs.holds.of_desk.point r.desk.executed.state.number
         × ((outs ≡ []) ⊎ IsTaken c me (event_of c r past runs bytes))
 
-    -- what is no read gets nothing
+    -- what is no read gets no answer
     drops : is_read_only op ≡ false → Left []
     drops unread = (begun, other_operations_owe_none c me runs.desk r.orderer.log past (Got me bytes) [] client t r.desk.executed.state.number op runs.holds is_heard unread, inl refl)
 
@@ -135,7 +135,7 @@ answers_bytes r bytes outs one (inr (none, same)) = subst (λ (os : List Output)
 abbrev named : Message → ℕ
 named message = elim message [ Reply client t mode number outcome ↦ client | _ ↦ 0 ]
 
--- What answers the read that is heard, from the executed state, and goes to its client, is its answer.
+-- The answer to the received read, from the executed state, goes to its client.
 pub answered : (d : DeskData) (bytes : List ℕ) (shelf : Shelf) (request : ReadRequest) (reply : WireReply) (before after : List Output)
     → HearsRead d.membership d.me bytes request.client.number request.timestamp.0 request.op.now → answers.AnswersRead shelf request reply
     → shelf.space.now ≡ d.executed.state.space → shelf.number.0 ≡ d.executed.state.number

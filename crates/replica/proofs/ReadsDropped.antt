@@ -1,4 +1,4 @@
--- Bytes with the marks of a read that ask for none are dropped, and owe nothing.
+-- Bytes with the marks of a read that are no read are dropped, and the replica owes nothing for them.
 use Rattle.std.proofs.Common.{◌≡◌, ℕ, suc, ◌+◌, inl, inr, true, false, List, [], ◌∷◌, refl, sym, ap, ◌∙◌, subst, arith, Option, Some, None, is_some, ◌<◌}
 use Rattle.std.specs.Option.{option_map_or}
 use Rattle.std.specs.Prelude.{option_and_then}

@@ -1,4 +1,4 @@
--- A desk that answers a read fits the history with the read behind it, which leaves no entry of ordering.
+-- A desk that answers a read fits the history with the read after it. The read leaves no entry of ordering.
 use Rattle.std.proofs.Common.{◌≡◌, ℕ, ◌+◌, inl, inr, true, false, cond, List, [], ◌∷◌, refl, sym, ap, ◌∙◌, subst, Option, Some, None}
 use Rattle.std.specs.Prelude.{not}
 use Rattle.tuple_codec.specs.Operations.{Operation}
@@ -68,7 +68,7 @@ module _ (c : Configuration) (me : ℕ) (d : DeskData) (h : List Entry) (bytes :
   opened : FitsOpen c me hd.desk.transfer hd.desk.state.number got
   opened = open_stays c me hd.desk.transfer hd.desk.state.number h (Got me bytes) refl tt hd.holds.opened
 
-  -- the point, but for what ran
+  -- the point, except for what ran
   abbrev mid : Point
   mid = record p { ran = []; waiting = waiting_after c me p bytes }
 
@@ -153,7 +153,7 @@ module _ (c : Configuration) (me : ℕ) (d : DeskData) (h : List Entry) (bytes :
 
 -- ---- a part
 
--- the desk that answered, which is as it was
+-- the desk that answered, unchanged
 pub read_leads : (part later : DeskPart) (d : DeskData) (bytes : List ℕ) (outs : List Output) → part.holds ≡ Some d → IsDeskPart part → asks_read bytes ≡ true → later ≡ part
     → AnswersBytes d bytes [] outs → ReadLeads part bytes outs later
 read_leads part later d bytes outs holds are marks same answers = subst (ReadLeads part bytes outs) (sym same) leads

@@ -1,4 +1,4 @@
--- What a client's ordered request does to what a replica holds.
+-- What a client's ordered request changes at a replica.
 use Rattle.std.proofs.Common.{◌≡◌, ℕ, ◌+◌, ◌-◌, ◌<◌, ◌≤◌, ◌⊎◌, inl, inr, Bool, true, false, cond, not, ◌==◌, List, [], ◌∷◌, ◌++◌, filter, Option, Some, None, is_some, refl, sym, ap, ◌∙◌, subst, arith}
 use Rattle.std.specs.Prelude.{nat_le, option_and_then}
 use Rattle.std.specs.Option.{option_map_or}
@@ -57,7 +57,7 @@ use Rattle.replica.proofs.Staying.{numbers_beside, said_on}
 use Rattle.replica.proofs.PostedAgain.{all_goes}
 use Rattle.replica.proofs.WaitingOn.{AreOlder, found_call, none_waits, older, no_older, no_older_same, is_latest, seen_before, waits_before, latest, calls_replaced, differ_replaced, frames_replaced}
 
--- ---- what is heard
+-- ---- received requests
 
 abbrev body_of : ℕ → ℕ → Operation → Body
 body_of k t op = record { sender = 256 + k; message = Request t modes.Ordered op }
@@ -115,7 +115,7 @@ module _ (c : Configuration) (me : ℕ) (bytes : List ℕ) (k t : ℕ) (op : Ope
       here frame (inl x) = inl x
       here frame (inr x) = inr (x, ap is_some h)
 
--- what is behind the request that waits isn't that one
+-- a request older than the waiting one is not the waiting one
 not_behind : (c : Configuration) (me : ℕ) (bytes : List ℕ) (k t : ℕ) (op : Operation) (r : WaitingRequest) → heard (members c) me bytes ≡ Some (body_of k t op) → IsCallOf c r (call_for k t op) → IsBehind r t bytes → ⊥
 not_behind c me bytes k t op r hears is (inl below) = let same = is.2 in omega (arith, below, same)
 not_behind c me bytes k t op r hears is (inr (same, other)) = other (call_body c r.frame.items (call_for k t op) is.0 ∙ sym (heard_said c me bytes (body_of k t op) hears))
@@ -137,7 +137,7 @@ module _ (old : JoinedData) (client : ClientId) (timestamp : Timestamp) (bytes :
   abbrev t : ℕ
   t = timestamp.0
 
-  -- the reply that is kept
+  -- the kept reply
   abbrev due : List Message
   due = again_for k t (kept_of old.desk.executed.state k)
 
@@ -158,17 +158,17 @@ module _ (old : JoinedData) (client : ClientId) (timestamp : Timestamp) (bytes :
     free : taken c past input ≡ None
     free = none_taken c past input (ap (option_and_then (new_view_from c)) h)
 
-    -- what has a number behind it
+    -- which requests have a number after it
     numbers : FitsWaiting c (me_of old) old.orderer old.desk.waiting runs.desk (input ∷ past)
     numbers = numbers_beside c (me_of old) old.desk.waiting old.orderer runs.desk past input runs.holds.of_log.fits.faults runs.holds.of_log.fits.own
         (record { here = refl; none = free; sends = refl }) runs.numbers
 
-    -- what is held for changes of the view stays
+    -- the view-change data stay
     changes : Passes c (me_of old) past input old.orderer.log old.orderer.log → FitsChanges c (me_of old) old.orderer.log (changes_of old.orderer) (input ∷ past)
     changes = changes_kept old one c past runs bytes old.orderer.log (same_log old.orderer.log) refl
         (λ passes. heard_keep c (me_of old) past bytes free (subst IsNoBatch (sym h) tt) (λ s other. others_bring_none c (me_of old) s past bytes (subst IsNoChange (sym h) tt) other))
 
-    -- what is due is the reply that is kept
+    -- the kept reply is due
     stands : (desk : Desk) (d : DeskData) → d.me ≡ old.desk.me → IsDeskOf c d desk
         → Enters c (me_of old) bytes runs.desk desk old.orderer.log old.orderer.log (again_for k t (kept_of runs.desk.state k))
         → FitsWaiting c (me_of old) old.orderer d.waiting desk (input ∷ past)
@@ -188,7 +188,7 @@ module _ (old : JoinedData) (client : ClientId) (timestamp : Timestamp) (bytes :
         entered : histories.Fits c (me_of old) start desk old.orderer.log (again_for k t (kept_of runs.desk.state k)) []
         entered = inputs_fit c (me_of old) runs.desk desk old.orderer.log old.orderer.log (again_for k t (kept_of runs.desk.state k)) past bytes runs.holds free e
 
-    -- nothing else changes, where it doesn't wait
+    -- nothing else changes, if it doesn't wait
     stands_same : is_latest runs.desk.state runs.desk.waiting (call_for k t op) ≡ false → Stands c start old.orderer old.desk due []
     stands_same early =
         stands runs.desk old.desk refl runs.is_desk
@@ -245,11 +245,11 @@ module _ (old : JoinedData) (client : ClientId) (timestamp : Timestamp) (bytes :
     past_fresh (inr (r, found, behind)) has =
         not_behind c (me_of old) bytes k t op r h (found_call c k old.desk.waiting.requests runs.desk.waiting r (call_for k t op) runs.is_desk.waiting runs.is_desk.differ found has refl) behind
 
-    -- where nothing is touched
+    -- if nothing is touched
     leaves : (outs : List Output) → AnswersInput c (me_of old) past input (given (me_of old) outs) point old.desk.executed.state.number → (outs ≡ []) ⊎ IsTaken c (me_of old) start → Leaves c start touched.Nothing old outs
     leaves outs answered silent = (rests c old past runs, runs.all, answered, silent)
 
-  -- ---- what is given for it
+  -- ---- what the replica sends for it
 
   due_none : (d : DeskData) (c : Configuration) (s : Start) (o : OrdererData) (outs : List Output) → due ≡ [] → Stands c s o d due outs → Stands c s o d [] outs
   due_none d c s o outs none st = subst (λ (ms : List Message). Stands c s o d ms outs) none st
@@ -266,7 +266,7 @@ module _ (old : JoinedData) (client : ClientId) (timestamp : Timestamp) (bytes :
     );
   }
 
-  -- what is past is dropped
+  -- a past request is dropped
   takes_past : (outs : List Output) → due ≡ [] → outs ≡ [] → IsPast old.desk k t bytes → TakesBytes bytes old touched.Nothing old outs
   takes_past outs none silent is = record {
     party = one_self old;
@@ -278,7 +278,7 @@ module _ (old : JoinedData) (client : ClientId) (timestamp : Timestamp) (bytes :
     );
   }
 
-  -- what waits already makes the replica say again what it said
+  -- a request that waits already makes the replica send again what it sent
   takes_again : (outs : List Output) → due ≡ [] → IsWaitingAlready old.desk k t bytes → AllAgain old [] old outs → TakesBytes bytes old touched.Nothing old outs
   takes_again outs none (lt, r, found, same, says) again = record {
     party = one_self old;
@@ -301,7 +301,7 @@ module _ (old : JoinedData) (client : ClientId) (timestamp : Timestamp) (bytes :
           (subst (λ (st : State). AllGoes (me_of old) old.orderer.log (changes_of old.orderer) st.number (given (me_of old) outs)) (sym (state_is c past runs known))
           (all_goes c old.orderer outs (known ∙ one.1) runs.holds.of_log.fits.own old.desk.executed.state.number again.active again.inactive))
 
-  -- what is newer waits
+  -- a newer request waits
   module _ (outs : List Output) (desk : DeskData) (none : due ≡ []) (silent : outs ≡ []) (newer : IsNewer old.desk k t) (waits : Waits client timestamp bytes old.desk desk) where
     abbrev more : WaitingData
     more = with_request client timestamp waits.0 (without k old.desk.waiting)
@@ -389,7 +389,7 @@ module _ (old : JoinedData) (client : ClientId) (timestamp : Timestamp) (bytes :
 
 -- ---- what a request does
 
--- what was said again by the same replica, from the first output on
+-- what the same replica sends again, from the first output on
 pub all_again : (before old new : JoinedData) (x y : List Output) → before ≡ old → AllAgain before x new y → x ≡ [] → AllAgain old [] old y
 all_again before old new x y same says first =
     let own : AllAgain old [] new y = subst (λ (xs : List Output). AllAgain old xs new y) first (subst (λ (r : JoinedData). AllAgain r x new y) same says) in

@@ -1,4 +1,4 @@
--- What a change of one row does to what the log asks for.
+-- What a change of one row does to the votes that the log asks for.
 use Rattle.std.proofs.Common.{◌≡◌, ◌≢◌, ℕ, ◌+◌, ◌<◌, ◌^◌, Bool, true, false, cond, not, List, length, Option, Some, None, refl, ap, ◌∙◌, arith, ◌&&◌, ◌==◌, eq-eqb, nat_lt, nat_le, is_none}
 use Rattle.std.proofs.lemmas.Bool.{and_parts, ltb-true, leb-true}
 use Rattle.std.proofs.lemmas.List.{get_or-set_same, get_or-set_other}
@@ -34,7 +34,7 @@ row_here m j row is hj =
     let l : place m j < length m.rows = omega (arith, bl, bh, size) in
     get_or-set_same m.rows (place m j) row no_row l
 
--- What depends on a row alone, and on none outside the marks, is the same elsewhere.
+-- A word that depends on a row alone, and on none outside the marks, is the same elsewhere.
 elsewhere : {A : Type 0} (f : Bool → Row → A) → ((r s : Row) → f false r ≡ f false s) → (m : LogData) (i j : ℕ) (row : Row) → is_in_marks m j ≡ true → i ≢ j
     → f (is_in_marks m i) (row_of (with_row m j row) i) ≡ f (is_in_marks m i) (row_of m i)
 elsewhere f out m i j row hj ne = go (is_in_marks m i) refl
@@ -62,7 +62,7 @@ due_prepare_elsewhere m i j row hj ne = elsewhere (prepare_by m) (prepare_out m)
 pub due_commit_elsewhere : (m : LogData) (i j : ℕ) (row : Row) → is_in_marks m j ≡ true → i ≢ j → due_commit (with_row m j row) i ≡ due_commit m i
 due_commit_elsewhere m i j row hj ne = elsewhere (commit_by m) (commit_out m) m i j row hj ne
 
--- where a vote is due, the number is within the marks, and there is none yet
+-- if a vote is due, the number is within the marks, and there is none yet
 pub due_prepare_within : (m : LogData) (i : ℕ) (d : List ℕ) → due_prepare m i ≡ Some d → is_in_marks m i ≡ true
 due_prepare_within m i d h =
     let a = passed (m.active && not (m.me == primary m m.view) && is_none (prepare_of m i m.me)) (logged_digest m i) d h in
@@ -73,7 +73,7 @@ due_commit_within m i d h =
     let a = passed (m.active && logs.is_prepared m i && is_none (commit_of m i m.me)) (logged_digest m i) d h in
     (passed (is_in_marks m i) (digest_of (row_of m i)) d a.1).0
 
--- a vote that is counted is the sender's, if not the first
+-- a counted vote is the sender's, if not the first
 counted : (o : Option (List ℕ)) (s i : ℕ) (vote : Vote) → vote.sender.0 ≡ s → is_none (cond (i == i) (or_else o (then_some (vote.sender.0 == s) vote.digest)) o) ≡ false
 counted o s i vote own = rw (eq-eqb i i refl, eq-eqb vote.sender.0 s own) (go o)
   where
@@ -95,6 +95,6 @@ commit_said counts m i vote is hi own =
     let k : commit_of (with_commit m i vote) i m.me ≡ cond (i == i) (or_else (commit_of m i m.me) (then_some (vote.sender.0 == m.me) vote.digest)) (commit_of m i m.me) = (counts m i i m.me vote is hi).2 in
     stopped (m.active && logs.is_prepared (with_commit m i vote) i) (logged_digest (with_commit m i vote) i) (is_none (commit_of (with_commit m i vote) i m.me)) (ap is_none k ∙ counted (commit_of m i m.me) m.me i vote own)
 
--- a commit leaves the prepare that is due
+-- a commit leaves the due prepare
 pub prepare_stays : (m : LogData) (i : ℕ) (vote : Vote) → IsLog m → is_in_marks m i ≡ true → due_prepare (with_commit m i vote) i ≡ due_prepare m i
 prepare_stays m i vote is hi = ap (prepare_by m (is_in_marks m i)) (row_here m i (record (row_of m i) { commits = with_vote vote (row_of m i).commits }) is hi)

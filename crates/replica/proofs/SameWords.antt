@@ -155,7 +155,7 @@ module _ (c : Configuration) (me : ℕ) (e : Entry) (idle : IsIdle c me e) (h : 
       let installed = idle.installed in
       omega arith
 
-  -- the words behind an idle entry are those before it
+  -- the words after an idle entry are those before it
   pub idle_same : CertifySame c me h (e ∷ h)
   unfolding view checkpoints_of logged prepare_of commit_of
   idle_same = record {

@@ -1,4 +1,4 @@
--- The state of the start of a new view is fetched.
+-- The replica fetches the state at the start of a new view.
 use Rattle.std.proofs.Common.{◌≡◌, ◌<◌, ℕ, List, ◌∷◌, Option, Some, None, refl, sym, ap, ◌∙◌, subst, option_map}
 use Rattle.terms.specs.declared.state.Level.TheVariants as levels
 use Rattle.wire.specs.Messages.{MessageData as Message, CheckpointEntryData as CheckpointEntry, NewViewData, fetch as Fetch}
@@ -9,7 +9,7 @@ use Rattle.protocol.specs.System.Trace.{Once}
 use Rattle.protocol.specs.Replica.Certificates.{taken}
 use Rattle.protocol.specs.Replica.State.{State, pages_of}
 use Rattle.replica_histories.specs.Desk.{Desk}
-use Rattle.replica_histories.specs.Events.{Start, behind}
+use Rattle.replica_histories.specs.Events.{Start, after_outputs}
 use Rattle.replica_histories.specs.Transfers.{MayAsk, AsksNext, transfer_to}
 use Rattle.replica_histories.proofs.NewViews.{starts_may_ask}
 use Rattle.replica.specs.State.{OrdererData, OpenData, DeskData}
@@ -33,17 +33,17 @@ module _ (c : Configuration) (s : Start) (o : OrdererData) (d : DeskData) (desk 
   abbrev pub start_of : CheckpointEntry
   start_of = record { number = new.start; digest = new.root }
 
-  start_may_ask : (due : List Message) → Once (λ past e. taken c past e ≡ Some new) (behind s (given o.endpoint.me before)) → aimed_at d < new.start → FitsEvent c o.endpoint.me s o desk w due before
-      → MayAsk c o.endpoint.me (aim_of start_of d).transfer desk.state.number (behind s (given o.endpoint.me before))
-      × AsksNext c o.endpoint.me (aim_of start_of d).transfer desk.state (behind s (given o.endpoint.me before))
+  start_may_ask : (due : List Message) → Once (λ past e. taken c past e ≡ Some new) (after_outputs s (given o.endpoint.me before)) → aimed_at d < new.start → FitsEvent c o.endpoint.me s o desk w due before
+      → MayAsk c o.endpoint.me (aim_of start_of d).transfer desk.state.number (after_outputs s (given o.endpoint.me before))
+      × AsksNext c o.endpoint.me (aim_of start_of d).transfer desk.state (after_outputs s (given o.endpoint.me before))
   start_may_ask due once ahead f =
-      subst (λ (t : TransferData). MayAsk c o.endpoint.me t desk.state.number (behind s (given o.endpoint.me before)) × AsksNext c o.endpoint.me t desk.state (behind s (given o.endpoint.me before)))
+      subst (λ (t : TransferData). MayAsk c o.endpoint.me t desk.state.number (after_outputs s (given o.endpoint.me before)) × AsksNext c o.endpoint.me t desk.state (after_outputs s (given o.endpoint.me before)))
       (ap (λ (t : Option TransferData). transfer_to t new.start new.root (pages_of d.executed.state)) is.transfer ∙ aim_same d.executed.state d.transfer start_of)
       (starts_may_ask c o.endpoint.me s desk o.log due (given o.endpoint.me before) new (pages_of d.executed.state) once
       (subst (λ (n : ℕ). n < new.start) (sym (aimed_is c d desk is)) ahead) f.fits)
 
-  -- The fetch that is due is said, and the transfer is open behind it.
-  pub start_aims : (rest : List Message) → members c ≡ o.endpoint.membership → Once (λ past e. taken c past e ≡ Some new) (behind s (given o.endpoint.me before)) → aimed_at d < new.start
+  -- The due fetch is sent, and the transfer is open after it.
+  pub start_aims : (rest : List Message) → members c ≡ o.endpoint.membership → Once (λ past e. taken c past e ≡ Some new) (after_outputs s (given o.endpoint.me before)) → aimed_at d < new.start
       → Says o (fetch_of (aim_of start_of d).transfer) before after → FitsEvent c o.endpoint.me s o desk w (Fetch new.start levels.Root 0 ∷ rest) before
       → FitsEvent c o.endpoint.me s o (record desk { transfer = Some (aim_of start_of d).transfer }) w rest after
   start_aims rest known once ahead says f =

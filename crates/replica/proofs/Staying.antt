@@ -1,5 +1,5 @@
--- What an output that is no pre-prepare leaves: which requests have numbers, that the last checkpoint was said, and what is
--- held for changes of the view.
+-- What stays after an output that is no pre-prepare: which requests have numbers, that the last checkpoint was sent,
+-- and the view-change data.
 use Rattle.std.proofs.Common.{◌≡◌, ℕ, false, List, ◌∷◌, Option, None, inr, refl, sym, ap, ◌∙◌, subst, arith}
 use Rattle.std.specs.Prelude.{option_and_then, ⊤}
 use Rattle.std.specs.Option.{option_map_or}
@@ -15,7 +15,7 @@ use Rattle.protocol.specs.System.Trace.Entry.{Executed, Installed, Sent}
 use Rattle.protocol.specs.Replica.Certificates.{view, target, is_later, new_view_from, taken}
 use Rattle.replica_histories.specs.Desk.{Desk}
 use Rattle.replica_histories.specs.Events as events
-use Rattle.replica_histories.specs.Events.{Start, behind}
+use Rattle.replica_histories.specs.Events.{Start, after_outputs}
 use Rattle.replica_histories.specs.Numbers.{KeepsNumbers, is_pre_prepare, sends_pre_prepare}
 use Rattle.replica_histories.specs.Changes.{Changes, CutsClaims, FitsChanges, KeepsChanges}
 use Rattle.replica_histories.proofs.NumbersKept.{others_keep_numbers}
@@ -29,7 +29,7 @@ use Rattle.replica.proofs.Given.{GivesOne}
 use Rattle.replica.proofs.Flags.{flags_stay}
 use Rattle.replica_histories.proofs.ChangesPassing.{changes_stay, claims_are_above, outputs_pass}
 
--- ---- entries that give no number
+-- ---- entries that assign no number
 
 -- the replica's own, with no new view that is taken and no pre-prepare
 pub record IsBeside (c : Configuration) (me : ℕ) (past : List Entry) (e : Entry) : Type 0 where
@@ -83,14 +83,14 @@ installed_beside c me number root past = record { here = refl; none = refl; send
 
 -- ---- what stays
 
--- with rows that are others the log is the same, and so with other checkpoints
+-- with other rows the log is the same, and so with other checkpoints
 pub same_rows : (m : LogData) (rows : List Row) → IsSameLog m (record m { rows = rows })
 same_rows m rows = record { me = refl; faults = refl; span = refl; view = refl; active = refl; low = omega arith }
 
 pub same_but_checkpoints : (m : LogData) (checkpoints : List (List CheckpointEntry)) → IsSameLog m (record m { checkpoints = checkpoints })
 same_but_checkpoints m checkpoints = record { me = refl; faults = refl; span = refl; view = refl; active = refl; low = omega arith }
 
--- the numbers behind such an entry
+-- the numbers after such an entry
 pub keeps_beside : (c : Configuration) (me : ℕ) (log : LogData) (past : List Entry) (e : Entry) → log.faults ≡ c.faults → log.me ≡ me → logs.primary log log.view ≡ log.me → IsBeside c me past e
     → KeepsNumbers c me log.view past e
 keeps_beside c me log past e faults is own beside =
@@ -109,65 +109,65 @@ numbers_alike c me w old new desk history same used f own =
     subst (λ (v : ℕ). FitsFlags c me v new.used w desk.state desk.waiting history) (sym same.view)
     (subst (λ (u : ℕ). FitsFlags c me old.log.view u w desk.state desk.waiting history) (sym used) (f was))
 
--- what was said behind any entry
+-- what the replica sent, after any entry
 pub said_on : (me : ℕ) (last : Option CheckpointEntry) (past : List Entry) (e : Entry) → WasSaid me last past → WasSaid me last (e ∷ past)
 said_on me last past e h entry is = inr (h entry is)
 
--- ---- what is held for changes of the view
+-- ---- view-change data
 
--- Where the low mark moves, the claims up to it go.
+-- If the low mark moves, the claims up to it are dropped.
 pub changes_cut : (c : Configuration) (me : ℕ) (s : Start) (old new : OrdererData) (desk later : Desk) (due rest : List Message) (outputs : List Entry) (e : Entry)
-    → events.Fits c me s desk old.log due outputs → events.Fits c me s later new.log rest (e ∷ outputs) → KeepsChanges c me (behind s outputs) e → IsSameLog old.log new.log
+    → events.Fits c me s desk old.log due outputs → events.Fits c me s later new.log rest (e ∷ outputs) → KeepsChanges c me (after_outputs s outputs) e → IsSameLog old.log new.log
     → CutsClaims new.log.low old.claims new.claims → changes_of new ≡ record (changes_of old) { claims = new.claims }
-    → FitsChanges c me old.log (changes_of old) (behind s outputs) → FitsChanges c me new.log (changes_of new) (e ∷ behind s outputs)
+    → FitsChanges c me old.log (changes_of old) (after_outputs s outputs) → FitsChanges c me new.log (changes_of new) (e ∷ after_outputs s outputs)
 changes_cut c me s old new desk later due rest outputs e f on keeps same cuts held x =
-    subst (λ (y : Changes). FitsChanges c me new.log y (e ∷ behind s outputs)) (sym held)
-    (changes_stay c me (behind s outputs) e old.log new.log (changes_of old) new.claims (outputs_pass c me s desk later old.log new.log due rest outputs e f on)
+    subst (λ (y : Changes). FitsChanges c me new.log y (e ∷ after_outputs s outputs)) (sym held)
+    (changes_stay c me (after_outputs s outputs) e old.log new.log (changes_of old) new.claims (outputs_pass c me s desk later old.log new.log due rest outputs e f on)
     (record { view = same.view; active = same.active }) keeps cuts x)
 
--- Where it stays, nothing changes.
+-- If it stays, nothing changes.
 pub changes_still : (c : Configuration) (me : ℕ) (s : Start) (old new : OrdererData) (desk later : Desk) (due rest : List Message) (outputs : List Entry) (e : Entry)
-    → events.Fits c me s desk old.log due outputs → events.Fits c me s later new.log rest (e ∷ outputs) → KeepsChanges c me (behind s outputs) e → IsSameLog old.log new.log
+    → events.Fits c me s desk old.log due outputs → events.Fits c me s later new.log rest (e ∷ outputs) → KeepsChanges c me (after_outputs s outputs) e → IsSameLog old.log new.log
     → new.log.low ≡ old.log.low → changes_of new ≡ changes_of old
-    → FitsChanges c me old.log (changes_of old) (behind s outputs) → FitsChanges c me new.log (changes_of new) (e ∷ behind s outputs)
+    → FitsChanges c me old.log (changes_of old) (after_outputs s outputs) → FitsChanges c me new.log (changes_of new) (e ∷ after_outputs s outputs)
 changes_still c me s old new desk later due rest outputs e f on keeps same low held x =
-    subst (λ (y : Changes). FitsChanges c me new.log y (e ∷ behind s outputs)) (sym held)
-    (changes_stay c me (behind s outputs) e old.log new.log (changes_of old) old.claims (outputs_pass c me s desk later old.log new.log due rest outputs e f on)
+    subst (λ (y : Changes). FitsChanges c me new.log y (e ∷ after_outputs s outputs)) (sym held)
+    (changes_stay c me (after_outputs s outputs) e old.log new.log (changes_of old) old.claims (outputs_pass c me s desk later old.log new.log due rest outputs e f on)
     (record { view = same.view; active = same.active }) keeps
-    (subst (λ (n : ℕ). CutsClaims n old.claims old.claims) (sym low) (claims_are_above c me old.log (behind s outputs) old.claims f.of_log x.claims)) x)
+    (subst (λ (n : ℕ). CutsClaims n old.claims old.claims) (sym low) (claims_are_above c me old.log (after_outputs s outputs) old.claims f.of_log x.claims)) x)
 
 -- ---- in an event
 
--- Where desk and log fit the history behind one output more, and so do the numbers and what is held, all fits it.
+-- If desk and log fit the history after one output more, and so do the numbers and the view-change data, all fits it.
 pub fits_behind : (c : Configuration) (me : ℕ) (s : Start) (old new : OrdererData) (desk later : Desk) (w more : WaitingData) (due rest : List Message) (before after : List Output) (e : Entry)
     → GivesOne c me before after e → new.last_checkpoint ≡ old.last_checkpoint → FitsEvent c me s old desk w due before
-    → events.Fits c me s later new.log rest (e ∷ given me before) → FitsWaiting c me new more later (e ∷ behind s (given me before))
-    → FitsChanges c me new.log (changes_of new) (e ∷ behind s (given me before))
+    → events.Fits c me s later new.log rest (e ∷ given me before) → FitsWaiting c me new more later (e ∷ after_outputs s (given me before))
+    → FitsChanges c me new.log (changes_of new) (e ∷ after_outputs s (given me before))
     → FitsEvent c me s new later more rest after
 fits_behind c me s old new desk later w more due rest before after e gives last f on numbers changes = record {
   fits = subst (λ (es : List Entry). events.Fits c me s later new.log rest es) (sym gives.is) on;
-  numbers = subst (λ (es : List Entry). FitsWaiting c me new more later (behind s es)) (sym gives.is) numbers;
-  said = subst (λ (es : List Entry). WasSaid me new.last_checkpoint (behind s es)) (sym gives.is)
-      (subst (λ (x : Option CheckpointEntry). WasSaid me x (e ∷ behind s (given me before))) (sym last) (said_on me old.last_checkpoint (behind s (given me before)) e f.said));
-  changes = subst (λ (es : List Entry). FitsChanges c me new.log (changes_of new) (behind s es)) (sym gives.is) changes;
+  numbers = subst (λ (es : List Entry). FitsWaiting c me new more later (after_outputs s es)) (sym gives.is) numbers;
+  said = subst (λ (es : List Entry). WasSaid me new.last_checkpoint (after_outputs s es)) (sym gives.is)
+      (subst (λ (x : Option CheckpointEntry). WasSaid me x (e ∷ after_outputs s (given me before))) (sym last) (said_on me old.last_checkpoint (after_outputs s (given me before)) e f.said));
+  changes = subst (λ (es : List Entry). FitsChanges c me new.log (changes_of new) (after_outputs s es)) (sym gives.is) changes;
   meant = gives.meant f.meant;
 }
 
--- So it is behind an entry that gives no number, where the log stays in its view.
+-- So does all after an entry that assigns no number, if the log stays in its view.
 pub fits_with : (c : Configuration) (me : ℕ) (s : Start) (old new : OrdererData) (desk : Desk) (w : WaitingData) (due rest : List Message) (before after : List Output) (e : Entry)
-    → GivesOne c me before after e → IsBeside c me (behind s (given me before)) e
+    → GivesOne c me before after e → IsBeside c me (after_outputs s (given me before)) e
     → IsSameLog old.log new.log → new.used ≡ old.used → new.last_checkpoint ≡ old.last_checkpoint
-    → FitsChanges c me new.log (changes_of new) (e ∷ behind s (given me before))
+    → FitsChanges c me new.log (changes_of new) (e ∷ after_outputs s (given me before))
     → FitsEvent c me s old desk w due before → events.Fits c me s desk new.log rest (e ∷ given me before)
     → FitsEvent c me s new desk w rest after
 fits_with c me s old new desk w due rest before after e is beside same used last changes f on =
     fits_behind c me s old new desk desk w w due rest before after e is last f on
-    (numbers_alike c me w old new desk (e ∷ behind s (given me before)) same used
-    (numbers_beside c me w old desk (behind s (given me before)) e f.fits.of_log.faults f.fits.of_log.own beside f.numbers)) changes
+    (numbers_alike c me w old new desk (e ∷ after_outputs s (given me before)) same used
+    (numbers_beside c me w old desk (after_outputs s (given me before)) e f.fits.of_log.faults f.fits.of_log.own beside f.numbers)) changes
 
--- And so where it brings nothing about, and the low mark stays.
+-- And if it changes no view-change data, and the low mark stays.
 pub fits_on : (c : Configuration) (me : ℕ) (s : Start) (old new : OrdererData) (desk : Desk) (w : WaitingData) (due rest : List Message) (before after : List Output) (e : Entry)
-    → GivesOne c me before after e → IsBeside c me (behind s (given me before)) e → KeepsChanges c me (behind s (given me before)) e
+    → GivesOne c me before after e → IsBeside c me (after_outputs s (given me before)) e → KeepsChanges c me (after_outputs s (given me before)) e
     → IsSameLog old.log new.log → new.log.low ≡ old.log.low → new.used ≡ old.used → new.last_checkpoint ≡ old.last_checkpoint → changes_of new ≡ changes_of old
     → FitsEvent c me s old desk w due before → events.Fits c me s desk new.log rest (e ∷ given me before)
     → FitsEvent c me s new desk w rest after

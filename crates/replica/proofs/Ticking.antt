@@ -1,4 +1,4 @@
--- An event of time: an open transfer asks again, and the replica moves to the next view.
+-- A timeout: an open transfer asks again, and the replica moves to the next view.
 use Rattle.std.proofs.Common.{◌≡◌, ◌≢◌, ℕ, suc, ◌+◌, ◌^◌, ◌<◌, ◌⊎◌, max, inl, inr, true, false, List, [], ◌∷◌, map, Option, None, Some, Result, Ok, Err, IfOk, option_map}
 use Rattle.std.proofs.Common.{refl, sym, ap, ap₂, ◌∙◌, subst, arith}
 use Rattle.std.proofs.lemmas.Bool.{leb-false, leb-true, ltb-true}
@@ -20,7 +20,7 @@ use Rattle.replica_histories.specs.Inputs.{again_due}
 use Rattle.replica_histories.specs.Views.{entries_of}
 use Rattle.replica_histories.specs.Transfers.{FitsOpen}
 use Rattle.replica_histories.specs.Events as histories
-use Rattle.replica_histories.specs.Events.{Start, behind}
+use Rattle.replica_histories.specs.Events.{Start, after_outputs}
 use Rattle.replica_histories.proofs.ChangesKept.{silent_keep}
 use Rattle.replica_histories.proofs.ChangesPassing.{changes_stay, claims_are_above, inputs_enter}
 use Rattle.replica_histories.proofs.Entering.{ticks_fit}
@@ -67,7 +67,7 @@ module _ (r : JoinedData) (one : AreOne r.orderer r.desk) where
     entered : histories.Fits c me start runs.desk o.log (again_due runs.desk.transfer) []
     entered = ticks_fit c me runs.desk o.log past runs.holds
 
-    -- what is held for changes of the view stays
+    -- the view-change data stay
     held : FitsChanges c me o.log (changes_of o) (tick ∷ past)
     held = changes_stay c me past tick o.log o.log (changes_of o) o.claims
         (inputs_enter c me runs.desk runs.desk o.log o.log (again_due runs.desk.transfer) past tick runs.holds entered)
@@ -152,7 +152,7 @@ module _ (r : JoinedData) (one : AreOne r.orderer r.desk) where
     view_due : (v w : ℕ) → IsDue r v → HasToMove c me past tick point.waiting w → w ≡ v
     view_due v w due reason = let next = (times w reason).1 in let is = sought_is in let due_is = due.1 in omega (arith, next, is, due_is)
 
-    -- nor where it can't be sent
+    -- nor if it can't be sent
     unsaid_move : (v : ℕ) → JudgesAlike o → ChangesAreJudged → members c ≡ r.desk.membership → IsDue r v → IsUnsayable o (change_for v (entries_of r.desk.snapshots) o) → (outputs : List Entry)
         → MovesOn c me past tick outputs point
     unsaid_move v alike judge known due unsaid outputs vc bytes reason may within says = inr (all_are_spent c me o.log (changes_of o) past spent runs.changes)
@@ -173,13 +173,13 @@ module _ (r : JoinedData) (one : AreOne r.orderer r.desk) where
     answers : (outputs : List Entry) (executed : ℕ) → MovesOn c me past tick outputs point → AnswersInput c me past tick outputs point executed
     answers outputs executed moves = let parts = others_owe_no_part c me past tick outputs point executed refl in (parts.0, parts.1, parts.2, parts.3, parts.4, moves)
 
-    -- where nothing more is to be done
+    -- if nothing more is to be done
     leaves : (new : JoinedData) (outs : List Output) → Rests new → IsAllNumbered new
         → AnswersInput c (me_of new) past tick (given (me_of new) outs) point new.desk.executed.state.number
         → Leaves c start touched.Nothing new outs
     leaves new outs rest all answered = (rest, all, answered, inr tt)
 
-  -- ---- what time going by does
+  -- ---- what a timeout does
 
   pub ticks_nothing : (new : JoinedData) (outs : List Output) → new ≡ r → IsNotDue new → SaysFetch r [] outs
       → TakesTick r touched.Nothing new outs
@@ -209,7 +209,7 @@ module _ (r : JoinedData) (one : AreOne r.orderer r.desk) where
         );
       })
 
-  -- it has a reason to leave it where it is due to
+  -- it has a reason to leave the view, if it is due to
   has_reason : (v : ℕ) → IsDue r v → (c : Configuration) (past : List Entry) (runs : Runs c r past) → HasReason c (start c past runs) r v
   has_reason v due c past runs = inl (refl, either due.0, next)
     where
@@ -230,7 +230,7 @@ module _ (r : JoinedData) (one : AreOne r.orderer r.desk) where
           one_more n = omega arith
 
   module _ (v : ℕ) (due : IsDue r v) (mid : JoinedData) (x y : List Output) (says : SaysFetch r [] x) (left : LeavesView v r x mid y) where
-    -- nothing is left to say or to execute, and a replica that isn't active numbers nothing
+    -- no message is left to send and no batch to execute, and a replica that isn't active assigns no number
     at_rest : (c : Configuration) (past : List Entry) → Runs c r past → Rests mid
     at_rest c past runs = let rest = rests c r past runs in (left.voted, left.executed rest.1)
 
@@ -242,20 +242,20 @@ module _ (r : JoinedData) (one : AreOne r.orderer r.desk) where
     stands_left c past runs known =
         left.stands c (start c past runs) known (rests c r past runs).0 (has_reason v due c past runs) (stands c past runs x known says)
 
-    -- it was left by a view change for the one that is due
+    -- the replica left it by a view change for the due view
     moved : (c : Configuration) (past : List Entry) (runs : Runs c r past) (outputs : List Entry) (executed : ℕ)
-        → target (behind (start c past runs) outputs) ≡ v → AnswersInput c me past tick outputs runs.holds.of_desk.point executed
+        → target (after_outputs (start c past runs) outputs) ≡ v → AnswersInput c me past tick outputs runs.holds.of_desk.point executed
     moved c past runs outputs executed at = answers c past runs outputs executed (λ vc bytes reason may within says_it.
         let same = view_due c past runs v vc.view due reason in inl (omega (arith, same, at)))
 
     mine : mid.desk.me ≡ me
     mine = left.party.me ∙ one.0
 
-    target_left : (c : Configuration) (past : List Entry) (runs : Runs c r past) → members c ≡ r.desk.membership → target (behind (start c past runs) (given me y)) ≡ v
+    target_left : (c : Configuration) (past : List Entry) (runs : Runs c r past) → members c ≡ r.desk.membership → target (after_outputs (start c past runs) (given me y)) ≡ v
     target_left c past runs known =
-        subst (λ (m : ℕ). target (behind (start c past runs) (given m y)) ≡ mid.orderer.target) mine (stands_left c past runs known).fits.changes.target ∙ left.target
+        subst (λ (m : ℕ). target (after_outputs (start c past runs) (given m y)) ≡ mid.orderer.target) mine (stands_left c past runs known).fits.changes.target ∙ left.target
 
-    -- the view is left, and does not begin
+    -- the replica leaves the view, and no view begins
     ticks_left : HasNoView mid → TakesTick r touched.Nothing mid y
     ticks_left none = record {
       party = left.party;

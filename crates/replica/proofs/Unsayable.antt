@@ -1,4 +1,4 @@
--- A view change that can't be sent: no frame says it, or the keys are spent.
+-- A view change that can't be sent: no frame spells it, or the keys are spent.
 use Rattle.std.proofs.Common.{◌≡◌, ℕ, ◌+◌, ◌^◌, ◌<◌, ◌≤◌, ◌⊎◌, inl, inr, true, false, List, ◌++◌, length, length-append, map, Option, Some, None, Vec, refl, sym, ap, ap₂, ◌∙◌, subst, arith, IfNone}
 use Rattle.wire.specs.Messages.{AuthenticatorData as Authenticator, BodyData as Body, CheckpointEntryData as CheckpointEntry, MessageData as Message, ViewChangeData, macs, signature, view_change as ViewChange}
 use Rattle.wire.specs.Spelling.{IsAuthenticator, authenticator_is_signed, authenticator_spelling, body_spelling, frame_limit, is_signed, piece}
@@ -30,7 +30,7 @@ use Rattle.replica.specs.Desks.{changes_of}
 use Rattle.replica.specs.Going.{IsVotedAll}
 use Rattle.replica.specs.State.{JoinedData, OrdererData}
 
--- ---- no frame says it
+-- ---- no frame spells it
 
 -- with a list that no frame counts
 pub too_many : (sender : ℕ) (vc : ViewChangeData) → (2 ^ 16 ≤ length vc.prepared) ⊎ (2 ^ 16 ≤ length vc.pre_prepared) → (bytes : List ℕ) → said bytes ≡ Some (record { sender = sender; message = ViewChange vc }) → ⊥
@@ -59,7 +59,7 @@ too_long sender vc exceeds bytes h =
     let over : 262144 < length (piece (body_spelling body)) + 16578 = exceeds in
     absurd (omega (arith, over, whole, short, parts))
 
--- ---- what the replica has to say can't be sent
+-- ---- the replica can't send its view change
 
 module _ (c : Configuration) (me : ℕ) (desk : Desk) (o : OrdererData) (history : List Entry) (point now : Point) (v : ℕ)
     (fits : FitsLog c me o.log history) (leaves : Leaves c me history now) (voted : IsVotedAll o.log) (kept : map snapshot_of (kept_states o.log.low point.snapshots) ≡ desk.snapshots)
@@ -67,7 +67,7 @@ module _ (c : Configuration) (me : ℕ) (desk : Desk) (o : OrdererData) (history
   abbrev its : ViewChangeData
   its = change_for v (entries_of desk.snapshots) o
 
-  -- it is the one view change that it may send
+  -- it is the one view change that the replica may send
   pub is_change_for : (vc : ViewChangeData) (bytes : List ℕ) → vc.view ≡ v → IsNewViewChange c me history point vc → said bytes ≡ Some (record { sender = me; message = ViewChange vc })
       → vc ≡ change_for v (entries_of desk.snapshots) o
   is_change_for vc bytes at may says_it =
@@ -103,9 +103,9 @@ module _ (c : Configuration) (me : ℕ) (desk : Desk) (o : OrdererData) (history
               let most = f.own_latest h (subst (λ (n : ℕ). held_of o.received.held n ≡ Some h) own there) in
               omega (arith, l, is, most, at)
 
--- ---- nothing is signed
+-- ---- the replica signs nothing
 
--- what holds where there is none
+-- what holds if there is none
 pub of_none : {A : Type 0} (P : Type 0) (o : Option A) → o ≡ None → IfNone o P → P
 of_none P o is h = subst (λ x. IfNone x P) is h
 
@@ -114,7 +114,7 @@ made_is : (view low : ℕ) (checkpoints : List CheckpointEntry) (claims : Claims
 made_is view low checkpoints claims o vc made at same =
     made ∙ ap₂ (λ (l : ℕ) (cs : ClaimsData). let x : ViewChangeData = record { view = view; low = l; checkpoints = checkpoints; prepared = cs.prepared; pre_prepared = cs.logged } in x) at same
 
--- the copy of what is made isn't signed
+-- the copy of the view change isn't signed
 pub not_signed : (o later : OrdererData) (view low : ℕ) (checkpoints : List CheckpointEntry) (claims : ClaimsData) (said x : Change) (message : Message) (r : Option (Vec ℕ Global))
     → view_change_data x.change ≡ record { view = view; low = low; checkpoints = checkpoints; prepared = claims.prepared; pre_prepared = claims.logged } → low ≡ o.log.low → claims ≡ o.claims
     → change_pair said ≡ change_pair x → message ≡ ViewChange (view_change_data said.change) → r ≡ None → MaySign message o later r → (later ≡ o) × IsUnsayable o (change_for view checkpoints o)

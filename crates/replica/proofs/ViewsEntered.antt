@@ -1,4 +1,4 @@
--- The replica enters a view by a new view that was taken, or sent: what stands behind it, with all that it asks for.
+-- The replica enters a view by a new view that it took or sent: what stands after it, with all that it asks for.
 use Rattle.std.proofs.Common.{◌≡◌, ◌≢◌, ℕ, suc, ◌+◌, ◌-◌, ◌≤◌, ◌<◌, ◌^◌, ◌⊎◌, inl, inr, Bool, true, false, cond, not, ◌&&◌, ◌==◌, List, [], ◌∷◌, length, Option, Some, None, refl, sym, ap, ◌∙◌, subst, arith, nat_lt, nat_le}
 use Rattle.std.specs.Prelude.{AllPairs, is_none, option_map}
 use Rattle.std.proofs.lemmas.Bool.{leb-true, leb-false, ltb-true, ltb-false, le-ltb, lt-ltb}
@@ -23,7 +23,7 @@ use Rattle.protocol.proofs.Words.Options.{some_injective}
 use Rattle.protocol.proofs.Agreement.Marks.{takes, selected_in}
 use Rattle.replica_histories.specs.Desk.{Desk, desk_from}
 use Rattle.replica_histories.specs.Events as histories
-use Rattle.replica_histories.specs.Events.{Start, behind}
+use Rattle.replica_histories.specs.Events.{Start, after_outputs}
 use Rattle.replica_histories.specs.Transfers.{open_number}
 use Rattle.replica_histories.specs.Views.{begun_log, start_due, with_batches}
 use Rattle.replica_histories.specs.Changes.{AddsBatches, BeginsClaims, FitsChanges, IsOwnFrame, Passes, SpendsLeaves}
@@ -51,12 +51,12 @@ use Rattle.replica.proofs.Lists.{Pairs, pairs_of, all_pairs}
 use Rattle.replica.proofs.StartsFetched.{start_aims}
 use Rattle.replica.proofs.Staying.{said_on}
 
--- ---- what the parts are then
+-- ---- the parts then
 
 abbrev pub start_in : NewViewData → CheckpointEntry
 start_in new = record { number = new.start; digest = new.root }
 
--- the orderer behind the batches
+-- the orderer after the batches
 abbrev pub begun_orderer : NewViewData → Option (List ℕ) → ClaimsData → OrdererData → OrdererData
 begun_orderer new own claims o = record o {
   log = begun_log o.log new;
@@ -73,7 +73,7 @@ begun_parts new own claims calls r = record r {
   desk = desk_above (logs.cut_to (logs.entered r.orderer.log new.view) new.start).low (record r.desk { waiting = with_view calls r.desk.waiting });
 }
 
--- what was entered: the parts, and then what is fetched and voted
+-- the entered view: the parts, and then the fetches and votes
 pub record Entered (new : NewViewData) (own : Option (List ℕ)) (r : JoinedData) (before : List Output) (n : JoinedData) (after : List Output) : Type 0 where
   pub calls : List BegunCall
   pub are : AreBegun r.desk.executed.clients new.batches calls
@@ -123,7 +123,7 @@ entered new own r before n after x = record {
         ∙ ap (λ (y : JoinedData). let k : JoinedData = record y { orderer = begun_orderer new own x.logs.0 r.orderer } in k) x.cuts.2
         ∙ ap (λ (d : DeskData). let k : JoinedData = record r { orderer = begun_orderer new own x.logs.0 r.orderer; desk = desk_above (logs.cut_to in_view new.start).low d } in k) x.noted.new_is
 
--- ---- the party, and what is fetched
+-- ---- the party, and the fetch
 
 -- the orderer stays, and so does the party
 pub record FetchedSo (r n : JoinedData) : Type 0 where
@@ -154,7 +154,7 @@ entered_party new own r before n after x = record {
     so = fetched_so (start_in new) (begun_parts new own x.claims x.calls r) x.fetched before x.said x.fetches
 
 module _ (c : Configuration) (s : Start) (r n : JoinedData) (later : Desk) (new : NewViewData) (before after : List Output) (known : members c ≡ r.orderer.endpoint.membership) (mine : r.desk.me ≡ r.orderer.endpoint.me)
-    (is : IsDeskOf c r.desk later) (once : Once (λ past e. taken c past e ≡ Some new) (behind s (given r.orderer.endpoint.me before)))
+    (is : IsDeskOf c r.desk later) (once : Once (λ past e. taken c past e ≡ Some new) (after_outputs s (given r.orderer.endpoint.me before)))
     (f : FitsEvent c r.orderer.endpoint.me s r.orderer later r.desk.waiting (start_due later new) before) where
   due_ahead : aimed_at r.desk < new.start → start_due later new ≡ Fetch new.start levels.Root 0 ∷ []
   due_ahead ahead =
@@ -197,7 +197,7 @@ module _ (c : Configuration) (s : Start) (r n : JoinedData) (later : Desk) (new 
 
 -- ---- no vote is left
 
--- the log asks for no vote of a number that has no batch
+-- the log asks for no vote of a number without a batch
 unlogged_voted : (m : LogData) (i : ℕ) → logs.logged_batch m i ≡ None → IsVoted m i
 unlogged_voted m i none = (
   gated (m.active && not (m.me == logs.primary m m.view) && is_none (logs.prepare_of m i m.me)) (logs.logged_digest m i) digest,
@@ -211,7 +211,7 @@ unlogged_voted m i none = (
     digest : logs.logged_digest m i ≡ None
     digest = go (logs.is_in_marks m i) none
 
--- where a view begins, it asks for those of the new view's numbers alone
+-- if a view begins, it asks only for votes of the new view's numbers
 begun_votes : (log : LogData) (new : NewViewData) (i : ℕ) → IsLog log → new.start < 2 ^ 48 → ((new.start < i) × (i ≤ new.start + length new.batches)) ⊎ IsVoted (begun_log log new) i
 begun_votes log new i is small = go (nat_lt new.start i) (nat_le i (new.start + length new.batches)) refl refl
   where
@@ -272,11 +272,10 @@ pairs_called c (t ∷ rs) (y ∷ calls) h d = (each_other c t y rs calls h.0.1 h
 calls_differ : (c : Configuration) (rs : List WaitingRequest) (calls : List Call) → AreCallsOf c rs calls → AreOfDifferentClients rs → AllPairs CallsDiffer calls
 calls_differ c rs calls h d = all_pairs CallsDiffer calls (pairs_called c rs calls h (pairs_of RequestsDiffer rs d))
 
--- What fits behind the new view, before anything is fetched: the numbers are those of its calls, and its batches are
--- claimed.
+-- What fits after the new view, before any fetch: the numbers are those of its calls, and its batches are claimed.
 module _ (c : Configuration) (s : Start) (r : JoinedData) (desk : Desk) (new : NewViewData) (own : Option (List ℕ)) (before : List Output) (past : List Entry) (e : Entry) (sender : ℕ)
     (one : AreOne r.orderer r.desk) (clients : r.desk.executed.clients ≡ r.desk.membership.clients) (is : IsDeskOf c r.desk desk)
-    (at : behind s (given r.orderer.endpoint.me before) ≡ e ∷ past) (meant : AreSentAsMeant c r.orderer.endpoint.me before)
+    (at : after_outputs s (given r.orderer.endpoint.me before) ≡ e ∷ past) (meant : AreSentAsMeant c r.orderer.endpoint.me before)
     (fits : histories.Fits c r.orderer.endpoint.me s (desk_from (begun_log r.orderer.log new).low desk) (begun_log r.orderer.log new) (start_due desk new) (given r.orderer.endpoint.me before))
     (passes : Passes c r.orderer.endpoint.me past e r.orderer.log (begun_log r.orderer.log new)) (t : taken c past e ≡ Some new) (brings : brought c e ≡ Some (record { sender = sender; message = NewView new }))
     (frame : IsOwnFrame c r.orderer.endpoint.me e new own) (spends : SpendsLeaves r.orderer.spent r.orderer.spent past e) (was_said : WasSaid r.orderer.endpoint.me r.orderer.last_checkpoint past)

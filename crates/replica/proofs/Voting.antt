@@ -1,4 +1,4 @@
--- The votes that are said fit.
+-- The votes that the replica sends fit.
 use Rattle.std.proofs.Common.{◌≡◌, ℕ, Bool, true, false, cond, ◌&&◌, is_none, List, ◌∷◌, Option, Some, None, option_map, refl, sym, ap, ◌∙◌, subst}
 use Rattle.sha2.specs.Sha256.{sha256}
 use Rattle.wire.specs.Messages.{MessageData as Message, prepare as Prepare, commit as Commit}
@@ -16,7 +16,7 @@ use Rattle.protocol.specs.Replica.RightReplica.{others}
 use Rattle.posting.proofs.Posting.{posted_for_others}
 use Rattle.events.specs.declared.output.Output.{Output}
 use Rattle.replica_histories.specs.Events as events
-use Rattle.replica_histories.specs.Events.{behind}
+use Rattle.replica_histories.specs.Events.{after_outputs}
 use Rattle.replica_histories.specs.Changes.{FitsChanges}
 use Rattle.replica_histories.proofs.Words.{passed}
 use Rattle.replica_histories.proofs.ChangesPassing.{outputs_pass, commits_are_claimed}
@@ -32,7 +32,7 @@ use Rattle.replica_histories.proofs.ChangesKept.{sent_keep}
 use Rattle.replica.proofs.Staying.{sent_beside, same_rows, fits_on, fits_with}
 use Rattle.replica.proofs.Rows.{due_prepare_elsewhere, due_commit_elsewhere, due_prepare_within, due_commit_within, prepare_said, commit_said, prepare_stays}
 
--- what was said, as the laws over histories ask for it
+-- the sent message, as the laws over histories ask for it
 pub record SaidIn (c : Configuration) (o : OrdererData) (message : Message) (before after : List Output) : Type 0 where
   pub bytes : List ℕ
   pub posted : IsPosted c o.endpoint.me message (others c o.endpoint.me) bytes
@@ -46,7 +46,7 @@ said_in c o message before after known s = record {
   is = gives_one c o.endpoint.me before after s.output (Sent o.endpoint.me s.posts.bytes) s.given_is s.posts.sends (s.posts.meant c known);
 }
 
--- nothing is asked for, and nothing is said
+-- nothing is asked for, and nothing is sent
 pub silent : (number : ℕ) (o : OrdererData) (outs : List Output) → SaysVote number o outs o outs
 silent number o outs = record {
   goes = λ c s desk w due known f. f;
@@ -70,8 +70,8 @@ prepare_goes : (number : ℕ) (digest : List ℕ) (vote : Vote) (o : OrdererData
 prepare_goes number digest vote o before after own due sender same says c s desk w d known f =
     let k = said_in c o (Prepare o.log.view number digest) before after known says in
     fits_on c o.endpoint.me s o (record o { log = with_prepare o.log number vote }) desk w d d before after (Sent o.endpoint.me k.bytes) k.is
-    (sent_beside c o.endpoint.me (Prepare o.log.view number digest) (others c o.endpoint.me) k.bytes (behind s (given o.endpoint.me before)) tt k.posted)
-    (sent_keep c o.endpoint.me (behind s (given o.endpoint.me before)) (Prepare o.log.view number digest) k.bytes k.posted.says tt (λ signed. absurd cc))
+    (sent_beside c o.endpoint.me (Prepare o.log.view number digest) (others c o.endpoint.me) k.bytes (after_outputs s (given o.endpoint.me before)) tt k.posted)
+    (sent_keep c o.endpoint.me (after_outputs s (given o.endpoint.me before)) (Prepare o.log.view number digest) k.bytes k.posted.says tt (λ signed. absurd cc))
     (same_rows o.log (with_prepare o.log number vote).rows) refl refl refl refl f
     (prepares_fit c o.endpoint.me s desk o.log d (given o.endpoint.me before) number digest k.bytes vote due (sender ∙ own) same k.posted f.fits)
 
@@ -99,7 +99,7 @@ says_prepare number digest old new before after is own due says adds =
 
 -- ---- a commit
 
--- the digest that is logged is the batch's
+-- the logged digest is the batch's
 digest_logged : (m : LogData) (i : ℕ) → logged_digest m i ≡ option_map sha256 (logged_batch m i)
 digest_logged m i = go (is_in_marks m i)
   where
@@ -107,7 +107,7 @@ digest_logged m i = go (is_in_marks m i)
     go true = refl
     go false = refl
 
--- what a commit is due for is claimed
+-- the batch whose commit is due is claimed
 pub record ClaimsDue (number : ℕ) (digest : List ℕ) (old new : OrdererData) : Type 0 where
   pub text : List ℕ
   pub digest_is : sha256 text ≡ digest
@@ -144,7 +144,7 @@ commit_goes number digest text vote o before after own due hashed sender same sa
     me = o.endpoint.me
 
     past : List Entry
-    past = behind s (given me before)
+    past = after_outputs s (given me before)
 
     log : LogData
     log = with_commit o.log number vote
@@ -191,7 +191,7 @@ says_commit number digest old mid new before after is own due claims says adds =
 
 -- ---- both
 
--- what goes on goes on
+-- if both go on, the whole does
 pub goes_twice : (a b d : OrdererData) (x y z : List Output) → b.endpoint ≡ a.endpoint → GoesOn a x b y → GoesOn b y d z → GoesOn a x d z
 goes_twice a b d x y z same first second c s desk w due known f =
     subst (λ e. FitsEvent c e.me s d desk w due z) same

@@ -1,4 +1,4 @@
--- What waits, with some taken away, and with numbers.
+-- The waiting requests, after some are removed or get numbers.
 use Rattle.std.proofs.Common.{◌≡◌, ℕ, zero, suc, ◌+◌, ◌-◌, ◌≤◌, ◌<◌, Bool, true, false, cond, not, ◌||◌, List, [], ◌∷◌, ◌++◌, length, map, filter, take, drop, set, get_or, arith, refl, sym, ap, ◌∙◌}
 use Rattle.std.specs.Prelude.{Vec}
 use Rattle.std.specs.List.{list_any}
@@ -50,7 +50,7 @@ each_renumbered begun (x ∷ xs) h = (h.0, each_renumbered begun xs h.1)
 pub view_waits : (begun : List BegunCall) (w : WaitingData) → IsWaiting w → IsWaiting (with_view begun w)
 view_waits begun w h = record { each = each_renumbered begun w.requests h.each }
 
--- where no more are given, all stay
+-- if no more are assigned, all stay
 none_numbered : (xs : List WaitingRequest) → all_numbered 0 xs ≡ xs
 none_numbered [] = refl
 none_numbered (x ∷ xs) = refl
@@ -68,7 +68,7 @@ unnumbered_head (suc n) r xs e some =
     back : (m : ℕ) → m ≡ suc m - 1
     back m = omega arith
 
--- one of the requests is written: it keeps its flag where it has a number or no more are given, and else gets one
+-- one of the requests is written: it keeps its flag if it has a number or no more are assigned, and else gets one
 module _ (xs : List WaitingRequest) (i : ℕ) (d : WaitingRequest) (within : i < length xs) (n : ℕ) where
   abbrev this : WaitingRequest
   this = get_or xs i d
@@ -116,7 +116,7 @@ as_many [] (r ∷ rs) same = absurd cc
 as_many (f ∷ fs) [] same = absurd cc
 as_many (f ∷ fs) (r ∷ rs) same = ap suc (as_many fs rs (ap (drop 1) same))
 
--- a test finds one exactly where there is one
+-- a test finds one exactly if there is one
 some_kept : (xs : List WaitingRequest) (b : Bool) → b ≡ list_any (λ r. not r.numbered) xs → b ≡ true → 1 ≤ length (all_unnumbered xs)
 some_kept [] b is e = absurd (let bad : true ≡ false = sym e ∙ is in cc)
 some_kept (x ∷ xs) b is e = go (not x.numbered) (sym is ∙ e) (λ h. some_kept xs true (sym h) refl)

@@ -1,4 +1,4 @@
--- What waits, once a client's request replaces its older one.
+-- The waiting requests, after a client's request replaces its older one.
 use Rattle.std.proofs.Common.{◌≡◌, ◌≢◌, ℕ, zero, suc, ◌<◌, ◌≤◌, ◌⊎◌, inl, inr, Bool, true, false, cond, not, ◌&&◌, ◌||◌, ◌==◌, nat_lt, List, [], ◌∷◌, ◌++◌, length, filter, count_by, take, find, Some, refl, sym, ap, ◌∙◌, subst, arith, eq-eqb, eqb-true}
 use Rattle.std.specs.Prelude.{AllPairs, All}
 use Rattle.std.specs.List.{list_all}
@@ -42,7 +42,7 @@ pairs_with R (x ∷ xs) y h e =
 same_of : {A : Type 0} (x y : A) → Some x ≡ Some y → x ≡ y
 same_of x y e = cc
 
--- what is found is one of them
+-- a found item is one of them
 pub found_is : {A : Type 0} (P : A → Type 0) (test : A → Bool) (xs : List A) (x : A) → find test xs ≡ Some x → Each P xs → P x
 found_is P test [] x f e = absurd cc
 found_is P test (y ∷ ys) x f e = go (test y) f (λ g. found_is P test ys x g e.1)
@@ -109,7 +109,7 @@ found_call c k (y ∷ ys) (x ∷ calls) r call h d f has at = go (y.client.numbe
     go false e g (inl same) rest = absurd (eqb-false y.client.number k e (sym h.0.1 ∙ ap (λ (z : Call). z.client) same ∙ at))
     go false e g (inr more) rest = rest g more
 
--- where all are older, none of the timestamp waits
+-- if all are older, none of the timestamp waits
 pub none_waits : (c : Configuration) (k t : ℕ) (op : Operation) (rs : List WaitingRequest) (calls : List Call) → AreCallsOf c rs calls → AreOlder k t rs
     → Has (λ x. x ≡ record { client = k; timestamp = t; op = op }) calls → ⊥
 none_waits c k t op rs calls h o has =
@@ -120,7 +120,7 @@ none_waits c k t op rs calls h o has =
 abbrev MayWait : ℕ → ℕ → Operation → Call → Type 0
 MayWait k t op x = (x.client ≡ k) → (x.timestamp < t) ⊎ ((x.timestamp ≡ t) × (x.op ≡ op))
 
--- a request that is newer than what waits is no older
+-- a request newer than the waiting ones is no older
 pub no_older : (c : Configuration) (k t : ℕ) (op : Operation) (rs : List WaitingRequest) (calls : List Call) → AreCallsOf c rs calls → AreOlder k t rs → IsNoOlder calls k t op
 no_older c k t op rs calls h o =
     each_weaker (λ (x : Call). (x.client ≡ k) → x.timestamp < t) (MayWait k t op) (λ x f same. inl (f same)) calls (calls_older c k t rs calls h o)
@@ -142,7 +142,7 @@ no_older_same c k t op (y ∷ ys) (x ∷ calls) r h d f is = go (y.client.number
               (calls_of_others c k ys calls h.1 (others k y ys (eqb-true y.client.number k e) (first_differs Differ y ys d))),
         )
 
--- ---- what waits then
+-- ---- the waiting requests then
 
 -- the request is newer than the other
 abbrev beats : ℕ → ℕ → Operation → Call → Bool
@@ -164,7 +164,7 @@ not_newer c k t op (y ∷ ys) (x ∷ calls) r h f le = go (y.client.number == k)
     go true e g below = and_left (beats k t op x) (list_all (beats k t op) calls)
         (ap (λ (b : Bool). not b || nat_lt x.timestamp t) (eq-eqb x.client k (h.0.1 ∙ eqb-true y.client.number k e)) ∙ older_than (same_of y r g))
 
--- it is newer than all that waits
+-- it is newer than all waiting ones
 all_newer : (k t : ℕ) (op : Operation) (calls : List Call) → Each (λ x. (x.client ≡ k) → x.timestamp < t) calls → list_all (is_newer (record { client = k; timestamp = t; op = op })) calls ≡ true
 all_newer k t op calls h = all_of_each (λ (x : Call). (x.client ≡ k) → x.timestamp < t) (is_newer (record { client = k; timestamp = t; op = op })) (λ x f. one x f (x.client == k) refl) calls h
   where
@@ -172,11 +172,11 @@ all_newer k t op calls h = all_of_each (λ (x : Call). (x.client ≡ k) → x.ti
     one x f true e = ap (λ (b : Bool). not b || nat_lt x.timestamp t) e ∙ lt-ltb x.timestamp t (f (eqb-true x.client k e))
     one x f false e = ap (λ (b : Bool). not b || nat_lt x.timestamp t) e
 
--- the call is newer than what its client ran, and than all that waits
+-- the call is newer than its client's last executed one, and than all waiting ones
 abbrev pub is_latest : State → List Call → Call → Bool
 is_latest st calls call = nat_lt (last_time st call.client) call.timestamp && list_all (is_newer call) calls
 
--- what ran isn't, nor what a waiting request is no older than
+-- a call is not, if its timestamp isn't above its client's last executed one, or above a waiting one
 pub seen_before : (st : State) (calls : List Call) (k t : ℕ) (op : Operation) → t ≤ last_time st k → is_latest st calls (record { client = k; timestamp = t; op = op }) ≡ false
 seen_before st calls k t op le = and_left (nat_lt (last_time st k) t) (list_all (beats k t op) calls) (le-ltb (last_time st k) t le)
 
@@ -184,7 +184,7 @@ pub waits_before : (c : Configuration) (st : State) (k t : ℕ) (op : Operation)
     → t ≤ r.timestamp.0 → is_latest st calls (record { client = k; timestamp = t; op = op }) ≡ false
 waits_before c st k t op rs calls r h f le = and_right (nat_lt (last_time st k) t) (list_all (beats k t op) calls) (not_newer c k t op rs calls r h f le)
 
--- what is newer than both is
+-- a call newer than both is
 pub latest : (c : Configuration) (st : State) (k t : ℕ) (op : Operation) (rs : List WaitingRequest) (calls : List Call) → AreCallsOf c rs calls → last_time st k < t → AreOlder k t rs
     → is_latest st calls (record { client = k; timestamp = t; op = op }) ≡ true
 latest c st k t op rs calls h lt o =

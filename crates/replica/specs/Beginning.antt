@@ -11,17 +11,17 @@ use Rattle.replica.specs.State.{OrdererData, JoinedData}
 use Rattle.replica.specs.Desks.{Stands}
 use Rattle.replica.specs.Going.{IsOneParty, IsVotedAll, Rests}
 
--- The orderer can't begin the view that it moves to: it is active, or not that view's primary; or over the view changes
--- that it holds nothing is selected with what it claims, or its keys are spent.
+-- The orderer can't begin the view that it moves to: it is active, or not that view's primary; or its keys are spent;
+-- or it has no selection over the stored view changes with its claims.
 abbrev pub CannotBegin : Configuration → OrdererData → Type 0
 CannotBegin c o = o.log.active ≡ false → logs.primary o.log o.target ≡ o.log.me
     → SelectsNothing c o.target o.received.held o.claims ⊎ (o.spent ≡ 64)
 
--- It can't in any configuration of the replica's members, with checkpoints as often.
+-- It can't in any configuration with the replica's members and its period of checkpoints.
 abbrev pub HasNoView : JoinedData → Type 0
 HasNoView r = (c : Configuration) → members c ≡ r.desk.membership → c.period ≡ r.desk.period → CannotBegin c r.orderer
 
--- The replica begins a view by an own new view: what stood stands, and all is said that its log asks for then.
+-- The replica begins a view by its own new view. What stood still stands, and all votes that its log asks for are sent.
 pub record BeginsView (old : JoinedData) (before : List Output) (new : JoinedData) (after : List Output) : Type 0
   where
     pub stands : (c : Configuration) (s : Start) → members c ≡ old.desk.membership → Rests old
@@ -31,7 +31,7 @@ pub record BeginsView (old : JoinedData) (before : List Output) (new : JoinedDat
     pub active : new.orderer.log.active ≡ true
     pub voted : Rests old → IsVotedAll new.orderer.log
 
--- So it does, and the view is touched; or it can't, and nothing changes.
+-- It begins the view and touches it; or it can't, and nothing changes.
 abbrev pub MayBegin : JoinedData → List Output → Touched → JoinedData → List Output → Type 0
 MayBegin old before touched.View new after = BeginsView old before new after
 MayBegin old before touched.Nothing new after = (new ≡ old) × (after ≡ before) × HasNoView old

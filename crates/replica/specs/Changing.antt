@@ -20,31 +20,32 @@ use Rattle.replica.specs.State.{OrdererData, JoinedData}
 use Rattle.replica.specs.Desks.{Stands}
 use Rattle.replica.specs.Going.{IsExecuted, IsOneParty, IsVotedAll}
 
--- the greater of the own view and the last that a view change was said for
+-- the greater of the current view and the last view that the replica sent a view change for
 abbrev pub aimed_view : OrdererData → ℕ
 aimed_view o = max o.log.view o.target
 
--- a view that the replica may move to, above that
+-- a view that the replica may move to: one above the aimed view
 abbrev pub IsNextView : OrdererData → ℕ → Type 0
 IsNextView o view = (aimed_view o < view) × (is_number view ≡ true)
 
--- ---- why a view is left
+-- ---- why the replica leaves a view
 
--- Time moves the replica to the next view while a request waits or it is inactive.
+-- A timeout moves the replica to the next view if a request waits or it is inactive.
 abbrev pub IsDue : JoinedData → ℕ → Type 0
 IsDue r v = ((r.desk.waiting.requests ≢ []) ⊎ (r.orderer.log.active ≡ false)) × (v ≡ aimed_view r.orderer + 1)
 
--- It does not, where no request waits and it is active, or no number is left.
+-- It does not, if no request waits and the replica is active, or no view is left.
 abbrev pub IsNotDue : JoinedData → Type 0
 IsNotDue r =
     ((r.desk.waiting.requests ≡ []) × (r.orderer.log.active ≡ true)) ⊎ (2 ^ 48 ≤ aimed_view r.orderer + 1)
 
--- The view changes of more than f others are for later views, of which this is the least. Each is its place's.
+-- The view changes of more than f others are for later views, of which this is the least. Each is of the sender at its
+-- place.
 abbrev pub IsJoinedBy : OrdererData → ℕ → Type 0
 IsJoinedBy o v = AreHeldFrom (configuration_of o.received) 0 o.received.held
     × IsJoined o.endpoint.membership.faults (later_views o.endpoint.me (aimed_view o) o.received.held) v
 
--- They are not so many.
+-- There are not so many.
 abbrev pub IsJoinedByNone : OrdererData → Type 0
 IsJoinedByNone o = AreHeldFrom (configuration_of o.received) 0 o.received.held
     × (length (later_views o.endpoint.me (aimed_view o) o.received.held) ≤ o.endpoint.membership.faults)
@@ -57,15 +58,15 @@ HasReason c s old v =
     × (v ≡ suc (sought_view c s.before)))
     ⊎ IsJoinedBy old.orderer v
 
--- ---- the view is left
+-- ---- the replica leaves the view
 
--- the frames that are held say what is held of them
+-- the stored frames spell the stored view changes
 abbrev pub AreChanges : List (Option HeldData) → Type 0
 AreChanges held =
     (s : ℕ) (h : HeldData) → held_of held s ≡ Some h
     → (sender : ℕ) × (said h.frame ≡ Some (record { sender = sender; message = ViewChange h.change }))
 
--- as a view change lists them
+-- their numbers ascend, as in a view change
 abbrev pub is_ascending : List CheckpointEntry → Bool
 is_ascending checkpoints = ascends checkpoint_entry_before checkpoints
 
@@ -79,14 +80,14 @@ change_for view checkpoints o = record {
   pre_prepared = o.claims.logged;
 }
 
--- It can't be sent: each leaf is spent, or no frame says it, or as another's it would be refused.
+-- The view change can't be sent: each leaf is spent, or no frame spells it, or others would refuse it.
 abbrev pub IsUnsayable : OrdererData → ViewChangeData → Type 0
 IsUnsayable o vc =
     (o.spent ≡ 64)
     ⊎ (((bytes : List ℕ) → said bytes ≡ Some (record { sender = o.endpoint.me; message = ViewChange vc }) → ⊥)
     ⊎ (refusal_of (configuration_of o.received) o.log.view o.received.held (o.log.me, vc) ≢ None))
 
--- the view change is signed in this frame by the next leaf, and held
+-- the replica signs the view change in this frame by the next leaf, and stores it
 pub record SignsChange (view : ℕ) (checkpoints : List CheckpointEntry) (old new : OrdererData)
     (frame : List ℕ) : Type 0 where
   pub own : HeldData
@@ -100,13 +101,13 @@ pub record SignsChange (view : ℕ) (checkpoints : List CheckpointEntry) (old ne
     spent = old.spent + 1;
   }
 
--- So it is where there is a frame; else it can't be sent, and nothing changes.
+-- It does so if there is a frame; else the view change can't be sent, and nothing changes.
 abbrev pub MaySignChange : ℕ → List CheckpointEntry → OrdererData → OrdererData → Option (Vec ℕ Global) → Type 0
 MaySignChange view checkpoints old new None =
     (new ≡ old) × IsUnsayable old (change_for view checkpoints old)
 MaySignChange view checkpoints old new (Some frame) = SignsChange view checkpoints old new frame.items
 
--- The replica leaves its view by a view change for this one, which is said. Where that has a reason, what stood stands,
+-- The replica leaves its view and multicasts a view change for this one. If it has a reason, what stood still stands,
 -- and the log asks for nothing more.
 pub record LeavesView (v : ℕ) (old : JoinedData) (before : List Output) (new : JoinedData) (after : List Output) : Type 0
   where
@@ -118,7 +119,7 @@ pub record LeavesView (v : ℕ) (old : JoinedData) (before : List Output) (new :
     pub voted : IsVotedAll new.orderer.log
     pub executed : IsExecuted old.orderer.log old.desk → IsExecuted new.orderer.log new.desk
 
--- So it does; or its view change can't be sent, and nothing changes.
+-- It does so, or the view change can't be sent, and nothing changes.
 abbrev pub ChangesView : ℕ → JoinedData → List Output → JoinedData → List Output → Bool → Type 0
 ChangesView v old before new after true = LeavesView v old before new after
 ChangesView v old before new after false =

@@ -1,5 +1,5 @@
--- Checkpoints of a replica's own, those that come, and the marks that they move (Castro and Liskov, TOCS 2002, on garbage
--- collection).
+-- A replica's own checkpoints, those that arrive, and the marks that they move (Castro and Liskov, TOCS 2002, on
+-- garbage collection).
 use Rattle.std.specs.Prelude.{◌≡◌, ◌⊎◌, ℕ, ◌+◌, ◌*◌, ◌<◌, ◌≤◌, Bool, true, false, List, [], Some, None, is_none, nat_le}
 use Rattle.terms.specs.declared.parties.ReplicaId.{ReplicaId}
 use Rattle.terms.specs.declared.state.Level.TheVariants as levels
@@ -21,7 +21,7 @@ use Rattle.replica.specs.Fetching.{aimed_at, aiming}
 use Rattle.replica.specs.Going.{CommitsNoMore, IsSameParty, IsVotedAll}
 use Rattle.replica.specs.Saying.{Says}
 
--- what a checkpoint message says
+-- the number and root in a checkpoint message
 abbrev pub said_entry : CheckpointMessage → CheckpointEntry
 said_entry m = record { number = m.number.0; digest = m.root }
 
@@ -29,8 +29,8 @@ said_entry m = record { number = m.number.0; digest = m.root }
 abbrev pub counting : OrdererData → ℕ → CheckpointEntry → OrdererData
 counting o s entry = record o { log = logs.with_checkpoint_of o.log s entry }
 
--- A checkpoint is taken where the log has no fault for it, and it is one of its sender's latest then. A fault changes
--- nothing; what is counted and isn't one of the latest is not taken either.
+-- The orderer takes a checkpoint if the log has no fault for it, and it is one of its sender's latest then. A fault
+-- changes nothing. A counted checkpoint that isn't one of the latest is not taken either.
 abbrev pub TakesCheckpoint : OrdererData → ReplicaId → CheckpointMessage → OrdererData → Bool → Type 0
 TakesCheckpoint old sender m new true =
     (checkpoint_fault_of old.log sender m ≡ None) × (new ≡ counting old sender.0 (said_entry m))
@@ -40,24 +40,24 @@ TakesCheckpoint old sender m new false =
     ⊎ ((new ≡ counting old sender.0 (said_entry m))
     × (says_checkpoint (said_entry m) (logs.checkpoints_of new.log sender.0) ≡ false))
 
--- The own checkpoint is said, counted, and noted.
+-- The replica multicasts, counts and notes its own checkpoint.
 pub record SaysCheckpoint (entry : CheckpointEntry) (old : OrdererData) (before : List Output) (new : OrdererData)
     (after : List Output) : Type 0 where
   pub says : Says old (Checkpoint entry.number entry.digest) before after
   pub new_is : new ≡ record (counting old old.log.me entry) { last_checkpoint = Some entry }
 
--- They move to a checkpoint where that is stable, and else nothing changes.
+-- The marks move to a checkpoint if it is stable; else nothing changes.
 abbrev pub Settles : CheckpointEntry → JoinedData → JoinedData → Bool → Type 0
 Settles entry old new true = (logs.is_stable old.orderer.log entry ≡ true) × MovesMarks entry.number old new
 Settles entry old new false = (logs.is_stable old.orderer.log entry ≡ false) × (new ≡ old)
 
--- where the executed state is to have a checkpoint, it is the newest one that is kept
+-- if the executed state is to have a checkpoint, it is the newest kept state
 abbrev pub IsDueKept : DeskData → Type 0
 IsDueKept d = is_due d ≡ true
     → newest_entry d.snapshots
     ≡ Some (record { number = d.executed.state.number; digest = root_of d.executed.state })
 
--- The checkpoint that is due is said, where the log asks for no vote, and marks may move.
+-- The replica multicasts the checkpoint that is due, if the log asks for no vote. The marks may move.
 pub record SaysDueCheckpoint (old : JoinedData) (before : List Output) (new : JoinedData) (after : List Output)
     : Type 0 where
   pub stands : (c : Configuration) (s : Start) → members c ≡ old.desk.membership → IsVotedAll old.orderer.log
@@ -69,9 +69,10 @@ pub record SaysDueCheckpoint (old : JoinedData) (before : List Output) (new : Jo
   pub voted : IsVotedAll old.orderer.log → IsVotedAll new.orderer.log
   pub commits : CommitsNoMore old.orderer.log new.orderer.log
 
--- A quorum's checkpoint above what is executed and fetched is aimed at, and its root asked for; else nothing is done.
-abbrev pub Follows : CheckpointEntry → JoinedData → List Output → JoinedData → List Output → Type 0
-Follows entry old before new after =
+-- A transfer starts to a quorum's checkpoint above the executed and the fetched state, and its root is asked for. Else
+-- nothing changes.
+abbrev pub StartsTransferIfBehind : CheckpointEntry → JoinedData → List Output → JoinedData → List Output → Type 0
+StartsTransferIfBehind entry old before new after =
     (((nat_le (2 * old.orderer.log.faults + 1) (logs.count_checkpoints old.orderer.log entry) ≡ false)
     ⊎ (entry.number ≤ aimed_at old.desk)) × (new ≡ old) × (after ≡ before))
     ⊎ ((nat_le (2 * old.orderer.log.faults + 1) (logs.count_checkpoints old.orderer.log entry) ≡ true)

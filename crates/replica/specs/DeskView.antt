@@ -1,4 +1,4 @@
--- What the fields of a desk stand for.
+-- The model of a desk's fields.
 use Rattle.replica.specs.declared.desk.Desk.TheInside.{Inside}
 use Rattle.replica.specs.State.{DeskData}
 

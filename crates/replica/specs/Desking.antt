@@ -29,7 +29,7 @@ use Rattle.replica.specs.State.{OrdererData, OpenData, DeskData}
 use Rattle.replica.specs.Waiting.{none_waiting, forgotten, with_request, without}
 use Rattle.replica.specs.Desks.{Stands}
 
--- the opening state, which is kept, and nothing waits
+-- the opening state, which is kept; nothing waits
 abbrev pub IsNewDesk : Configuration → ℕ → DeskData → Type 0
 IsNewDesk c me d = d ≡ record {
   me = me;
@@ -41,7 +41,7 @@ IsNewDesk c me d = d ≡ record {
   waiting = none_waiting;
 }
 
--- The client's request in this frame waits behind all others, and no other one of the client.
+-- The client's request in this frame waits after all others, and no other one of this client.
 abbrev pub Waits : ClientId → Timestamp → List ℕ → DeskData → DeskData → Type 0
 Waits client timestamp frame old new =
     (text : Vec ℕ Global) × (text.items ≡ frame)
@@ -49,38 +49,38 @@ Waits client timestamp frame old new =
 
 -- ---- what is due
 
--- From what is due before to what is due since: whatever stands, stands with that, and the orderer isn't asked.
+-- If an event stands with the messages `due`, it stands with `rest` after these outputs, whatever the orderer.
 abbrev pub Pays : DeskData → List Message → List Output → List Message → List Output → Type 0
 Pays d due before rest after =
     (c : Configuration) (s : Start) (o : OrdererData) → members c ≡ d.membership → Stands c s o d due before
     → Stands c s o d rest after
 
--- the reply that tells of a request that ran
+-- the reply to a request that ran
 abbrev pub reply_for : ℕ × Kept → Message
 reply_for p = reply_of p.0 p.1
 
 abbrev pub replies_for : List Ran → List Message
 replies_for ran = map (λ r. reply_for (told r)) ran
 
--- each reply that is due is given, before all else that is
+-- The desk sends each due reply, before all else that is due.
 abbrev pub PaysAll : DeskData → List Message → List Output → List Output → Type 0
 PaysAll d due before after = (rest : List Message) → Pays d (due ++ rest) before rest after
 
--- what a reply says
+-- the message of a reply
 abbrev pub message_of : Reply → Message
 message_of reply = message_data (messages.Reply reply)
 
--- the message goes to the client, behind what was given
+-- the message goes to the client, after the earlier outputs
 pub record SaysTo (d : DeskData) (client : ClientId) (message : Message) (before after : List Output) : Type 0 where
   pub output : Output
   pub posts : SealsForOne d.membership d.me message (parties.Client client) output
   pub given_is : after ≡ before ++ output ∷ []
 
--- so does the reply that is kept
+-- so does the kept reply
 abbrev pub SaysReply : DeskData → ClientId → Kept → List Output → List Output → Type 0
 SaysReply d client kept before after = SaysTo d client (reply_of client.number kept) before after
 
--- The reply that is kept for the client goes again where it is to this timestamp, and nothing else is due.
+-- The kept reply to the client goes again, if it has this timestamp, and nothing else is due.
 abbrev pub PaysAgain : DeskData → ClientId → Timestamp → List Output → List Output → Type 0
 PaysAgain d client timestamp before after =
     Pays d (again_for client.number timestamp.0 (kept_of d.executed.state client.number)) before [] after
@@ -94,17 +94,17 @@ HasReply d client timestamp false =
 
 -- ---- executions
 
--- the state is kept where it is to have a checkpoint
+-- the state is kept if it is to have a checkpoint
 abbrev pub snapshots_with : ℕ → State → List Snapshot → List Snapshot
 snapshots_with period st snapshots =
     if st.number % period == 0 then newest_with (snapshot_of st) snapshots else snapshots
 
--- a transfer of a state that is reached is closed
+-- a transfer of a reached state is closed
 abbrev pub above_number : ℕ → Option OpenData → Option OpenData
 above_number number transfer = option_and_then (λ o. then_some (nat_lt number o.transfer.number) o) transfer
 
--- The committed batch of the next number is executed: what stood stands, with these replies due, and then the
--- checkpoint of the new state. No other request is forgotten than those that ran, or are older.
+-- The desk executes the committed batch of the next number. What stood stands, with these replies due, and then the
+-- checkpoint of the new state. It forgets only requests that ran, or are older.
 pub record RunsBatch (old : DeskData) (text : List ℕ) (before : List Output) (new : DeskData) (due : List Message)
     (after : List Output) : Type 0 where
   pub same : new ≡ record old {
@@ -120,15 +120,16 @@ pub record RunsBatch (old : DeskData) (text : List ℕ) (before : List Output) (
       → logs.committed_batch o.log (suc old.executed.state.number) ≡ Some text → Stands c s o old [] before
       → Stands c s o new (due ++ checkpoint_due c new.executed.state) after
 
--- and so does all of it, once its replies are given
+-- the same of the whole execution, with its replies sent
 abbrev pub RunsWhole : DeskData → List ℕ → List Output → DeskData → List Output → Type 0
 RunsWhole old text before new after = RunsBatch old text before new [] after
 
--- the executed state is kept; and is so where it is to have a checkpoint
+-- the executed state is kept; or only if it is to have a checkpoint
 abbrev pub keeping_state : DeskData → DeskData
 keeping_state d = record d { snapshots = newest_with (snapshot_of d.executed.state) d.snapshots }
 
--- It may be: it is above all that are kept, and of a multiple of the period, or the first.
+-- The desk may keep the state: it is above all kept ones, and its number is a multiple of the period, unless no state
+-- is kept yet.
 pub record MayKeep (d : DeskData) : Type 0 where
   pub newer : Each (λ x. x.number < d.executed.state.number) d.snapshots
   pub due : AreDue d.period (snapshot_of d.executed.state ∷ d.snapshots)
@@ -139,7 +140,7 @@ is_due d = d.executed.state.number % d.period == 0
 abbrev pub keeping_due : DeskData → DeskData
 keeping_due d = if is_due d then keeping_state d else d
 
--- the newest kept state's number and root; and so of the executed state, where that is to have a checkpoint
+-- the number and root of the newest kept state; or of the executed state, if it is to have a checkpoint
 abbrev pub newest_entry : List Snapshot → Option CheckpointEntry
 newest_entry [] = None
 newest_entry (snapshot ∷ older) = Some (record { number = snapshot.number; digest = root_of_pages snapshot.pages })
@@ -147,6 +148,6 @@ newest_entry (snapshot ∷ older) = Some (record { number = snapshot.number; dig
 abbrev pub due_entry : DeskData → Option CheckpointEntry
 due_entry d = if is_due d then newest_entry d.snapshots else None
 
--- those below a low mark are given up
+-- the kept states below a low mark are dropped
 abbrev pub desk_above : ℕ → DeskData → DeskData
 desk_above low d = record d { snapshots = kept_from low d.snapshots }

@@ -1,4 +1,4 @@
--- What a replica's parts are of a history, and what an event has given so far.
+-- How a replica's parts fit a history and the outputs of a running event.
 use Rattle.std.specs.Prelude.{◌≡◌, ◌≢◌, ℕ, ◌≤◌, List, [], ◌∷◌, map, reverse, Option, Some, option_map, ⊤, AllPairs}
 use Rattle.std.specs.Option.{ForSome}
 use Rattle.wire.specs.Messages.{MessageData as Message, CheckpointEntryData as CheckpointEntry, checkpoint as Checkpoint}
@@ -11,9 +11,9 @@ use Rattle.protocol.specs.Replica.State.{State, Call, call_of}
 use Rattle.protocol.specs.Replica.Owed.{IsSaying}
 use Rattle.replica_histories.specs.Desk.{Desk}
 use Rattle.replica_histories.specs.Events as events
-use Rattle.replica_histories.specs.Events.{Start, behind}
+use Rattle.replica_histories.specs.Events.{Start, after_outputs}
 use Rattle.replica_histories.specs.Changes.{Changes, FitsChanges}
-use Rattle.replica_histories.specs.Transfers.{RestsOn}
+use Rattle.replica_histories.specs.Transfers.{RestsOnState}
 use Rattle.replica.specs.declared.waiting.WaitingRequest.{WaitingRequest}
 use Rattle.replica.specs.State.{OrdererData, OpenData, DeskData}
 use Rattle.replica.specs.Waiting.{WaitingData, frames_of}
@@ -35,12 +35,12 @@ AreCallsOf c _ _ = ⊥
 abbrev pub AreOfDifferentClients : List WaitingRequest → Type 0
 AreOfDifferentClients rs = AllPairs (λ r t. r.client.number ≢ t.client.number) rs
 
--- Where the transfer rests at the executed state, the pages that were not fetched are the state's.
+-- If the transfer rests at the executed state, the pages that were not fetched are that state's.
 abbrev pub RestsAt : State → OpenData → Type 0
-RestsAt st o = (o.rests_at ≤ st.number) × (o.rests_at ≡ st.number → RestsOn o.transfer st)
+RestsAt st o = (o.rests_at ≤ st.number) × (o.rests_at ≡ st.number → RestsOnState o.transfer st)
 
--- It holds the state, the kept states, the open transfer, and the requests that wait with their frames, one of each
--- client.
+-- The desk holds the state, the kept states, the open transfer, and the waiting requests with their frames, one for
+-- each client.
 pub record IsDeskOf (c : Configuration) (d : DeskData) (desk : Desk) : Type 0 where
   pub members_are : members c ≡ d.membership
   pub period_is : c.period ≡ d.period
@@ -54,16 +54,16 @@ pub record IsDeskOf (c : Configuration) (d : DeskData) (desk : Desk) : Type 0 wh
 
 -- ---- the orderer
 
--- the outputs of an event so far as entries, the newest first
+-- the outputs of a running event as entries, the newest first
 abbrev pub given : ℕ → List Output → List Entry
 given me outs = reverse (map (entry_of me) outs)
 
--- at the primary of its view, those of the requests that wait have numbers that are flagged so
+-- at the primary of its view, the flagged requests, and no others, have numbers
 abbrev pub FitsWaiting : Configuration → ℕ → OrdererData → WaitingData → Desk → List Entry → Type 0
 FitsWaiting c me o w desk history = logs.primary o.log o.log.view ≡ o.log.me
     → FitsFlags c me o.log.view o.used w desk.state desk.waiting history
 
--- what is held for changes of the view
+-- what the orderer holds for view changes
 abbrev pub changes_of : OrdererData → Changes
 changes_of o = record {
   target = o.target;
@@ -75,21 +75,21 @@ changes_of o = record {
   spent = o.spent;
 }
 
--- the last checkpoint was said
+-- the replica sent its last checkpoint
 abbrev pub WasSaid : ℕ → Option CheckpointEntry → List Entry → Type 0
 WasSaid me last history =
     ForSome last (λ entry. Once (λ earlier e. IsSaying me (Checkpoint entry.number entry.digest) e) history)
 
 -- ---- an event
 
--- Desk and orderer fit the history behind what the event gave so far, with these messages due. Each frame among the
--- outputs goes to the parties for whom it is.
+-- Desk and orderer fit the history with the event's outputs, and these messages are due. Each frame among the outputs
+-- goes to the parties for whom it is.
 pub record FitsEvent (c : Configuration) (me : ℕ) (s : Start) (o : OrdererData) (desk : Desk)
     (w : WaitingData) (due : List Message) (outs : List Output) : Type 0 where
   pub fits : events.Fits c me s desk o.log due (given me outs)
-  pub numbers : FitsWaiting c me o w desk (behind s (given me outs))
-  pub said : WasSaid me o.last_checkpoint (behind s (given me outs))
-  pub changes : FitsChanges c me o.log (changes_of o) (behind s (given me outs))
+  pub numbers : FitsWaiting c me o w desk (after_outputs s (given me outs))
+  pub said : WasSaid me o.last_checkpoint (after_outputs s (given me outs))
+  pub changes : FitsChanges c me o.log (changes_of o) (after_outputs s (given me outs))
   pub meant : AreSentAsMeant c me outs
 
 pub record Stands (c : Configuration) (s : Start) (o : OrdererData) (d : DeskData) (due : List Message)

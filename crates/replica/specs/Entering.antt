@@ -1,4 +1,4 @@
--- What bytes that come do, before anything more is said of them.
+-- What a replica does with the bytes of an event.
 use Rattle.std.specs.Prelude.{◌≡◌, ◌+◌, ◌≤◌, ◌⊎◌, ℕ, false, List, [], Some}
 use Rattle.tuple_codec.specs.Operations.{Operation}
 use Rattle.terms.specs.declared.parties.ClientId.{ClientId}
@@ -14,7 +14,7 @@ use Rattle.protocol.specs.System.Trace.Entry.{Got, Tick}
 use Rattle.protocol.specs.Replica.Certificates.{target}
 use Rattle.replica_histories.specs.Questions.{AnswersInput, brings_question}
 use Rattle.replica_histories.specs.Events as histories
-use Rattle.replica_histories.specs.Events.{Start, behind, IsTaken}
+use Rattle.replica_histories.specs.Events.{Start, after_outputs, IsTaken}
 use Rattle.replica.specs.declared.taking.Touched.{Touched}
 use Rattle.replica.specs.declared.taking.Touched.TheVariants as touched
 use Rattle.replica.specs.State.{JoinedData}
@@ -24,38 +24,38 @@ use Rattle.replica.specs.Going.{IsVotedBut, IsVotedAll, IsOneParty, Rests}
 use Rattle.replica.specs.Numbering.{IsAllNumbered}
 use Rattle.replica.specs.Joined.{Runs, me_of}
 
--- the event in which a replica that runs has this input
+-- the event in which a running replica has this input
 abbrev pub event_with : (c : Configuration) (r : JoinedData) (past : List Entry) → Runs c r past → Entry → Start
 event_with c r past runs input = histories.start_at c (me_of r) runs.desk r.orderer.log past runs.holds input
 
--- in which it gets the bytes
+-- the event in which it gets the bytes
 abbrev pub event_of : (c : Configuration) (r : JoinedData) (past : List Entry) → Runs c r past → List ℕ → Start
 event_of c r past runs bytes = event_with c r past runs (Got (me_of r) bytes)
 
--- a rule takes the input, which asks nothing and is no part of a state
+-- a rule takes the input, which asks nothing and is no part of a fetched state
 abbrev pub IsTakenBeside : Configuration → ℕ → Start → Type 0
 IsTakenBeside c me s = IsTaken c me s × (brings_question c me s.input ≡ false)
 
--- Whatever the event gives, if its executed number doesn't fall, what its input wants is given.
+-- The event answers its input, whatever its outputs, if it ends at this executed number or above.
 abbrev pub IsAnswered : Configuration → ℕ → Start → ℕ → Type 0
 IsAnswered c me s number =
     (outputs : List Entry) (executed : ℕ) → number ≤ executed
     → AnswersInput c me s.before s.input outputs s.old executed
 
--- a rule takes the input, and what it wants is given, whatever the event gives
+-- a rule takes the input, and the event answers it, whatever its outputs
 abbrev pub IsTakenAlone : Configuration → ℕ → Start → Type 0
 IsTakenAlone c me s = IsTaken c me s
     × ((outputs : List Entry) (executed : ℕ) → AnswersInput c me s.before s.input outputs s.old executed)
 
--- A rule takes the input, and what it wants is given wherever the target is the replica's.
+-- A rule takes the input, and the event answers it, whatever its outputs, if the target is then the replica's.
 abbrev pub IsTakenAnswered : Configuration → JoinedData → Start → Type 0
 IsTakenAnswered c r s = IsTaken c (me_of r) s
-    × ((outputs : List Entry) (executed : ℕ) → target (behind s outputs) ≡ r.orderer.target
+    × ((outputs : List Entry) (executed : ℕ) → target (after_outputs s outputs) ≡ r.orderer.target
     → AnswersInput c (me_of r) s.before s.input outputs s.old executed)
 
--- What is left to do, by what was touched: nothing, and what was asked for is given; numbers for what waits; votes for
--- one number, and what follows; or to execute what is committed, behind a state that was installed or a view that began. What touches
--- anything, or gives an output, is taken.
+-- What is left to do, by what the event touched: nothing, since what was asked for is sent; numbers for waiting
+-- requests; votes for one number, and what follows; or executions, after a state was installed or a view began. An
+-- input that touches anything, or has an output, is taken.
 abbrev pub Leaves : Configuration → Start → Touched → JoinedData → List Output → Type 0
 Leaves c s touched.Nothing r outs = Rests r × IsAllNumbered r
     × AnswersInput c (me_of r) s.before s.input (given (me_of r) outs) s.old r.desk.executed.state.number
@@ -66,7 +66,7 @@ Leaves c s touched.State r outs = IsVotedAll r.orderer.log × IsTaken c (me_of r
     × IsAnswered c (me_of r) s r.desk.executed.state.number
 Leaves c s touched.View r outs = IsVotedAll r.orderer.log × IsTakenAnswered c r s
 
--- In an event with this input, what holds of the past fits the event, with these outputs. No new view is left that the
+-- In an event with this input, what fits the past fits the event with these outputs. No new view is left that the
 -- replica could send.
 pub record TakesInput (input : Entry) (old : JoinedData) (touched : Touched) (new : JoinedData)
     (outs : List Output) : Type 0 where
@@ -75,14 +75,14 @@ pub record TakesInput (input : Entry) (old : JoinedData) (touched : Touched) (ne
       → Stands c (event_with c old past runs input) new.orderer new.desk [] outs
       × Leaves c (event_with c old past runs input) touched new outs × CannotBegin c new.orderer
 
--- So it is where bytes are got, or time goes by.
+-- the same of bytes, or of a timeout
 abbrev pub TakesBytes : List ℕ → JoinedData → Touched → JoinedData → List Output → Type 0
 TakesBytes bytes old touched new outs = TakesInput (Got (me_of old) bytes) old touched new outs
 
 abbrev pub TakesTick : JoinedData → Touched → JoinedData → List Output → Type 0
 TakesTick old touched new outs = TakesInput (Tick (me_of old)) old touched new outs
 
--- So it is where the bytes are the client's ordered request.
+-- The same, if the bytes are the client's ordered request.
 abbrev pub TakesRequest :
     ClientId → Timestamp → List ℕ → JoinedData → Touched → JoinedData → List Output → Type 0
 TakesRequest client timestamp bytes old touched new outs =
@@ -91,7 +91,7 @@ TakesRequest client timestamp bytes old touched new outs =
     ≡ Some (record { sender = 256 + client.number; message = Request timestamp.0 modes.Ordered op })
     → TakesBytes bytes old touched new outs
 
--- And where they are this message of the replica's.
+-- And if they are this message of the replica's.
 abbrev pub TakesMessage : ReplicaId → Message → JoinedData → Touched → JoinedData → List Output → Type 0
 TakesMessage sender message old touched new outs =
     (bytes : List ℕ)

@@ -1,4 +1,4 @@
--- What begins with a new view, part by part (Castro and Liskov, TOCS 2002, on new views).
+-- How a replica enters a new view, part by part (Castro and Liskov, TOCS 2002, on new views).
 use Rattle.std.specs.Prelude.{◌≡◌, ◌⊎◌, true, false, ℕ, suc, ◌+◌, ◌≤◌, ◌<◌, Option, Some, None, Vec}
 use Rattle.std.specs.Prelude.{List, ◌++◌, map, filter_map, length}
 use Rattle.std.specs.declared.alloc.Global.{Global}
@@ -34,17 +34,17 @@ abbrev pub calls_in : Configuration → List (List ℕ) → List HistoryCall
 calls_in c frames =
     map (λ call. record { client = call.client; timestamp = call.timestamp }) (filter_map (call_of c) frames)
 
--- Those of the frames are put behind the others, in each configuration of so many clients.
+-- The calls of the frames follow the others, in each configuration with so many clients.
 abbrev pub AddsCalls : ℕ → List (List ℕ) → List BegunCall → List BegunCall → Type 0
 AddsCalls clients frames old new =
     (c : Configuration) → c.clients ≡ clients → begun_of new ≡ begun_of old ++ calls_in c frames
 
--- They are those in batches of these texts.
+-- They are the calls in batches of these texts.
 abbrev pub AreBegun : ℕ → List (List ℕ) → List BegunCall → Type 0
 AreBegun clients texts calls =
     (c : Configuration) → c.clients ≡ clients → begun_of calls ≡ begun_in c texts
 
--- Of what waits they alone have numbers then.
+-- Of the waiting requests, these alone have numbers then.
 pub record NotesBegun (texts : List (List ℕ)) (old new : DeskData) : Type 0 where
   pub calls : List BegunCall
   pub are : AreBegun old.executed.clients texts calls
@@ -52,7 +52,7 @@ pub record NotesBegun (texts : List (List ℕ)) (old new : DeskData) : Type 0 wh
 
 -- ---- the orderer
 
--- It is in the view, in which the numbers up to the last have their batches.
+-- The orderer is in the view, in which the numbers up to the last have their batches.
 abbrev pub entering : ℕ → ℕ → Option (List ℕ) → OrdererData → OrdererData
 entering view last own o = record o {
   log = logs.entered o.log view;
@@ -61,14 +61,14 @@ entering view last own o = record o {
   new_view = own;
 }
 
--- The batches from a number on are logged, as far as they are within the marks, and claimed.
+-- The batches from a number on are logged and claimed, as far as they are within the marks.
 abbrev pub LogsBatches : ℕ → List (List ℕ) → OrdererData → OrdererData → Type 0
 LogsBatches first texts old new = (claims : ClaimsData)
     × AddsBatches old.log old.log.view first texts old.claims claims
     × (new ≡ record old { log = with_batches old.log first texts; claims = claims })
 
--- All goes on, and the log asks for no more votes but for those of the numbers behind the start, up to the last, for
--- which it asks no more.
+-- The orderer goes on. The log asks for no votes for the numbers after the start, up to the last, and for no more than
+-- before for others.
 pub record SaysVotesOf (start last : ℕ) (old : OrdererData) (before : List Output) (new : OrdererData)
     (after : List Output) : Type 0 where
   pub goes : GoesOn old before new after
@@ -79,7 +79,7 @@ pub record SaysVotesOf (start last : ℕ) (old : OrdererData) (before : List Out
 
 -- ---- the replica
 
--- A transfer is aimed at the start, where that is ahead, and the fetch of what it asks for is said.
+-- The replica opens a transfer to the start if it is ahead, and multicasts its fetch.
 abbrev pub FetchesStart : CheckpointEntry → JoinedData → List Output → JoinedData → List Output → Type 0
 FetchesStart entry old before new after =
     ((desk : DeskData) × AimsAt entry old.desk desk true × (new ≡ record old { desk = desk })
@@ -105,15 +105,15 @@ pub record Enters (view : ℕ) (start : CheckpointEntry) (texts : List (List ℕ
 
 -- ---- own new views
 
--- The replica has moved to a view of which it is the primary; over the view changes that it has for it the start and
--- these batches, which it has claimed, meet the rules.
+-- The replica moved to a view of which it is the primary. Over its stored view changes for the view, the start and
+-- these batches, which it has claimed, satisfy the new-view rules.
 pub record IsSelection (o : OrdererData) (start : ℕ) (root : List ℕ) (texts : List (List ℕ)) : Type 0 where
   pub inactive : o.log.active ≡ false
   pub primary : logs.primary o.log o.target ≡ o.log.me
   pub meets : meets (sized o.received.sizes) o.target (pairs_for o.target o.received.held) start root texts ≡ true
   pub from : AreFrom o.claims.texts texts
 
--- Where it has moved to such a view, nothing is selected over the view changes that it has.
+-- If it moved to such a view, no selection exists over the stored view changes.
 abbrev pub HasNoSelection : OrdererData → Type 0
 HasNoSelection o = o.log.active ≡ false → logs.primary o.log o.target ≡ o.log.me
     → SelectsNothing (sized o.received.sizes) o.target o.received.held o.claims
@@ -128,13 +128,13 @@ new_view_of o start root texts = record {
   batches = texts;
 }
 
--- It is signed in this frame by the next leaf, and meets the rules.
+-- The replica signs it in this frame by the next leaf, and it satisfies the rules.
 pub record SignsView (o : OrdererData) (new : NewViewData) (frame : List ℕ) : Type 0 where
   pub signed : IsOwnSigned o.endpoint (NewView new) frame
   pub by_leaf : leaf_of frame ≡ Some o.spent
   pub right : may_select (configuration_of o.received) new ≡ true
 
--- So it is, and the leaf is spent; or all are spent, and nothing changes.
+-- The replica does so, and spends the leaf; or all are spent, and nothing changes.
 abbrev pub MaySignView : NewViewData → OrdererData → OrdererData → Option (Vec ℕ Global) → Type 0
 MaySignView new old later None = (later ≡ old) × (old.spent ≡ 64)
 MaySignView new old later (Some frame) = SignsView old new frame.items × (later ≡ record old { spent = old.spent + 1 })

@@ -1,4 +1,4 @@
--- What a desk fetches of a state that is ahead, and what it gives of those that it keeps (Castro and Liskov, TOCS 2002, on
+-- What a desk fetches of a state that is ahead, and what it sends of its kept states (Castro and Liskov, TOCS 2002, on
 -- state transfer).
 use Rattle.std.specs.Prelude.{◌≡◌, ◌≢◌, ◌⊎◌, ℕ, ◌<◌, ◌≤◌, Bool, true, false, List, [], ◌∷◌, ◌++◌, Option, Some, None}
 use Rattle.std.specs.Option.{ForSome}
@@ -40,13 +40,13 @@ HasKept d k pages = Has (λ x. x ≡ record { number = k; pages = pages }) d.sna
 abbrev pub HasNone : DeskData → ℕ → Type 0
 HasNone d k = Each (λ x. x.number ≢ k) d.snapshots
 
--- The message is the part of a kept state that is asked for; there is none where no state of the number is kept.
+-- The message has the requested part of a kept state; there is none if no state of the number is kept.
 abbrev pub HasPart : DeskData → Fetch → Option Message → Type 0
 HasPart d fetch (Some message) = (pages : List (List ℕ)) × HasKept d fetch.number.0 pages
     × (message_data message ≡ answer_by pages fetch.number.0 fetch.level fetch.index)
 HasPart d fetch None = HasNone d fetch.number.0
 
--- That part is given to the asking replica alone; where no state of the number is kept, nothing is.
+-- The desk sends that part to the asking replica alone; if no state of the number is kept, it sends nothing.
 abbrev pub GivesPart : DeskData → ReplicaId → Fetch → List Output → List Output → Type 0
 GivesPart d asker fetch before after = ((after ≡ before) × HasNone d fetch.number.0)
     ⊎ ((pages : List (List ℕ)) × (output : Output) × HasKept d fetch.number.0 pages
@@ -54,7 +54,7 @@ GivesPart d asker fetch before after = ((after ≡ before) × HasNone d fetch.nu
     (parties.Replica asker) output
     × (after ≡ before ++ output ∷ []))
 
--- ---- a transfer is aimed
+-- ---- a transfer gets its target
 
 -- the number above which a checkpoint's state is fetched
 abbrev pub aimed_at : DeskData → ℕ
@@ -68,29 +68,29 @@ opened st (Some o) entry = moved o entry
 abbrev pub aiming : CheckpointEntry → DeskData → DeskData
 aiming entry d = record d { transfer = Some (opened d.executed.state d.transfer entry) }
 
--- It is aimed at a checkpoint above that number, and else nothing changes.
+-- The transfer's target becomes a checkpoint above that number; else nothing changes.
 abbrev pub AimsAt : CheckpointEntry → DeskData → DeskData → Bool → Type 0
 AimsAt entry old new true = (aimed_at old < entry.number) × (new ≡ aiming entry old)
 AimsAt entry old new false = (entry.number ≤ aimed_at old) × (new ≡ old)
 
--- the number and place that are asked for
+-- the number and place that the open transfer asks for
 abbrev pub IsAskedFor : DeskData → Option (Number × Place) → Type 0
 IsAskedFor d (Some asked) =
     (o : OpenData) × (d.transfer ≡ Some o) × (asked.0.0 ≡ o.transfer.number) × (asked.1 ≡ o.transfer.asked)
 IsAskedFor d None = d.transfer ≡ None
 
--- the fetch of the place that is asked for
+-- the fetch of the place that the transfer asks for
 abbrev pub fetch_of : TransferData → MessageData
 fetch_of t = FetchMessage t.number t.asked.level t.asked.index
 
--- What is asked for is asked for again; where no transfer is open, nothing is.
+-- The replica multicasts the open fetch again; if no transfer is open, it sends nothing.
 abbrev pub SaysFetch : JoinedData → List Output → List Output → Type 0
 SaysFetch r before after = ((r.desk.transfer ≡ None) × (after ≡ before))
     ⊎ ((o : OpenData) × (r.desk.transfer ≡ Some o) × Says r.orderer (fetch_of o.transfer) before after)
 
 -- ---- parts
 
--- the open transfer alone changes
+-- only the open transfer changes
 abbrev pub with_transfer : OpenData → DeskData → DeskData
 with_transfer o d = record d { transfer = Some o }
 
@@ -109,13 +109,14 @@ GivesBack old taken new = ((old.transfer ≡ None) × (new ≡ old))
     ⊎ ((o : OpenData) × (n : OpenData) × (old.transfer ≡ Some o) × (new ≡ with_transfer n old)
     × is_given_back o taken n)
 
--- a transfer of a state that is reached is closed
+-- a transfer of a reached state is closed
 abbrev pub closing_reached : DeskData → DeskData
 closing_reached d = record d { transfer = above_number d.executed.state.number d.transfer }
 
 -- ---- the next part
 
--- A part is still to be fetched, which is asked for then; or all that is held has the wanted root, or nothing is open.
+-- A part is still to be fetched, and the transfer asks for it; or the held pages have the wanted root, or no transfer
+-- is open.
 abbrev pub AsksPart : DeskData → DeskData → Bool → Type 0
 AsksPart old new true = (o : OpenData) × (n : OpenData) × (place : Place) × (old.transfer ≡ Some o)
     × (new ≡ with_transfer n old) × AsksPlace old.executed.state o n (Some place)
@@ -123,7 +124,7 @@ AsksPart old new false = ((old.transfer ≡ None) × (new ≡ old))
     ⊎ ((o : OpenData) × (n : OpenData) × (old.transfer ≡ Some o) × (new ≡ with_transfer n old)
     × AsksPlace old.executed.state o n None × (root_of_pages n.transfer.held ≡ n.transfer.root))
 
--- and its fetch is said
+-- and its fetch is sent
 abbrev pub AsksOn : JoinedData → List Output → JoinedData → List Output → Bool → Type 0
 AsksOn old before new after asks =
     (desk : DeskData) × AsksPart old.desk desk asks × (new ≡ record old { desk = desk })
@@ -131,13 +132,13 @@ AsksOn old before new after asks =
 
 -- ---- a state is installed
 
--- Where the pages that are held have the root, no state of them may take the executed one's place.
+-- If the held pages have the root, no state of them may replace the executed one.
 abbrev pub CannotInstall : DeskData → Type 0
 CannotInstall d = ForSome d.transfer (λ o. root_of_pages o.transfer.held ≡ o.transfer.root
     → NoneReplaces d.executed.state o.transfer.number o.transfer.held)
 
--- The state of the pages that are held is installed and kept alone, since what was kept is not above the executed number,
--- and nothing is open any more; or there is none that may be.
+-- The state of the held pages is installed and kept alone, since no kept state is above the executed number, and no
+-- transfer is open any more. Or there is no state that may be installed.
 abbrev pub Installs : DeskData → DeskData → Option CheckpointEntry → Type 0
 Installs old new (Some entry) =
     (o : OpenData) × (old.transfer ≡ Some o)
@@ -153,7 +154,7 @@ Installs old new (Some entry) =
     × Each (λ x. x.number ≤ old.executed.state.number) old.snapshots
 Installs old new None = (new ≡ old) × CannotInstall old
 
--- That is told, and the marks move up to it.
+-- The replica tells its checkpoint, and the marks move up to it.
 abbrev pub InstallsFetched : JoinedData → List Output → JoinedData → List Output → Bool → Type 0
 InstallsFetched old before new after true =
     (desk : DeskData) × (number : Number) × (root : List ℕ)

@@ -13,17 +13,17 @@ use Rattle.replica.specs.Parted.{FitBoth}
 abbrev pub me_of : ReplicaData → ℕ
 me_of r = r.desk.member.me
 
--- both of its parts fit the history
+-- both parts fit the history
 abbrev pub Fits : Configuration → ReplicaData → List Entry → Type 0
 Fits c r history = FitBoth c (me_of r) r.orderer r.desk history
 
--- Whatever history the replica fits, it fits that behind the event then.
+-- If the replica fits a history before the event, it then fits the history with the event.
 abbrev pub Leads : ReplicaData → Entry → List Output → ReplicaData → Type 0
 Leads old input outs new =
     (c : Configuration) (history : List Entry) → Fits c old history
     → Fits c new (after_event (me_of old) input outs history)
 
--- an event leads to what the step gives
+-- the event of a step leads to its outputs
 abbrev pub EventLeads : ReplicaData → Event → List Output → ReplicaData → Type 0
 EventLeads old event outs new = Leads old (input_of (me_of old) event) outs new
 

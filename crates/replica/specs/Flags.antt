@@ -1,4 +1,4 @@
--- Which of the requests that wait have numbers, by their flags and by the history.
+-- Which waiting requests have numbers, by their flags and by the history.
 use Rattle.std.specs.Prelude.{ℕ, List, [], ◌∷◌, map}
 use Rattle.protocol.specs.System.Configuration.{Configuration}
 use Rattle.protocol.specs.System.Trace.{Entry}
@@ -18,7 +18,7 @@ flagged [] calls = []
 flagged (r ∷ rs) [] = []
 flagged (r ∷ rs) (call ∷ calls) = record { call = call; numbered = r.numbered } ∷ flagged rs calls
 
--- In the view v, whose last number is the one that is used, the flags of what waits are those of the history.
+-- In the view v, whose greatest assigned number is `used`, the flags of the waiting requests are those of the history.
 abbrev pub FitsFlags : Configuration → ℕ → ℕ → ℕ → WaitingData → State → List Call → List Entry → Type 0
 FitsFlags c me v used w st calls history =
     FitsNumbers c me v used (begun_of w.begun) (flagged w.requests calls) st calls history

@@ -1,4 +1,4 @@
--- What is done behind what an event touched.
+-- What the replica does after what an event touched.
 use Rattle.std.specs.Prelude.{◌≡◌, List}
 use Rattle.events.specs.declared.output.Output.{Output}
 use Rattle.replica.specs.declared.taking.Touched.{Touched}
@@ -7,13 +7,14 @@ use Rattle.replica.specs.State.{JoinedData}
 use Rattle.replica.specs.Going.{ExecutesAll, GoesOnWith}
 use Rattle.replica.specs.NumbersNext.{NumbersWaiting}
 
--- what is committed is executed, and then what waits gets numbers
+-- the replica executes committed batches, and then assigns numbers to waiting requests
 abbrev pub ExecutesAndNumbers : JoinedData → List Output → JoinedData → List Output → Type 0
 ExecutesAndNumbers old before new after =
     (run : JoinedData) × (between : List Output) × ExecutesAll old before run between
     × NumbersWaiting run between new after
 
--- Nothing; numbers for what waits; votes for one number, and what follows; or what follows alone.
+-- The replica does nothing; or assigns numbers to waiting requests; or votes for one number, and goes on; or only goes
+-- on.
 abbrev pub FollowsUp : Touched → JoinedData → List Output → JoinedData → List Output → Type 0
 FollowsUp touched.Nothing old before new after = (new ≡ old) × (after ≡ before)
 FollowsUp touched.Waiting old before new after = NumbersWaiting old before new after

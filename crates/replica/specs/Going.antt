@@ -12,7 +12,7 @@ use Rattle.replica.specs.State.{OrdererData, DeskData, JoinedData}
 use Rattle.replica.specs.Waiting.{WaitingData, count_unnumbered}
 use Rattle.replica.specs.Desks.{FitsEvent, Stands}
 
--- What fits what the event gave before, with the orderer as it was then, fits what it gave since, with it as it is.
+-- If a history fits the earlier outputs, with the earlier orderer, it fits the later outputs with the later orderer.
 abbrev pub GoesOn : OrdererData → List Output → OrdererData → List Output → Type 0
 GoesOn old before new after =
     (c : Configuration) (s : Start) (desk : Desk) (w : WaitingData) (due : List Message)
@@ -23,14 +23,14 @@ GoesOn old before new after =
 abbrev pub IsVoted : LogData → ℕ → Type 0
 IsVoted log i = (logs.due_prepare log i ≡ None) × (logs.due_commit log i ≡ None)
 
--- nor for any but this one
+-- nor for any number but this one
 abbrev pub IsVotedBut : ℕ → LogData → Type 0
 IsVotedBut number log = (i : ℕ) → i ≢ number → IsVoted log i
 
 abbrev pub IsVotedAll : LogData → Type 0
 IsVotedAll log = (i : ℕ) → IsVoted log i
 
--- the log is of the same replica and view; its low mark is where it was, or above
+-- both logs are of the same replica and view; the low mark doesn't fall
 pub record IsSameLog (old new : LogData) : Type 0 where
   pub me : new.me ≡ old.me
   pub faults : new.faults ≡ old.faults
@@ -39,13 +39,13 @@ pub record IsSameLog (old new : LogData) : Type 0 where
   pub active : new.active ≡ old.active
   pub low : old.low ≤ new.low
 
--- a batch is committed of no other number than before
+-- batches are committed for no more numbers than before
 abbrev pub CommitsNoMore : LogData → LogData → Type 0
 CommitsNoMore old new =
     (i : ℕ) (text : List ℕ) → logs.committed_batch new i ≡ Some text → logs.committed_batch old i ≡ Some text
 
--- A primary has no more to choose from for a new view: the view changes are the same, and it claims no more; and no key
--- was used.
+-- A primary has no more choice for a new view: the stored view changes are the same, it claims no more, and it used no
+-- key.
 pub record KeepsChoice (old new : OrdererData) : Type 0 where
   pub received : new.received ≡ old.received
   pub spent : new.spent ≡ old.spent
@@ -59,7 +59,7 @@ pub record IsSameOrderer (old new : OrdererData) : Type 0 where
 
 -- ---- both parts
 
--- the party is the same
+-- both are the same party
 pub record IsOneParty (old new : JoinedData) : Type 0 where
   pub endpoint : new.orderer.endpoint ≡ old.orderer.endpoint
   pub me : new.desk.me ≡ old.desk.me
@@ -71,7 +71,7 @@ pub record IsSameParty (old new : JoinedData) : Type 0 where
   pub me : new.desk.me ≡ old.desk.me
   pub membership : new.desk.membership ≡ old.desk.membership
 
--- what stands with what the event gave before, stands with what it gave since
+-- what stands with the earlier outputs, stands with the later ones
 abbrev pub Proceeds : JoinedData → List Output → JoinedData → List Output → Type 0
 Proceeds old before new after =
     (c : Configuration) (s : Start) → members c ≡ old.desk.membership → Stands c s old.orderer old.desk [] before
@@ -81,12 +81,12 @@ Proceeds old before new after =
 abbrev pub IsExecuted : LogData → DeskData → Type 0
 IsExecuted log d = logs.committed_batch log (suc d.executed.state.number) ≡ None
 
--- nothing is left to say or to execute
+-- no message is left to send, and no batch to execute
 abbrev pub Rests : JoinedData → Type 0
 Rests r = IsVotedAll r.orderer.log × IsExecuted r.orderer.log r.desk
 
--- The next batch is executed, where the log asks for no vote, and its checkpoint said; or none is committed, and nothing
--- changes.
+-- If the log asks for no vote, the replica executes the next batch and sends its checkpoint; or no batch is committed,
+-- and nothing changes.
 pub record ExecutesNext (old : JoinedData) (before : List Output) (new : JoinedData) (after : List Output) : Type 0
   where
     pub proceeds : IsVotedAll old.orderer.log → Proceeds old before new after
@@ -102,7 +102,7 @@ abbrev pub ExecutesTurn : JoinedData → List Output → JoinedData → List Out
 ExecutesTurn old before new after true = ExecutesNext old before new after
 ExecutesTurn old before new after false = (new ≡ old) × (after ≡ before) × IsExecuted old.orderer.log old.desk
 
--- Where the log asks for no vote, what is committed is executed, one batch after another.
+-- If the log asks for no vote, the replica executes the committed batches, one after another.
 pub record ExecutesAll (old : JoinedData) (before : List Output) (new : JoinedData) (after : List Output) : Type 0
   where
     pub proceeds : IsVotedAll old.orderer.log → Proceeds old before new after
@@ -112,7 +112,7 @@ pub record ExecutesAll (old : JoinedData) (before : List Output) (new : JoinedDa
     pub waiting : count_unnumbered new.desk.waiting ≤ count_unnumbered old.desk.waiting
     pub rests : IsVotedAll old.orderer.log → Rests new
 
--- All that the log asks for of a number is said, and what is committed then is executed.
+-- The replica sends all votes that the log asks for, for one number, and executes what is committed then.
 pub record GoesOnWith (number : ℕ) (old : JoinedData) (before : List Output) (new : JoinedData)
     (after : List Output) : Type 0 where
   pub proceeds : IsVotedBut number old.orderer.log → Proceeds old before new after

@@ -1,4 +1,4 @@
--- What entries beside ordering bring, which counts for nothing.
+-- Entries beside ordering: they bring nothing that counts.
 use Rattle.std.specs.Prelude.{◌≡◌, ℕ, List, [], ◌∷◌, Some, None, option_and_then, ⊤}
 use Rattle.wire.specs.Words.{said}
 use Rattle.protocol.specs.Replica.RightReplica.{HasSeen}
@@ -14,7 +14,7 @@ use Rattle.protocol.specs.System.Reads.{without_reads}
 abbrev pub IsQuiet : Message → Type 0
 IsQuiet message = elim message [ Request t mode op ↦ ⊤ | Reply client t mode number answer ↦ ⊤ | _ ↦ ⊥ ]
 
--- what the entry brings counts for nothing
+-- nothing that the entry brings counts
 pub record IsIdle (c : Configuration) (me : ℕ) (e : Entry) : Type 0 where
   pub view : new_view_in c e ≡ None
   pub change : change_sent e ≡ 0
@@ -30,13 +30,13 @@ pub record IsIdle (c : Configuration) (me : ℕ) (e : Entry) : Type 0 where
   pub seen : (past : List Entry) (frame : List ℕ) (body : Body) → HasSeen frame past e → said frame ≡ Some body
       → IsQuiet body.message
 
--- the first is the second without some idle entries
+-- the first history is the second without some idle entries
 pub data LeavesOut (c : Configuration) (me : ℕ) : List Entry → List Entry → Type 0 where
   none : LeavesOut c me [] []
   both : (e : Entry) (g h : List Entry) → LeavesOut c me g h → LeavesOut c me (e ∷ g) (e ∷ h)
   beside : (e : Entry) (g h : List Entry) → IsIdle c me e → LeavesOut c me g h → LeavesOut c me g (e ∷ h)
 
--- what both histories certify is the same
+-- both histories certify the same
 pub record CertifySame (c : Configuration) (me : ℕ) (g h : List Entry) : Type 0 where
   pub target : target h ≡ target g
   pub view : view c h ≡ view c g
@@ -55,6 +55,6 @@ pub record CertifySame (c : Configuration) (me : ℕ) (g h : List Entry) : Type 
 abbrev pub ReadsAreIdle : Type 0
 ReadsAreIdle = (c : Configuration) (me : ℕ) (history : List Entry) → LeavesOut c me (without_reads history) history
 
--- And those count for nothing.
+-- A history and the one without some idle entries certify the same.
 abbrev pub WordsStay : Type 0
 WordsStay = (c : Configuration) (me : ℕ) (g h : List Entry) → LeavesOut c me g h → CertifySame c me g h

@@ -1,4 +1,4 @@
--- The relation between a replica whose parts are joined, as they are within an event, and its history.
+-- How a replica with joined parts, within an event, fits a history.
 use Rattle.std.specs.Prelude.{◌≡◌, ℕ, List}
 use Rattle.events.specs.Outputs.{after_event, AreSentAsMeant}
 use Rattle.events.specs.declared.output.Output.{Output}
@@ -23,7 +23,7 @@ joined o d = record { orderer = o; desk = d }
 abbrev pub me_of : JoinedData → ℕ
 me_of r = r.orderer.endpoint.me
 
--- what it holds of its history
+-- what the replica holds of its history
 pub record Runs (c : Configuration) (r : JoinedData) (history : List Entry) : Type 0 where
   pub desk : Desk
   pub is_desk : IsDeskOf c r.desk desk
@@ -34,19 +34,19 @@ pub record Runs (c : Configuration) (r : JoinedData) (history : List Entry) : Ty
   pub all : IsAllNumbered r
   pub begun : CannotBegin c r.orderer
 
--- The history is that of a replica which orders requests, and what the replica holds is what the history says.
+-- The history is that of a replica that orders requests, and the replica holds what the history says.
 pub record Fits (c : Configuration) (r : JoinedData) (history : List Entry) : Type 0 where
   pub members_are : members c ≡ r.orderer.endpoint.membership
   pub right : IsReplica c (me_of r) history
   pub runs : Runs c r history
 
--- Whatever history the replica fits, it fits that behind the event then. Each frame that it sends goes exactly to the
--- parties for whom it is.
+-- If the replica fits a history before the event, it then fits the history with the event. Each frame that it sends
+-- goes exactly to the parties for whom it is.
 abbrev pub Leads : JoinedData → Entry → List Output → JoinedData → Type 0
 Leads old input outs new =
     (c : Configuration) (history : List Entry) → Fits c old history
     → Fits c new (after_event (me_of old) input outs history) × AreSentAsMeant c (me_of old) outs
 
--- an event leads to what the step gives
+-- the event of a step leads to its outputs
 abbrev pub EventLeads : JoinedData → Event → List Output → JoinedData → Type 0
 EventLeads old event outs new = Leads old (input_of (me_of old) event) outs new

@@ -1,4 +1,4 @@
--- What the fields of a joined replica stand for.
+-- The model of a joined replica's fields.
 use Rattle.replica.specs.declared.joined.Joined.TheInside.{Inside}
 use Rattle.replica.specs.State.{JoinedData}
 

@@ -8,12 +8,12 @@ abbrev pub Descend : List Snapshot → Type 0
 Descend [] = ⊤
 Descend (x ∷ older) = Each (λ y. y.number < x.number) older × Descend older
 
--- At most three are kept, the newest first, so that a view change may list them.
+-- At most three states are kept, the newest first, so that a view change may list them.
 pub record AreFew (snapshots : List Snapshot) : Type 0 where
   pub few : length snapshots ≤ 3
   pub descend : Descend snapshots
 
--- All but the oldest are of multiples of the period.
+-- All but the oldest have multiples of the period as their numbers.
 abbrev pub AreDue : ℕ → List Snapshot → Type 0
 AreDue period [] = ⊤
 AreDue period (x ∷ []) = ⊤
@@ -24,7 +24,7 @@ pub record AreKept (period number : ℕ) (snapshots : List Snapshot) : Type 0 wh
   pub below : Each (λ x. x.number ≤ number) snapshots
   pub due : AreDue period snapshots
 
--- No page is longer than a state's can be: 64 tuples of 1,024 bytes, each behind the 8 of its birth number.
+-- No page is longer than a state's can be: 64 tuples of 1,024 bytes, each after the 8 bytes of its birth number.
 abbrev pub HaveShortPages : List (List ℕ) → Type 0
 HaveShortPages pages = (i : ℕ) → i < 1024 → length (slice_index_or pages i []) ≤ 66176
 

@@ -5,7 +5,7 @@ use Rattle.replica.specs.State.{OrdererData, JoinedData}
 use Rattle.replica.specs.Claiming.{CutsLog}
 use Rattle.replica.specs.Desking.{desk_above}
 
--- The low mark moves up to a number: the log is cut there, and the claims and kept states below it go.
+-- The low mark moves up to a number: the log is cut there, and the claims and kept states below it are dropped.
 abbrev pub MovesMarks : ℕ → JoinedData → JoinedData → Type 0
 MovesMarks low old new =
     (o : OrdererData) × CutsLog low old.orderer o

@@ -1,4 +1,4 @@
--- What the fields of a member stand for.
+-- The model of a member's fields.
 use Rattle.replica.specs.declared.member.Member.{Member}
 use Rattle.replica.specs.State.{MemberData}
 

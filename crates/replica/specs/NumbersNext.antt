@@ -1,4 +1,4 @@
--- What giving numbers does.
+-- How a primary assigns numbers.
 use Rattle.std.specs.Prelude.{◌≡◌, ℕ, ◌<◌, ◌≤◌, Bool, true, false, List, length}
 use Rattle.wire.specs.Lists.{Each}
 use Rattle.wire.specs.Spelling.{IsCarried, is_ordered_request, pieces_spelling}
@@ -9,7 +9,7 @@ use Rattle.replica.specs.Saying.{SaysBatch}
 use Rattle.replica.specs.Going.{IsSameParty, Proceeds, Rests}
 use Rattle.replica.specs.Numbering.{IsAllNumbered}
 
--- The oldest requests without a number get this one, in a batch that is said.
+-- The primary assigns this number to the oldest requests without one, in a batch that it multicasts.
 pub record NumbersNext (number : ℕ) (old : JoinedData) (before : List Output) (new : JoinedData)
     (after : List Output) : Type 0 where
   pub says : SaysBatch number (pieces_spelling (texts (unnumbered old.desk.waiting))) old.orderer before new.orderer
@@ -19,7 +19,7 @@ pub record NumbersNext (number : ℕ) (old : JoinedData) (before : List Output) 
   }
   pub carried : Each (IsCarried is_ordered_request) (texts (unnumbered old.desk.waiting))
 
--- The next number is given, and what it asks for is done: fewer requests are left without one.
+-- The primary assigns the next number, and goes on with it. Fewer requests are left without one.
 pub record GivesNumber (old : JoinedData) (before : List Output) (new : JoinedData) (after : List Output) : Type 0
   where
     pub proceeds : Rests old → Proceeds old before new after
@@ -28,13 +28,13 @@ pub record GivesNumber (old : JoinedData) (before : List Output) (new : JoinedDa
     pub rests : Rests old → Rests new
     pub fewer : count_unnumbered new.desk.waiting < count_unnumbered old.desk.waiting
 
--- One number is given; or there is none, or no request without one, and nothing changes.
+-- The primary assigns one number; or there is no free number, or no request without one, and nothing changes.
 abbrev pub NumbersTurn : JoinedData → List Output → JoinedData → List Output → Bool → Type 0
 NumbersTurn old before new after true = GivesNumber old before new after
 NumbersTurn old before new after false = (new ≡ old) × (after ≡ before) × IsAllNumbered old
 
--- All that waits gets numbers as far as there are free ones, and what they ask for is done: nothing is left to say, to
--- execute or to number.
+-- The primary assigns the free numbers to waiting requests, and goes on with each. Nothing is left to send, to execute
+-- or to assign.
 pub record NumbersWaiting (old : JoinedData) (before : List Output) (new : JoinedData)
     (after : List Output) : Type 0 where
   pub proceeds : Rests old → Proceeds old before new after

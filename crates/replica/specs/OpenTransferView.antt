@@ -1,4 +1,4 @@
--- What the fields of an open transfer stand for.
+-- The model of an open transfer's fields.
 use Rattle.replica.specs.declared.open_transfer.OpenTransfer.TheInside.{Inside}
 use Rattle.replica.specs.State.{OpenData}
 

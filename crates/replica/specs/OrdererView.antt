@@ -1,10 +1,10 @@
--- What the fields of an orderer stand for.
+-- The model of an orderer's fields.
 use Rattle.std.specs.Prelude.{option_map}
 use Rattle.wire.specs.Views.{checkpoint_entry_data}
 use Rattle.replica.specs.declared.orderer.Orderer.TheInside.{Inside}
 use Rattle.replica.specs.State.{OrdererData}
 
--- how many keys are spent stands beside the endpoint
+-- the count of spent keys stands beside the endpoint
 abbrev pub orderer_data : Inside → OrdererData
 orderer_data o = record {
   endpoint = record o.endpoint.value { used = 0 };

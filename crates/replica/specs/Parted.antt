@@ -1,5 +1,5 @@
--- A replica in two parts, and how each meets the history: the desk the whole of it, the orderer the part without reads
--- (Castro and Liskov, TOCS 2002, on read-only operations).
+-- A replica in two parts, and how each fits the history: the desk the whole history, the orderer the history without
+-- reads (Castro and Liskov, TOCS 2002, on read-only operations).
 use Rattle.std.specs.Prelude.{◌≡◌, ℕ, ◌<◌, ◌≤◌, true, List, [], Some, None, is_some}
 use Rattle.std.specs.Option.{ForSome}
 use Rattle.events.specs.Outputs.{after_event, AreSentAsMeant}
@@ -22,14 +22,15 @@ use Rattle.replica.specs.Inputs.{input_of}
 use Rattle.replica.specs.Joined.{EventLeads, joined}
 use Rattle.replica.specs.Changing.{AreChanges}
 
--- ---- what a part that runs holds
+-- ---- what a running part holds
 
--- The flags of what waits are right, by some number that is used last.
+-- The flags of the waiting requests are right, for some greatest assigned number.
 abbrev pub HasFlags : Configuration → ℕ → DeskData → Desk → List Entry → Type 0
 HasFlags c me d desk history =
     (used : ℕ) × FitsFlags c me (view c history) used d.waiting desk.state desk.waiting history
 
--- The desk holds a point of the whole history. At the primary of the view it has the flags of what waits.
+-- The desk holds a point of the whole history. At the primary of the view it has the right flags of the waiting
+-- requests.
 pub record HoldsDesk (c : Configuration) (me : ℕ) (d : DeskData) (history : List Entry) : Type 0 where
   pub desk : Desk
   pub is_desk : IsDeskOf c d desk
@@ -37,12 +38,12 @@ pub record HoldsDesk (c : Configuration) (me : ℕ) (d : DeskData) (history : Li
   pub low : histories.IsReached c me (low c me history) desk.state.number [] history
   pub flags : primary c (view c history) ≡ me → HasFlags c me d desk history
 
--- Each number above the low mark has a batch up to the one that is used last, and none above it has one.
+-- Each number above the low mark up to `used` has a batch, and none above it has one.
 pub record IsUsed (c : Configuration) (me v used : ℕ) (history : List Entry) : Type 0 where
   pub free : (j : ℕ) → used < j → logged c me history v j ≡ None
   pub full : (j : ℕ) → low c me history < j → j ≤ used → is_some (logged c me history v j) ≡ true
 
--- The orderer holds what the entries of ordering certify. It knows of no point and no state.
+-- The orderer holds what the entries of ordering certify. It knows no point and no state.
 pub record HoldsOrderer (c : Configuration) (me : ℕ) (o : OrdererData) (history : List Entry) : Type 0 where
   pub holds : histories.HoldsLog c me o.log history
   pub used : primary c (view c history) ≡ me → IsUsed c me (view c history) o.used history
@@ -53,14 +54,14 @@ pub record HoldsOrderer (c : Configuration) (me : ℕ) (o : OrdererData) (histor
 
 -- ---- what fits
 
--- The desk is the replica's, whose history is a correct one's; and unless it stopped it holds of it.
+-- The desk is the replica's, and the history a correct one's. Unless the desk stopped, it holds the history's point.
 pub record FitsDesk (c : Configuration) (me : ℕ) (d : DeskPart) (history : List Entry) : Type 0 where
   pub me_is : d.member.me ≡ me
   pub members_are : members c ≡ d.member.membership
   pub right : IsReplica c me history
   pub running : ForSome d.holds (λ x. HoldsDesk c me x history)
 
--- So is the orderer, of the entries of ordering.
+-- The orderer is the replica's. Unless it stopped, it holds what the entries of ordering certify.
 pub record FitsOrderer (c : Configuration) (me : ℕ) (o : OrdererPart) (ordering : List Entry) : Type 0 where
   pub me_is : o.member.me ≡ me
   pub members_are : members c ≡ o.member.membership
@@ -72,7 +73,7 @@ FitBoth c me o d history = FitsDesk c me d history × FitsOrderer c me o (withou
 
 -- ---- which parts go together
 
--- Both are of one replica, with checkpoints as often, and neither has stopped.
+-- Both are of one replica, with the same period of checkpoints, and neither has stopped.
 pub record AreTogether (o : OrdererPart) (d : DeskPart) : Type 0 where
   pub member : o.member ≡ d.member
   pub orderer : OrdererData
@@ -83,13 +84,14 @@ pub record AreTogether (o : OrdererPart) (d : DeskPart) : Type 0 where
 
 -- ---- what a call leads to
 
--- Whatever history both fit, they fit that behind the event then.
+-- If both fit a history before the event, they then fit the history with the event.
 abbrev pub BothLead : OrdererPart → DeskPart → Event → List Output → OrdererPart → DeskPart → Type 0
 BothLead o d event outs later_o later_d =
     (c : Configuration) (me : ℕ) (history : List Entry) → FitBoth c me o d history
     → FitBoth c me later_o later_d (after_event me (input_of me event) outs history)
 
--- Whatever history the desk fits, it fits that behind the read then; and the entries of ordering are the same.
+-- If the desk fits a history before the read, it then fits the history with the read. The entries of ordering are the
+-- same.
 abbrev pub ReadLeads : DeskPart → List ℕ → List Output → DeskPart → Type 0
 ReadLeads d bytes outs later =
     (c : Configuration) (me : ℕ) (history : List Entry) → FitsDesk c me d history
@@ -106,7 +108,7 @@ abbrev pub ReadSendsAsMeant : DeskPart → List Output → Type 0
 ReadSendsAsMeant d outs =
     (c : Configuration) (me : ℕ) (history : List Entry) → FitsDesk c me d history → AreSentAsMeant c me outs
 
--- A part that stopped goes with any history: the desk with one that is a correct replica's.
+-- A part that stopped fits any history; the desk only one of a correct replica.
 abbrev pub DeskStops : DeskPart → DeskPart → Type 0
 DeskStops d stopped =
     (c : Configuration) (me : ℕ) (history other : List Entry) → FitsDesk c me d history → IsReplica c me other
@@ -119,7 +121,7 @@ OrdererStops o stopped =
 
 -- ---- of private functions
 
--- what they give in an event when they are joined
+-- the outputs of both in an event, when they are joined
 pub record Reacts (o : OrdererData) (d : DeskData) (event : Event) (outs : List Output) (later_o : OrdererData)
     (later_d : DeskData) : Type 0 where
   pub leads : EventLeads (joined o d) event outs (joined later_o later_d)

@@ -10,14 +10,14 @@ use Rattle.replica.specs.Joined.{Runs, joined, me_of}
 use Rattle.replica.specs.Parted.{HoldsDesk, HoldsOrderer, FitsDesk}
 use Rattle.replica.specs.Fits as replica_fits
 
--- Together they hold of the whole history.
+-- Together they hold the whole history.
 abbrev pub PartsJoin : Type 0
 PartsJoin =
     (c : Configuration) (o : OrdererData) (d : DeskData) (history : List Entry) → AreOne o d
     → HoldsDesk c o.endpoint.me d history → HoldsOrderer c o.endpoint.me o (without_reads history)
     → Runs c (joined o d) history
 
--- And what holds of the whole history parts into both.
+-- And what holds the whole history parts into both.
 abbrev pub HoldsPart : Type 0
 HoldsPart =
     (c : Configuration) (r : JoinedData) (history : List Entry) → AreOne r.orderer r.desk

@@ -1,4 +1,4 @@
--- What the fields of a replica's parts stand for.
+-- The model of the fields of a replica's parts.
 use Rattle.replica.specs.declared.parted.Orderer.TheInside.{Inside as OrdererInside}
 use Rattle.replica.specs.declared.parted.Desk.TheInside.{Inside as DeskInside}
 use Rattle.replica.specs.State.{OrdererPart, DeskPart}

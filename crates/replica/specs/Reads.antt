@@ -1,4 +1,5 @@
--- What bytes with the marks of a read, or of a reply to one, say (Castro and Liskov, TOCS 2002, on read-only operations).
+-- What bytes with the marks of a read, or of a reply to one, may say (Castro and Liskov, TOCS 2002, on read-only
+-- operations).
 use Rattle.std.specs.Prelude.{◌≡◌, Bool, true, false, List, ℕ, Some}
 use Rattle.terms.specs.declared.order.Mode.TheVariants as modes
 use Rattle.wire.specs.Marks.{asks_read, answers_read}
@@ -15,7 +16,7 @@ is_read_reply body = elim body.message [ Reply client t mode number answer ↦ s
 
 -- ---- laws
 
--- What bytes with the marks say, if anything, is what the marks tell.
+-- If bytes with the marks say anything, they say a read, or a reply to one.
 abbrev pub MarkedAreRequests : Type 0
 MarkedAreRequests =
     (bytes : List ℕ) (body : Body) → asks_read bytes ≡ true → said bytes ≡ Some body → is_read_request body ≡ true

@@ -1,4 +1,4 @@
--- View changes that are taken (Castro and Liskov, TOCS 2002, on view changes).
+-- View changes that a replica takes (Castro and Liskov, TOCS 2002, on view changes).
 use Rattle.std.specs.Prelude.{◌≡◌, ◌≢◌, Bool, true, false, None}
 use Rattle.protocol.specs.System.Configuration.{Configuration, members}
 use Rattle.view_change.specs.Laws.{HaveOneRule}
@@ -6,7 +6,7 @@ use Rattle.view_change.specs.ReceivedData.{HeldData, refusal_of, with_held}
 use Rattle.view_change.specs.ReceivedView.{configuration_of}
 use Rattle.replica.specs.State.{OrdererData}
 
--- It is held where nothing refuses it, and else nothing changes.
+-- The orderer stores it if nothing refuses it; else nothing changes.
 abbrev pub Receives : HeldData → OrdererData → OrdererData → Bool → Type 0
 Receives h old new true =
     (refusal_of (configuration_of old.received) old.log.view old.received.held (h.sender, h.change) ≡ None)
@@ -15,7 +15,7 @@ Receives h old new false =
     (refusal_of (configuration_of old.received) old.log.view old.received.held (h.sender, h.change) ≢ None)
     × (new ≡ old)
 
--- What is received is judged as in each configuration of the members, with checkpoints as often.
+-- The orderer judges view changes as in each configuration of the members, with the same period of checkpoints.
 abbrev pub JudgesAlike : OrdererData → Type 0
 JudgesAlike o = (c : Configuration) → members c ≡ o.endpoint.membership → c.period ≡ o.received.sizes.period
     → HaveOneRule (configuration_of o.received) c

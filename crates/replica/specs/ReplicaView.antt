@@ -1,4 +1,4 @@
--- What the fields of a replica stand for.
+-- The model of a replica's fields.
 use Rattle.replica.specs.declared.replica.Replica.TheInside.{Inside}
 use Rattle.replica.specs.State.{ReplicaData}
 

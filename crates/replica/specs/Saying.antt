@@ -1,4 +1,4 @@
--- What an orderer says to the other replicas.
+-- What an orderer multicasts to the other replicas.
 use Rattle.std.specs.Prelude.{◌≡◌, ◌≢◌, ℕ, ◌+◌, ◌*◌, ◌≤◌, ◌<◌, Bool, true, false, List, [], ◌∷◌, ◌++◌, length, Some, None}
 use Rattle.wire.specs.Messages.{MessageData as Message, CheckpointEntryData as CheckpointEntry, pre_prepare as PrePrepare, prepare as Prepare, commit as Commit, checkpoint as Checkpoint, new_view as NewView}
 use Rattle.wire.specs.Lists.{Each}
@@ -15,20 +15,20 @@ use Rattle.protocol.specs.System.Trace.Entry.{Sent}
 use Rattle.protocol.specs.Replica.Owed.{IsSaying}
 use Rattle.view_change.specs.ReceivedData.{HeldData, held_of}
 use Rattle.replica_histories.specs.Desk.{Desk}
-use Rattle.replica_histories.specs.Events.{Start, behind}
+use Rattle.replica_histories.specs.Events.{Start, after_outputs}
 use Rattle.replica_histories.specs.Outputs.{MayNumber}
 use Rattle.replica.specs.State.{OrdererData, JoinedData}
 use Rattle.replica.specs.Waiting.{WaitingData, texts, unnumbered, with_numbered}
 use Rattle.replica.specs.Desks.{AreCallsOf, given, FitsEvent}
 use Rattle.replica.specs.Going.{GoesOn, IsVoted, IsSameOrderer}
 
--- the message is posted to the other replicas behind what was given
+-- the orderer sends the message to the other replicas, after the earlier outputs
 pub record Says (o : OrdererData) (message : Message) (before after : List Output) : Type 0 where
   pub output : Output
   pub posts : PostsToOthers o.endpoint message output
   pub given_is : after ≡ before ++ output ∷ []
 
--- the own prepare, or commit, of a digest is counted
+-- the replica's own prepare, or commit, of a digest is counted
 pub record AddsPrepare (number : ℕ) (digest : List ℕ) (old new : OrdererData) : Type 0 where
   pub vote : Vote
   pub sender : vote.sender.0 ≡ old.log.me
@@ -41,7 +41,7 @@ pub record AddsCommit (number : ℕ) (digest : List ℕ) (old new : OrdererData)
   pub digest_is : vote.digest ≡ digest
   pub new_is : new ≡ record old { log = with_commit old.log number vote }
 
--- All goes on, and the log asks for no more votes for numbers but this one.
+-- The orderer goes on, and the log asks for no more votes for numbers but this one.
 pub record SaysVote (number : ℕ) (old : OrdererData) (before : List Output) (new : OrdererData)
     (after : List Output) : Type 0 where
   pub goes : GoesOn old before new after
@@ -50,7 +50,7 @@ pub record SaysVote (number : ℕ) (old : OrdererData) (before : List Output) (n
   pub used : new.used ≡ old.used
   pub others : (i : ℕ) → i ≢ number → IsVoted old.log i → IsVoted new.log i
 
--- So it is where the prepare that the log asks for is said, for which it asks no more, or the commit.
+-- The same, and the log asks for the prepare of the number no more; or for the commit.
 pub record SaysPrepare (number : ℕ) (old : OrdererData) (before : List Output) (new : OrdererData)
     (after : List Output) : Type 0 where
   pub says : SaysVote number old before new after
@@ -62,19 +62,20 @@ pub record SaysCommit (number : ℕ) (old : OrdererData) (before : List Output) 
   pub said : logs.due_commit new.log number ≡ None
   pub prepared : logs.due_prepare new.log number ≡ logs.due_prepare old.log number
 
--- Where all that the log asks for of a number is said, it asks for nothing of that number any more.
+-- The same, and the log asks for no vote of the number any more.
 pub record SaysVotes (number : ℕ) (old : OrdererData) (before : List Output) (new : OrdererData)
     (after : List Output) : Type 0 where
   pub says : SaysVote number old before new after
   pub said : IsVoted new.log number
 
--- ---- what is said again
+-- ---- what is sent again
 
--- What is said again has an order: first the own new view, then of each number its batch, its prepare and its commit.
+-- The order of what is sent again: first the replica's new view, then for each number its batch, its prepare and its
+-- commit.
 abbrev pub row_place : ℕ → ℕ
 row_place number = 3 * number + 1
 
--- The message comes before a place in that order. A checkpoint comes last, and a view change goes again alone.
+-- The message comes before a place in that order. A checkpoint comes last. A view change goes again alone.
 abbrev pub IsBelow : ℕ → Message → Type 0
 IsBelow place message = elim message [
   | NewView new ↦ 0 < place
@@ -84,12 +85,12 @@ IsBelow place message = elim message [
   | _ ↦ ⊥
 ]
 
--- So does all that these outputs say.
+-- So do all messages of these outputs.
 abbrev pub AreBelow : ℕ → ℕ → List Entry → Type 0
 AreBelow me place outputs = Each (λ e. (message : Message) → IsSaying me message e → IsBelow place message) outputs
 
--- What was said is said again while the replica is active, and nothing changes. Nothing else is due. What was said so far
--- comes before the first place, and all comes before the end then.
+-- An active replica multicasts again what it sent before. Nothing changes, and nothing else is due. The earlier outputs
+-- come before the first place, and all come before the end then.
 pub record SaysAgain (first end : ℕ) (old : OrdererData) (before : List Output) (new : OrdererData)
     (after : List Output) : Type 0 where
   pub goes : old.log.active ≡ true → (c : Configuration) (s : Start) (desk : Desk) (w : WaitingData)
@@ -100,14 +101,14 @@ pub record SaysAgain (first end : ℕ) (old : OrdererData) (before : List Output
   pub more : List Output
   pub given_is : after ≡ before ++ more
 
--- What fits what was said so far, which comes before the place, fits what was said since. Nothing else is due.
+-- If a history fits the earlier outputs, which come before the place, it fits the later ones. Nothing else is due.
 abbrev pub GoesAgain : ℕ → OrdererData → List Output → OrdererData → List Output → Type 0
 GoesAgain place old before new after =
     (c : Configuration) (s : Start) (desk : Desk) (w : WaitingData)
     → members c ≡ old.endpoint.membership → AreBelow old.endpoint.me place (given old.endpoint.me before)
     → FitsEvent c old.endpoint.me s old desk w [] before → FitsEvent c old.endpoint.me s new desk w [] after
 
--- The last of it is said again while the replica is active, or while it isn't.
+-- The last message is sent again by an active replica, or by an inactive one.
 pub record SaysLastAgain (active : Bool) (place : ℕ) (old : OrdererData) (before : List Output) (new : OrdererData)
     (after : List Output) : Type 0 where
   pub goes : old.log.active ≡ active → GoesAgain place old before new after
@@ -115,7 +116,7 @@ pub record SaysLastAgain (active : Bool) (place : ℕ) (old : OrdererData) (befo
   pub more : List Output
   pub given_is : after ≡ before ++ more
 
--- And this holds of all that is given then.
+-- And this holds of all outputs then.
 abbrev pub SaysAlso :
     ℕ → ℕ → (OrdererData → List Output → Type 0) → OrdererData → List Output → OrdererData → List Output → Type 0
 SaysAlso first end P old before new after = SaysAgain first end old before new after × P old after
@@ -124,20 +125,20 @@ abbrev pub SaysLastAlso :
     Bool → ℕ → (OrdererData → List Output → Type 0) → OrdererData → List Output → OrdererData → List Output → Type 0
 SaysLastAlso active place P old before new after = SaysLastAgain active place old before new after × P old after
 
--- the message is posted to the other replicas among the outputs, or this very frame is
+-- the outputs have the message to the other replicas, or this very frame
 abbrev pub Posted : OrdererData → Message → List Output → Type 0
 Posted o message outs = Has (λ output. PostsToOthers o.endpoint message output) outs
 
 abbrev pub PostedFrame : OrdererData → List ℕ → List Output → Type 0
 PostedFrame o frame outs = Has (λ output. entry_of o.endpoint.me output ≡ Sent o.endpoint.me frame) outs
 
--- the primary's batch of a number is posted, if it is above those of the new view
+-- the outputs have the primary's batch of a number, if it is above those of the new view
 abbrev pub PostsBatch : ℕ → OrdererData → List Output → Type 0
 PostsBatch number o outs =
     (text : List ℕ) → o.log.me ≡ logs.primary o.log o.log.view → o.begun < number
     → logs.logged_batch o.log number ≡ Some text → Posted o (PrePrepare o.log.view number text) outs
 
--- so is the own prepare, or commit, that the log has
+-- the outputs have the replica's own prepare, or commit, that the log has
 abbrev pub PostsPrepare : ℕ → OrdererData → List Output → Type 0
 PostsPrepare number o outs =
     (digest : List ℕ) → logs.prepare_of o.log number o.log.me ≡ Some digest
@@ -152,7 +153,7 @@ PostsCommit number o outs =
 abbrev pub PostsRow : ℕ → OrdererData → List Output → Type 0
 PostsRow number o outs = PostsBatch number o outs × PostsPrepare number o outs × PostsCommit number o outs
 
--- the own new view, the last checkpoint, and the own view change
+-- the replica's new view, its last checkpoint, and its view change
 abbrev pub PostsNewView : OrdererData → List Output → Type 0
 PostsNewView o outs = (frame : List ℕ) → o.new_view ≡ Some frame → PostedFrame o frame outs
 
@@ -164,14 +165,14 @@ abbrev pub PostsChange : OrdererData → List Output → Type 0
 PostsChange o outs =
     (held : HeldData) → held_of o.received.held o.log.me ≡ Some held → PostedFrame o held.frame outs
 
--- all that an active replica says again: of the numbers above the executed one, up to the end of the marks
+-- all that an active replica multicasts again: for the numbers above the executed one, up to the end of the marks
 pub record PostsAll (executed : ℕ) (o : OrdererData) (outs : List Output) : Type 0 where
   pub new_view : PostsNewView o outs
   pub rows : (i : ℕ) → executed < i → i ≤ o.log.low + o.log.span → PostsRow i o outs
   pub checkpoint : PostsCheckpoint o outs
 
--- A replica that waits for a request says all again while it is active, and else its view change. The parts go on where
--- it is the orderer's alone.
+-- A replica to which a waiting request comes again multicasts all again while it is active, and else its view change. A
+-- history that fits the earlier outputs fits the later ones.
 pub record AllAgain (old : JoinedData) (before : List Output) (new : JoinedData) (after : List Output) : Type 0 where
   pub same : new ≡ old
   pub goes : GoesAgain 0 old.orderer before old.orderer after
@@ -180,8 +181,8 @@ pub record AllAgain (old : JoinedData) (before : List Output) (new : JoinedData)
 
 -- ---- a batch
 
--- The primary's own batch of this text is said. Where it may be numbered, and is of the oldest requests without a number,
--- these have it then.
+-- The primary multicasts its own batch of this text. If it may assign the number, and the batch is of the oldest
+-- requests without one, these have it then.
 pub record SaysBatch (number : ℕ) (text : List ℕ) (old : OrdererData) (before : List Output) (new : OrdererData)
     (after : List Output) : Type 0 where
   pub endpoint : new.endpoint ≡ old.endpoint
@@ -190,6 +191,6 @@ pub record SaysBatch (number : ℕ) (text : List ℕ) (old : OrdererData) (befor
   pub goes : (c : Configuration) (s : Start) (desk : Desk) (w : WaitingData) (due : List Message)
       → members c ≡ old.endpoint.membership → AreCallsOf c w.requests desk.waiting
       → requests_of text ≡ texts (unnumbered w)
-      → MayNumber c old.endpoint.me desk old.log (behind s (given old.endpoint.me before)) number text
+      → MayNumber c old.endpoint.me desk old.log (after_outputs s (given old.endpoint.me before)) number text
       → FitsEvent c old.endpoint.me s old desk w due before
       → FitsEvent c old.endpoint.me s new desk (with_numbered (length (unnumbered w)) w) due after

@@ -1,4 +1,4 @@
--- What kept states stand for.
+-- The model of the kept states.
 use Rattle.std.specs.Prelude.{List, map}
 use Rattle.replica_histories.specs.Desk.{Snapshot}
 use Rattle.replica.specs.declared.snapshots.KeptState.{KeptState}

@@ -1,4 +1,5 @@
--- What a replica holds, as plain data: what orders, and what is executed, kept, fetched and waits.
+-- A replica's data, as plain values: the orderer, and the desk with the executed, kept and fetched states and the
+-- waiting requests.
 use Rattle.std.specs.Prelude.{◌≡◌, ℕ, ◌<◌, ◌≤◌, Bool, ◌||◌, List, Option, Some, is_none}
 use Rattle.std.specs.Option.{ForSome}
 use Rattle.authenticator.specs.Membership.{Membership}
@@ -15,10 +16,10 @@ use Rattle.replica_histories.specs.Desk.{Snapshot}
 use Rattle.replica.specs.Keeping.{AreKept}
 use Rattle.replica.specs.Waiting.{WaitingData}
 
--- What orders: the endpoint, without how many keys it has spent; the log; the greatest number that has a batch by the new
--- view with which the view began, or by the replica as its primary; the greatest number that the new view gave; the
--- greatest view that a view change was said for; the frame of the new view, where it is the own one; what was claimed,
--- and the view changes that are held; the last checkpoint that it said; and how many leaves have signed.
+-- The orderer. endpoint: without the number of spent keys. used: the greatest number assigned in the view, by the new
+-- view or by the replica as its primary. begun: the greatest number that the new view assigned. target: the greatest
+-- view that the replica sent a view change for. new_view: the frame of the new view, if the replica made it. Then the
+-- claims, the stored view changes, the last sent checkpoint, and the number of leaves that have signed.
 pub record OrdererData : Type 0 where
   pub endpoint : EndpointState
   pub log : LogData
@@ -36,8 +37,8 @@ pub record OpenData : Type 0 where
   pub transfer : TransferData
   pub rests_at : ℕ
 
--- the desk: what is executed, and how many batches lie between checkpoints; the states that are kept, the newest first;
--- the transfer that is open; and what waits
+-- The desk: the executed state; the number of batches from one checkpoint to the next; the kept states, the newest
+-- first; the open transfer; and the waiting requests.
 pub record DeskData : Type 0 where
   pub me : ℕ
   pub membership : Membership
@@ -47,7 +48,7 @@ pub record DeskData : Type 0 where
   pub transfer : Option OpenData
   pub waiting : WaitingData
 
--- both, as they are within an event
+-- both parts, joined within an event
 pub record JoinedData : Type 0 where
   pub orderer : OrdererData
   pub desk : DeskData
@@ -59,30 +60,31 @@ pub record HoldsBatches (begun : ℕ) (log : LogData) (texts : List (List ℕ)) 
   pub logged : (i : ℕ) (text : List ℕ) → begun < i → logged_batch log i ≡ Some text → IsBatch 1 text
   pub claimed : Each (IsBatch 0) texts
 
--- The log is the replica's own, of as many faults; the keys by which view changes are judged are the members', and they
--- are as many; and what it holds as batches are batches.
+-- The log is the replica's own, with the membership's number of faults. View changes are judged by the members' keys
+-- and by the same number of faults. What it holds as batches are batches.
 abbrev pub IsOrderer : OrdererData → Type 0
 IsOrderer o = (o.log.me ≡ o.endpoint.me) × (o.log.faults ≡ o.endpoint.membership.faults)
     × (o.received.seed ≡ o.endpoint.membership.seed) × (o.received.sizes.faults ≡ o.endpoint.membership.faults)
     × HoldsBatches o.begun o.log o.claims.texts
 
--- the state is one of as many clients, the replica may seal for them, and there are checkpoints, of which it keeps these
+-- the state has the membership's number of clients, the replica may seal for them, the period is not 0, and these
+-- states are kept
 abbrev pub IsDesk : DeskData → Type 0
 IsDesk d = (d.executed.clients ≡ d.membership.clients) × (d.me < 10) × (1 ≤ d.period)
     × AreKept d.period d.executed.state.number d.snapshots
 
--- both are of one replica, with checkpoints as often
+-- both are of one replica, with the same period of checkpoints
 abbrev pub AreOne : OrdererData → DeskData → Type 0
 AreOne o d = (d.me ≡ o.endpoint.me) × (d.membership ≡ o.endpoint.membership) × (o.received.sizes.period ≡ d.period)
 
 -- ---- the parts of a replica
 
--- whose part it is: the replica, and among whom
+-- to which replica a part belongs, and its membership
 pub record MemberData : Type 0 where
   pub me : ℕ
   pub membership : Membership
 
--- Each holds what it is for, unless it stopped.
+-- Each part holds its data, unless it stopped.
 pub record OrdererPart : Type 0 where
   pub member : MemberData
   pub holds : Option OrdererData
@@ -91,7 +93,7 @@ pub record DeskPart : Type 0 where
   pub member : MemberData
   pub holds : Option DeskData
 
--- what it holds is the member's
+-- the data are the member's
 abbrev pub IsOrdererPart : OrdererPart → Type 0
 IsOrdererPart part =
     ForSome part.holds (λ o. (o.endpoint.me ≡ part.member.me) × (o.endpoint.membership ≡ part.member.membership))

@@ -1,4 +1,4 @@
--- What an orderer does with what it hears.
+-- What an orderer takes of what it receives.
 use Rattle.std.specs.Prelude.{◌≡◌, ◌⊎◌, ℕ, Bool, true, false, None, is_none, replicate}
 use Rattle.terms.specs.declared.parties.ReplicaId.{ReplicaId}
 use Rattle.wire.specs.declared.messages.PrePrepare.{PrePrepare}
@@ -13,7 +13,7 @@ use Rattle.view_change.specs.ClaimsView.{no_claims}
 use Rattle.replica.specs.State.{OrdererData}
 use Rattle.replica.specs.Claiming.{LogsBatch}
 
--- nothing was taken yet
+-- an orderer before its first message
 abbrev pub IsNewOrderer : Configuration → ℕ → OrdererData → Type 0
 IsNewOrderer c me o = (o ≡ record {
   endpoint = record { membership = members c; me = me; used = 0 };
@@ -32,7 +32,7 @@ IsNewOrderer c me o = (o ≡ record {
   spent = 0;
 }) × (o.received.sizes.faults ≡ c.faults) × (o.received.sizes.period ≡ c.period)
 
--- A batch is taken where the log has no fault for it and its requests are genuine. What isn't taken changes nothing.
+-- The orderer takes a batch if the log has no fault for it and its requests are authentic. Else nothing changes.
 abbrev pub TakesBatch : OrdererData → ReplicaId → PrePrepare → OrdererData → Bool → Type 0
 TakesBatch old sender p new true =
     (preprepare_fault_of old.log sender p ≡ None)
@@ -43,7 +43,7 @@ TakesBatch old sender p new false =
     ⊎ (are_heard old.endpoint.membership old.endpoint.me (requests_of p.batch.text.items) ≡ false))
     × (new ≡ old)
 
--- So are votes, where the log has no fault for them.
+-- The same of votes, if the log has no fault for them.
 abbrev pub TakesPrepare : OrdererData → ReplicaId → Prepare → OrdererData → Bool → Type 0
 TakesPrepare old sender p new true =
     (prepare_fault_of old.log sender p ≡ None)

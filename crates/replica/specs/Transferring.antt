@@ -1,4 +1,4 @@
--- What an open transfer does (Castro and Liskov, TOCS 2002, on state transfer).
+-- How an open transfer goes on (Castro and Liskov, TOCS 2002, on state transfer).
 use Rattle.std.specs.Prelude.{◌≡◌, ◌⊎◌, ◌<◌, ℕ, Bool, true, false, length, Option, Some, None}
 use Rattle.sha2.specs.Sha256.{sha256}
 use Rattle.wire.specs.Messages.{CheckpointEntryData as CheckpointEntry, meta as MetaMessage}
@@ -27,7 +27,7 @@ moved o entry = record o { transfer = moved_to o.transfer entry.number entry.dig
 abbrev pub MayBeSaid : Meta → Type 0
 MayBeSaid meta = IsMessage (MetaMessage meta.number.0 meta.level meta.index meta.digests.items)
 
--- digests, or a page, that the transfer doesn't await
+-- digests, or a page, that the transfer does not await
 abbrev pub AreOtherDigests : OpenData → Meta → Type 0
 AreOtherDigests o meta =
     IsOther o.transfer meta.number.0 (record { level = meta.level; index = meta.index })
@@ -36,7 +36,7 @@ AreOtherDigests o meta =
 abbrev pub IsOtherPage : OpenData → Page → Type 0
 IsOtherPage o page = IsOther o.transfer page.number.0 (page_place page.index) (sha256 page.text.items)
 
--- Digests are taken that have the wanted digest at the place that was asked for last, and no others.
+-- The transfer takes digests that have the wanted digest at the place that was asked for last, and no others.
 abbrev pub TakesDigestsOf : OpenData → Meta → OpenData → Bool → Type 0
 TakesDigestsOf old meta new true =
     (meta.number.0 ≡ old.transfer.number) × (old.transfer.asked ≡ record { level = meta.level; index = meta.index })
@@ -48,11 +48,11 @@ TakesDigestsOf old meta new false = (new ≡ old) × AreOtherDigests old meta
 abbrev pub AreAllPages : TransferData → Type 0
 AreAllPages t = (length t.held ≡ 1024) × (length t.fetched ≡ 1024)
 
--- what a page replaced, and where the transfer rested
+-- what a page replaced, and where the transfer rested before
 abbrev pub IsTakenFrom : OpenData → ℕ → Taken → Type 0
 IsTakenFrom o page taken = (taken.replaced ≡ replaced_at o.transfer page) × (taken.rests_at.0 ≡ o.rests_at)
 
--- So is a page.
+-- The same of a page.
 abbrev pub TakesPageOf : OpenData → Page → OpenData → Option Taken → Type 0
 TakesPageOf old page new (Some taken) =
     (page.number.0 ≡ old.transfer.number) × (old.transfer.asked ≡ page_place page.index)
@@ -61,20 +61,20 @@ TakesPageOf old page new (Some taken) =
     × IsTakenFrom old page.index taken × AreAllPages old.transfer × (page.index < 1024)
 TakesPageOf old page new None = (new ≡ old) × IsOtherPage old page
 
--- what was taken is given back
+-- the transfer gives back what it took
 abbrev pub is_given_back : OpenData → Taken → OpenData → Type 0
 is_given_back old taken new =
     new ≡ record { transfer = given_back old.transfer taken.replaced; rests_at = taken.rests_at.0 }
 
 -- ---- the next part
 
--- The pages that were not fetched are those of the state: as they were, or as they are put now.
+-- The pages that were not fetched are the state's: as before, or as they are put now.
 abbrev pub IsRestedAt : State → OpenData → OpenData → Type 0
 IsRestedAt st old new =
     ((old.rests_at ≡ st.number) × (new ≡ old))
     ⊎ (IsRested old.transfer (pages_of st) new.transfer × (new.rests_at ≡ st.number))
 
--- Rested so, it asks for the next place, if there is one.
+-- After that, it asks for the next place, if there is one.
 abbrev pub AsksPlace : State → OpenData → OpenData → Option Place → Type 0
 AsksPlace st old new place =
     (rested : OpenData) × IsRestedAt st old rested × (place ≡ next_place rested.transfer)

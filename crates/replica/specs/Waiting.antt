@@ -1,4 +1,4 @@
--- The requests that wait to be executed.
+-- The requests that wait for execution.
 use Rattle.std.specs.Prelude.{ℕ, zero, suc, true, ◌==◌, ◌&&◌, Bool, not, List, ◌∷◌, [], ◌++◌, length, map, filter, find, take, nat_lt, if◌then◌else◌, Option, option_map, Vec}
 use Rattle.std.specs.List.{list_any}
 use Rattle.std.specs.Borrow.{Bor}
@@ -30,7 +30,7 @@ frames_of w = texts w.requests
 abbrev pub is_of : ℕ → WaitingRequest → Bool
 is_of client r = r.client.number == client
 
--- it is newer than what its client ran last
+-- it is newer than the last that its client ran
 abbrev pub is_new : State → WaitingRequest → Bool
 is_new st r = nat_lt (last_time st r.client.number) r.timestamp.0
 
@@ -39,7 +39,7 @@ abbrev pub is_begun : List BegunCall → ℕ → ℕ → Bool
 is_begun begun client timestamp =
     list_any (λ b. (b.client.number == client) && (b.timestamp.0 == timestamp)) begun
 
--- ---- what is looked for
+-- ---- queries
 
 -- the request that is lent, if there is one
 abbrev pub lent : Option (Bor WaitingRequest) → Option WaitingRequest
@@ -64,7 +64,7 @@ count_unnumbered w = length (all_unnumbered w.requests)
 
 -- ---- changes
 
--- one more behind all others, which has a number where the view began with it
+-- one more, after all others; it has a number if the view began with it
 abbrev pub with_request : ClientId → Timestamp → Vec ℕ Global → WaitingData → WaitingData
 with_request client timestamp frame w = record w {
   requests = w.requests ++ record {
@@ -93,7 +93,7 @@ renumbered begun r = record r { numbered = is_begun begun r.client.number r.time
 abbrev pub with_view : List BegunCall → WaitingData → WaitingData
 with_view begun w = record { requests = map (renumbered begun) w.requests; begun = begun }
 
--- those alone that have the property
+-- only those with the property
 abbrev pub keeping : (WaitingRequest → Bool) → WaitingData → WaitingData
 keeping p w = record w { requests = filter p w.requests }
 
@@ -101,7 +101,7 @@ keeping p w = record w { requests = filter p w.requests }
 abbrev pub without : ℕ → WaitingData → WaitingData
 without client w = keeping (λ r. not (is_of client r)) w
 
--- without what ran, or is older than what ran
+-- without those that ran, or are older
 abbrev pub forgotten : State → WaitingData → WaitingData
 forgotten st w = keeping (is_new st) w
 

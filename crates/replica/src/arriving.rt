@@ -1,4 +1,4 @@
-//! What a request that comes is to the desk.
+//! How the desk classifies a request that arrives.
 
 ghost use Rattle.wire.specs.Spelling.{IsCarried, is_ordered_request};
 ghost use Rattle.replica.specs.Arriving.{IsArrival};
@@ -7,19 +7,19 @@ use crate::desk::Desk;
 use terms::{ClientId, Timestamp};
 use wire::body_bytes;
 
-/// What a request is to a desk that has no reply to it.
+/// How a request stands to a desk that has no reply to it.
 #[derive(Clone, Copy, Drop)]
 pub(crate) enum Arrival {
-    /// Its client ran it, or a later one, or a later one waits, or another one of its timestamp.
+    /// The client executed it or a later one, or a later one waits, or another one of the same timestamp waits.
     Past,
     /// It waits already.
     Waiting,
-    /// It is newer than what its client ran, and than what waits.
+    /// It is newer than the client's last executed request and than its waiting one.
     New,
 }
 
 impl Desk {
-    /// What the client's request in this frame is to the desk. Takes no memory.
+    /// Classifies the client's request in this frame. Takes no memory.
     pub(crate) fn arrival_of(&self, client: ClientId, timestamp: Timestamp, frame: &[u8]) -> Arrival
         requires { IsCarried is_ordered_request frame.now }
         ensures { IsArrival self.now client timestamp frame.now result }

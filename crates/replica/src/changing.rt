@@ -23,8 +23,8 @@ use wire::CheckpointEntry;
 pub(crate) const VIEWS_END: u64 = 1 << 48;
 
 impl Joined {
-    /// Time went by: a part that is asked for is asked for again; and where a request waits or the replica is inactive,
-    /// it moves to the next view.
+    /// On a timeout the replica sends an open fetch again. If a request waits or the replica is inactive, it moves to
+    /// the next view.
     pub(crate) fn on_timeout(
         &mut self,
         alloc: Global,
@@ -46,7 +46,7 @@ impl Joined {
         self.begin_view(alloc, outputs)
     }
 
-    // The view that time going by moves the replica to, if any.
+    // The view to which a timeout moves the replica, if any.
     fn due_view(&self) -> Option<View>
         ensures above { IfSome result (λ view. IsNextView self.now.orderer view.0) }
         ensures due { IfSome result (λ view. IsDue self.now view.0) }
@@ -58,8 +58,8 @@ impl Joined {
         self.orderer.next_view()
     }
 
-    /// Moves to a later view, and says the view change for it; nothing, where the keys are spent or its frame would be
-    /// too long. Returns whether.
+    /// Moves to a later view and multicasts the view change for it. Does nothing if the keys are spent or the frame
+    /// would be too long. Returns whether it moved.
     pub(crate) fn change_view(
         &mut self,
         alloc: Global,
@@ -82,7 +82,7 @@ impl Joined {
 }
 
 impl Desk {
-    // What a view change lists of the kept states.
+    // The checkpoints that a view change lists: those of the kept states.
     fn entries(&self, alloc: Global) -> Result<Vec<CheckpointEntry>, NoMemory>
         ensures are { IfOk result (λ entries. checkpoint_entries_data entries ≡ entries_of self.now.snapshots) }
         ensures few { length (entries_of self.now.snapshots) ≤ 3 }
@@ -93,14 +93,14 @@ impl Desk {
 }
 
 impl Orderer {
-    /// The greater of the own view and the last that a view change was said for.
+    /// The greater of the current view and the last view that the replica sent a view change for.
     pub(crate) fn aimed_view(&self) -> View
         ensures { result.0 ≡ aimed_view self.now }
     {
         View(self.log.view().0.max(self.target.0))
     }
 
-    // The view above that, where there is one.
+    // The view after the aimed one, if there is one.
     fn next_view(&self) -> Option<View>
         ensures above { IfSome result (λ view. IsNextView self.now view.0) }
         ensures next { IfSome result (λ view. view.0 ≡ aimed_view self.now + 1) }
@@ -114,8 +114,8 @@ impl Orderer {
         }
     }
 
-    // Signs the view change for the view, with these checkpoints, at most three, ascending, and holds it beside those
-    // of the others. Its frame; none, where it can't be signed.
+    // Signs the view change for the view and stores it beside the others'. The checkpoints are at most three, in
+    // ascending order. Returns the frame, or None if it can't be signed.
     fn sign_change(
         &mut self,
         alloc: Global,
@@ -137,7 +137,7 @@ impl Orderer {
             sender: self.log.me(),
             change,
         };
-        // What would be refused isn't signed: so each key that is spent has signed a frame that is said.
+        // A view change that others would refuse isn't signed. So each spent key has signed a frame that was sent.
         if self.received.refusal(self.log.view(), &held).is_some() {
             return Ok(None);
         }
@@ -151,7 +151,7 @@ impl Orderer {
         Ok(Some(frame))
     }
 
-    // Leaves the view for a later one, in which the replica isn't active yet.
+    // Leaves the current view for a later one. The replica isn't active there yet.
     fn leave_for(&mut self, view: View)
         ensures { self.new ≡ record self.old { log = left self.old.log; target = view.0 } }
     {
@@ -159,7 +159,7 @@ impl Orderer {
         self.target = view;
     }
 
-    /// Says the own view change again.
+    /// Multicasts the replica's own view change again.
     pub(crate) fn say_change_again(
         &mut self,
         alloc: Global,

@@ -1,9 +1,9 @@
-//! Checkpoints: the own one behind each period, those that come, and what a quorum of them does.
+//! Checkpoints: the replica's own after each period, those of others, and what a quorum of them starts.
 
 ghost use Rattle.std.specs.Prelude.{◌≡◌, ◌^◌, ◌<◌, [], IfOk, OnOk};
 ghost use Rattle.wire.specs.Messages.{checkpoint};
 ghost use Rattle.wire.specs.Views.{checkpoint_entry_data};
-ghost use Rattle.replica.specs.Checkpoints.{Follows, IsDueKept, SaysDueCheckpoint, Settles};
+ghost use Rattle.replica.specs.Checkpoints.{StartsTransferIfBehind, IsDueKept, SaysDueCheckpoint, Settles};
 ghost use Rattle.replica.specs.Marking.{MovesMarks};
 ghost use Rattle.replica.specs.Entering.{TakesMessage};
 
@@ -16,8 +16,8 @@ use terms::{Number, ReplicaId};
 use wire::{Checkpoint, CheckpointEntry};
 
 impl Joined {
-    /// Takes a checkpoint of another replica. Where it completes a quorum, the own one among them, the marks move;
-    /// where the quorum is without the own one and ahead of the executed state, that state is fetched.
+    /// Takes a checkpoint of another replica. If it completes a quorum that has the replica's own, the marks move. If
+    /// the quorum lacks the replica's own and is ahead of the executed state, the replica fetches that state.
     pub(crate) fn on_checkpoint(
         &mut self,
         alloc: Global,
@@ -43,7 +43,7 @@ impl Joined {
         Ok(Touched::Nothing)
     }
 
-    /// Says the checkpoint of the executed state, where it is to have one, and is the newest that is kept then.
+    /// Multicasts the checkpoint of the executed state, if one is due. That state is then the newest kept one.
     pub(crate) fn say_due_checkpoint(
         &mut self,
         alloc: Global,
@@ -64,8 +64,8 @@ impl Joined {
         Ok(())
     }
 
-    // Moves the marks to a checkpoint that is stable. Returns whether it is. Only the one that was counted last can
-    // have become so.
+    // Moves the marks to this checkpoint if it is stable, and returns whether it is. Only the checkpoint that was
+    // counted last can have become stable.
     fn settle(&mut self, entry: &CheckpointEntry) -> bool
         requires { entry.now.number.0 < 2 ^ 48 }
         ensures settles { Settles (checkpoint_entry_data entry.now) self.old self.new result }
@@ -78,7 +78,7 @@ impl Joined {
         true
     }
 
-    /// Moves the low mark up to this number, and drops what is below it.
+    /// Moves the low mark up to this number, and drops the rows, claims and states below it.
     pub(crate) fn move_marks(&mut self, low: Number)
         requires { low.0 < 2 ^ 48 }
         ensures moves { MovesMarks low.0 self.old self.new }
@@ -88,15 +88,15 @@ impl Joined {
         self.desk.drop_below(self.orderer.log.low());
     }
 
-    // Fetches the state of a checkpoint that a quorum said and that is ahead of the executed state and of the one that
-    // is fetched.
+    // Starts a state transfer to a checkpoint that a quorum sent, if it is ahead of the executed state and of an open
+    // transfer.
     fn follow(
         &mut self,
         alloc: Global,
         entry: &CheckpointEntry,
         outputs: &mut Outputs,
     ) -> Result<(), Stop>
-        ensures ok { OnOk result (Follows (checkpoint_entry_data entry.now) self.old outputs.old.items self.new
+        ensures ok { OnOk result (StartsTransferIfBehind (checkpoint_entry_data entry.now) self.old outputs.old.items self.new
             outputs.new.items) }
         ensures endpoint { self.new.orderer.endpoint ≡ self.old.orderer.endpoint }
     {

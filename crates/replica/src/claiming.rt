@@ -1,4 +1,4 @@
-//! What the replica keeps for its own view changes: what it logged and what it prepared.
+//! What the replica keeps for the sets P and Q of its own view changes: the batches that it logged and prepared.
 
 ghost use Rattle.std.specs.Prelude.{◌≡◌, ◌<◌, true, OnOk};
 ghost use Rattle.std.specs.Arc.{arc_value};
@@ -13,7 +13,7 @@ use std::sync::Arc;
 use terms::Number;
 
 impl Orderer {
-    /// Logs a batch, and notes it for view changes to come.
+    /// Logs a batch, and notes it for later view changes.
     pub(crate) fn log_batch(&mut self, number: Number, batch: Arc<HashedBatch>) -> Result<(), Stop>
         requires within { is_in_marks self.old.log number.0 ≡ true }
         requires batch { IsBatch 0 (arc_value batch) }
@@ -31,7 +31,7 @@ impl Orderer {
         Ok(())
     }
 
-    /// Notes that what is logged for a number is prepared.
+    /// Notes that the logged batch of a number is prepared.
     pub(crate) fn note_prepared(&mut self, number: Number) -> Result<(), Stop>
         ensures ok { OnOk result (ClaimsLogged number.0 self.old self.new) }
         ensures endpoint { self.new.endpoint ≡ self.old.endpoint }

@@ -1,5 +1,5 @@
-//! The desk: the executed state, the states that are kept, the requests that wait, the transfer that is open, and the
-//! keys for replies.
+//! The desk: the executed state, the kept states, the waiting requests, the open state transfer, and the keys for
+//! replies.
 
 ghost use Rattle.std.specs.Prelude.{◌≡◌, ◌+◌, ◌*◌, ◌^◌, ◌<◌, ◌≤◌, false, length, IfOk, IsFalse, IsTrue, OnOk};
 ghost use Rattle.protocol.specs.System.Configuration.{IsConfiguration};
@@ -24,12 +24,12 @@ use terms::{ClientId, Mode, NoMemory, Number, Party, ReplicaId, Timestamp};
 use tuple_codec::Answer;
 use wire::Reply;
 
-/// What is executed, what is kept of it, and what waits for it.
+/// The executed state, what is kept of earlier ones, and what waits for execution.
 #[derive(Drop)]
 pub(crate) struct Desk {
     pub(crate) me: ReplicaId,
     pub(crate) ring: Ring,
-    // So many batches lie from one checkpoint to the next, 1 to 16.
+    // The number of batches from one checkpoint to the next, 1 to 16.
     pub(crate) period: u8,
     pub(crate) executed: Executed,
     pub(crate) snapshots: Snapshots,
@@ -74,14 +74,14 @@ impl Desk {
         })
     }
 
-    // Tells a proof what each desk keeps.
+    // Tells a proof the invariant of a desk.
     pub(crate) fn keeps(&self)
         ensures { IsDesk self.now }
     {
         let _period = self.period;
     }
 
-    /// Executes the batch of this text, which is the next one, and answers each of its requests that ran.
+    /// Executes the next batch, which has this text, and replies to each of its requests that ran.
     pub(crate) fn execute(
         &mut self,
         alloc: Global,
@@ -98,8 +98,8 @@ impl Desk {
         self.reply_to_all(alloc, ran, outputs)
     }
 
-    // Executes the batch, keeps the state that it leaves where that is to have a checkpoint, forgets the requests that
-    // ran, and closes a transfer of a state that is reached.
+    // Executes the batch and keeps the new state if it is to have a checkpoint. Forgets the requests that ran, and
+    // closes a transfer that the execution reached.
     fn run(&mut self, alloc: Global, text: &[u8], outputs: &mut Outputs) -> Result<Vec<Ran>, Stop>
         requires { self.old.executed.state.number + 1 < 2 ^ 48 }
         ensures ok { IfOk result (λ ran. RunsBatch self.old text.now outputs.old.items
@@ -109,7 +109,7 @@ impl Desk {
         ensures period { self.new.period ≡ self.old.period }
     {
         self.snapshots.are_few();
-        // Tells a proof that the state has a place for the reply to each client, so no request runs twice.
+        // Tells a proof that the state has a place for the reply to each client. So no request runs twice.
         self.executed.is_state();
         let _clients = self.executed.clients();
         let ran = self.executed.execute(text)?;
@@ -121,7 +121,7 @@ impl Desk {
         Ok(ran)
     }
 
-    // Answers requests that ran.
+    // Replies to the requests that ran.
     #[tactic(auto, using(crate::proofs::Desking::pays_start, crate::proofs::Desking::pays_end))]
     fn reply_to_all(
         &mut self,
@@ -151,7 +151,7 @@ impl Desk {
         Ok(())
     }
 
-    /// Makes a newer request of the client wait in this frame, in place of the one that waits.
+    /// Makes a newer request of the client wait in this frame, instead of the one that waits.
     pub(crate) fn wait(
         &mut self,
         alloc: Global,
@@ -171,14 +171,14 @@ impl Desk {
         Ok(())
     }
 
-    /// How many requests that wait have no number yet.
+    /// The number of waiting requests that have no sequence number yet.
     pub(crate) fn count_unnumbered(&self) -> usize
         ensures { result ≡ count_unnumbered self.now.waiting }
     {
         self.waiting.count_unnumbered()
     }
 
-    /// Whether a request that waits has no number yet.
+    /// Whether a waiting request has no sequence number yet.
     pub(crate) fn has_unnumbered(&self) -> bool
         ensures some { IsTrue result → 1 ≤ length (unnumbered self.now.waiting) }
         ensures none { IsFalse result → count_unnumbered self.now.waiting ≡ 0 }
@@ -186,7 +186,7 @@ impl Desk {
         self.waiting.has_unnumbered()
     }
 
-    /// Copies of the frames of up to 16 requests that have no number yet, the oldest first.
+    /// Copies the frames of up to 16 waiting requests without a sequence number, the oldest first.
     pub(crate) fn unnumbered_frames(&self, alloc: Global) -> Result<Vec<Vec<u8>>, Stop>
         ensures value { IfOk result (λ frames. texts_of frames.items ≡ texts (unnumbered self.now.waiting)) }
         ensures each { Each (IsCarried is_ordered_request) (texts (unnumbered self.now.waiting)) }
@@ -195,14 +195,14 @@ impl Desk {
         self.waiting.unnumbered_frames(alloc)
     }
 
-    /// So many more requests have a number.
+    /// Notes that the next `count` waiting requests have a sequence number.
     pub(crate) fn note_numbered(&mut self, count: usize)
         ensures { self.new ≡ record self.old { waiting = with_numbered count self.old.waiting } }
     {
         self.waiting.note_numbered(count);
     }
 
-    /// Answers a request that ran as the client's last once more, if it has this timestamp. Returns whether.
+    /// Sends the kept reply to the client's last request again, if it has this timestamp. Returns whether.
     pub(crate) fn reply_again(
         &mut self,
         alloc: Global,
@@ -232,7 +232,7 @@ impl Desk {
         Ok(true)
     }
 
-    /// Gives a reply to its client.
+    /// Sends a reply to its client.
     pub(crate) fn reply(
         &mut self,
         alloc: Global,

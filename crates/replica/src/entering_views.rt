@@ -1,4 +1,4 @@
-//! What begins with a new view.
+//! How the replica enters a new view.
 
 ghost use Rattle.std.specs.Prelude.{◌≡◌, ◌+◌, ◌^◌, ◌<◌, ◌≤◌, suc, length, map, option_map, OnOk};
 ghost use Rattle.wire.specs.Lists.{Each};
@@ -23,8 +23,8 @@ use view_change::Selection;
 use wire::{CheckpointEntry, requests};
 
 impl Joined {
-    /// Enters the view, which begins with this selection, by an own new view in this frame or by another's; and says
-    /// what that asks for.
+    /// Enters the view, which begins with this selection. `own` has the frame if the replica made the new view itself.
+    /// Then multicasts the votes that the log asks for.
     pub(crate) fn enter(
         &mut self,
         alloc: Global,
@@ -55,7 +55,7 @@ impl Joined {
             .say_all_votes(alloc, start.number, last, outputs)
     }
 
-    // Fetches the state of the start, where it is ahead of the executed one and of the one that is fetched.
+    // Fetches the state at the start, if it is ahead of the executed state and of an open transfer.
     fn fetch_start(
         &mut self,
         alloc: Global,
@@ -74,7 +74,7 @@ impl Joined {
 }
 
 impl Orderer {
-    // Enters the view, in which the numbers up to the last have their batches.
+    // Enters the view. The new view has assigned batches to the numbers up to `last`.
     fn enter(&mut self, view: View, last: Number, own: Option<Vec<u8>>)
         ensures { self.new ≡ entering view.0 last.0 (option_map (λ frame. frame.items) own) self.old }
     {
@@ -85,7 +85,7 @@ impl Orderer {
         self.new_view = own;
     }
 
-    // Logs the batches behind the start that are within the marks.
+    // Logs the batches after the start that are within the marks.
     fn log_begun(&mut self, start: Number, batches: Vec<Arc<HashedBatch>>) -> Result<(), Stop>
         requires fits { start.0 + length batches.items < 2 ^ 64 }
         requires begun { start.0 + length batches.items ≤ self.old.begun }
@@ -104,7 +104,7 @@ impl Orderer {
         Ok(())
     }
 
-    // Says what the log asks for of the numbers behind the start, up to the last.
+    // Multicasts the votes that the log asks for, for the numbers after the start, up to the last.
     fn say_all_votes(
         &mut self,
         alloc: Global,
@@ -125,7 +125,7 @@ impl Orderer {
 }
 
 impl Desk {
-    // The calls in these batches have a number in the view that begins, and no others.
+    // Notes that the calls in these batches, and no others, have a number in the new view.
     fn note_begun(&mut self, alloc: Global, batches: &[Arc<HashedBatch>]) -> Result<(), Stop>
         ensures ok { OnOk result (NotesBegun (texts_of batches.now) self.old self.new) }
         ensures me { self.new.me ≡ self.old.me }
@@ -140,7 +140,7 @@ impl Desk {
         Ok(())
     }
 
-    // Puts the calls of this batch behind the others.
+    // Appends the calls of this batch.
     fn add_calls(&self, alloc: Global, text: &[u8], calls: &mut Vec<BegunCall>) -> Result<(), Stop>
         ensures { OnOk result
             (AddsCalls self.now.executed.clients (requests_of text.now) calls.old.items calls.new.items) }
@@ -155,7 +155,7 @@ impl Desk {
     }
 }
 
-// The call without its operation, which is dropped here alone.
+// The call without its operation. The operation is dropped here alone.
 fn begun_call(call: Call) -> BegunCall
     ensures { result ≡ record { client = call.client; timestamp = call.timestamp } }
 {

@@ -1,4 +1,4 @@
-//! What is committed is executed.
+//! Execution of committed batches.
 
 ghost use Rattle.std.specs.Prelude.{◌≡◌, IfOk, OnOk};
 ghost use Rattle.replica.specs.Going.{ExecutesAll, ExecutesTurn, GoesOnWith};
@@ -10,7 +10,7 @@ use std::sync::Arc;
 use terms::Number;
 
 impl Joined {
-    /// Says what the log asks for of a number, and executes all that is committed then.
+    /// Multicasts the votes that the log asks for, for one number, and executes all that is committed then.
     pub(crate) fn go_on(
         &mut self,
         alloc: Global,
@@ -25,8 +25,8 @@ impl Joined {
         self.execute_committed(alloc, outputs)
     }
 
-    /// Executes batches as long as the next one is committed. There are no more of them than numbers within the marks
-    /// when it begins: where marks move meanwhile, nothing is committed of the numbers that come into them.
+    /// Executes batches as long as the next one is committed. The numbers within the marks at the beginning bound the
+    /// turns: if the marks move meanwhile, no batch is committed for the numbers that come into them.
     pub(crate) fn execute_committed(
         &mut self,
         alloc: Global,
@@ -44,8 +44,8 @@ impl Joined {
         Ok(())
     }
 
-    // Executes the next batch, if it is committed, answers its requests and says the checkpoint that is due then.
-    // Returns whether it is committed.
+    // Executes the next batch if it is committed, replies to its requests and multicasts the checkpoint that is due.
+    // Returns whether the batch is committed.
     fn execute_next(&mut self, alloc: Global, outputs: &mut Outputs) -> Result<bool, Stop>
         ensures ok { IfOk result
             (ExecutesTurn self.old outputs.old.items self.new outputs.new.items) }

@@ -1,4 +1,4 @@
-//! The desk's part in transfers of states: it gives parts of those that it keeps, and fetches one that is ahead.
+//! The desk's part in state transfer: it serves parts of the kept states, and fetches a state that is ahead.
 
 ghost use Rattle.std.specs.Prelude.{◌≡◌, ◌≤◌, false, IfOk, IfSome, OnOk, option_map};
 ghost use Rattle.wire.specs.Views.{checkpoint_entry_data, message_data};
@@ -19,7 +19,7 @@ use terms::{Level, NoMemory, Number, Party, ReplicaId};
 use wire::{CheckpointEntry, Fetch, Message, Meta, Page};
 
 impl Desk {
-    /// Gives the part that a replica asks for to that replica alone, if the state is kept.
+    /// Sends the requested part to the asking replica alone, if the state is kept.
     pub(crate) fn give_part(
         &mut self,
         alloc: Global,
@@ -43,7 +43,7 @@ impl Desk {
         }
     }
 
-    // The part that is asked for, if the state is kept: the digests below a place, or the text of a page.
+    // The requested part, if the state is kept: the digests below a place, or the text of a page.
     fn part_message(&self, alloc: Global, fetch: &Fetch) -> Result<Option<Message>, NoMemory>
         requires { fetch.now.index ≤ last_index fetch.now.level }
         ensures part { IfOk result (HasPart self.now fetch.now) }
@@ -73,7 +73,7 @@ impl Desk {
         }
     }
 
-    // The number above which the state of a checkpoint is fetched: that of the one that is, or else the executed one.
+    // A checkpoint's state is fetched only above this number: the fetched state's, or else the executed one's.
     fn aimed_at(&self) -> Number
         ensures { result.0 ≡ aimed_at self.now }
     {
@@ -83,8 +83,8 @@ impl Desk {
         }
     }
 
-    /// Opens a transfer of this checkpoint's state, or moves the open one to it, if it is above what is executed and
-    /// fetched. Returns whether. NoMemory where memory runs out.
+    /// Opens a transfer to this checkpoint's state, or moves the open one to it, if it is above the executed state and
+    /// the fetched one. Returns whether. NoMemory if memory runs out.
     pub(crate) fn aim(&mut self, alloc: Global, entry: &CheckpointEntry) -> Result<bool, NoMemory>
         ensures ok { IfOk result (AimsAt (checkpoint_entry_data entry.now) self.old self.new) }
         ensures me { self.new.me ≡ self.old.me }
@@ -104,7 +104,7 @@ impl Desk {
         Ok(true)
     }
 
-    /// What is asked for, if a transfer is open: the number of the state, and the place.
+    /// What the open transfer asks for, if there is one: the number of the state, and the place.
     pub(crate) fn asked(&self) -> Option<(Number, Place)>
         ensures value { IsAskedFor self.now result }
         ensures range { IfSome result (λ asked. IsPlace asked.1) }
@@ -113,7 +113,7 @@ impl Desk {
         Some((open.entry().number, open.asked()))
     }
 
-    /// Takes the digests below a place, if they are asked for. Returns whether. Takes no memory.
+    /// Takes the digests below a place if the transfer awaits them. Returns whether. Takes no memory.
     pub(crate) fn take_digests(&mut self, meta: &Meta) -> bool
         requires { MayBeSaid meta.now }
         ensures { TakesDigests self.old meta.now self.new result }
@@ -124,7 +124,7 @@ impl Desk {
         }
     }
 
-    /// Takes a page, if it is asked for, and returns what it replaced. NoMemory where memory runs out.
+    /// Takes a page if the transfer awaits it, and returns what it replaced. NoMemory if memory runs out.
     pub(crate) fn take_page(&mut self, page: &Page) -> Result<Option<Taken>, NoMemory>
         ensures ok { IfOk result (TakesPage self.old page.now self.new) }
         ensures me { self.new.me ≡ self.old.me }
@@ -137,7 +137,7 @@ impl Desk {
         }
     }
 
-    /// Whether a part is still to be fetched, which is asked for then. NoMemory where memory runs out.
+    /// Whether a part is still to be fetched. The transfer asks for that part then. NoMemory if memory runs out.
     pub(crate) fn has_next_part(&mut self) -> Result<bool, NoMemory>
         ensures ok { IfOk result (AsksPart self.old self.new) }
         ensures me { self.new.me ≡ self.old.me }
@@ -153,9 +153,9 @@ impl Desk {
         Ok(true)
     }
 
-    /// Puts the state that was fetched in the place of the executed one, keeps it alone, as a checkpoint, and closes
-    /// the transfer; nothing, if what was fetched is no state of that number, or one that is behind in some client's
-    /// timestamp. Tells which state it is. NoMemory where memory runs out.
+    /// Installs the fetched state in place of the executed one, keeps it alone, as a checkpoint, and closes the
+    /// transfer. Returns its checkpoint. None if the fetched pages are no state of that number, or if some client's
+    /// timestamp would fall. NoMemory if memory runs out.
     pub(crate) fn install(&mut self) -> Result<Option<CheckpointEntry>, NoMemory>
         ensures ok { IfOk result (λ entry. Installs self.old self.new (option_map checkpoint_entry_data entry)) }
         ensures me { self.new.me ≡ self.old.me }
@@ -176,7 +176,7 @@ impl Desk {
         Ok(Some(entry))
     }
 
-    /// Forgets the page that was taken last, as if it hadn't come. Takes no memory.
+    /// Forgets the page that was taken last, as if it had not arrived. Takes no memory.
     pub(crate) fn give_back(&mut self, taken: Taken)
         ensures { GivesBack self.old taken self.new }
     {

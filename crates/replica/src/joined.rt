@@ -1,4 +1,4 @@
-//! Both parts of a replica, as they are within an event.
+//! Both parts of a replica, joined within an event.
 
 ghost use Rattle.std.specs.Prelude.{◌≡◌, [], IfOk, OnOk};
 ghost use Rattle.replica.specs.State.{AreOne};
@@ -15,7 +15,7 @@ use events::{Outputs, Stop};
 use std::alloc::Global;
 use std::marker::Model;
 
-/// What orders and what is executed share nothing but the steps that they make together.
+/// The orderer and the desk share nothing but the steps that they make together.
 #[derive(Drop)]
 pub(crate) struct Joined {
     pub(crate) orderer: Orderer,
@@ -46,8 +46,8 @@ impl Joined {
         let _period = self.desk.period;
     }
 
-    // What is given for an event: first what the message itself asks for, then what the log asks for, and last the
-    // numbers that are free for waiting requests.
+    // The outputs of an event: first those that the message itself asks for, then those that the log asks for. Last the
+    // primary assigns the free numbers to waiting requests.
     pub(crate) fn react(&mut self, alloc: Global, event: Event<'_>) -> Result<Outputs, Stop>
         ensures leads { IfOk result (λ outs. EventLeads self.old event.entry outs.items self.new) }
         ensures endpoint { self.new.orderer.endpoint ≡ self.old.orderer.endpoint }
@@ -59,7 +59,7 @@ impl Joined {
         Ok(outputs)
     }
 
-    // What the event itself asks for. Returns what it touched.
+    // Emits what the event itself asks for. Returns what it touched.
     fn begin(
         &mut self,
         alloc: Global,
@@ -77,7 +77,7 @@ impl Joined {
         }
     }
 
-    // What is asked for next, once an event touched this.
+    // Emits what follows, by what the event touched.
     fn follow_up(
         &mut self,
         alloc: Global,
@@ -98,7 +98,7 @@ impl Joined {
         }
     }
 
-    // Executes what is committed, and then gives numbers to what waits.
+    // Executes committed batches, and then assigns numbers to waiting requests.
     fn execute_and_number(&mut self, alloc: Global, outputs: &mut Outputs) -> Result<(), Stop>
         ensures ok { OnOk result
             (ExecutesAndNumbers self.old outputs.old.items self.new outputs.new.items) }

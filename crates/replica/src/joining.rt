@@ -1,4 +1,4 @@
-//! View changes that come.
+//! View changes of other replicas.
 
 ghost use Rattle.std.specs.Prelude.{◌≡◌, ◌<◌, [], Some, IfNone, IfOk, IfSome};
 ghost use Rattle.wire.specs.Messages.{view_change};
@@ -22,9 +22,8 @@ use view_change::{Change, ChangeFault, refusals_decide, sizes_decide};
 use wire::ViewChange;
 
 impl Joined {
-    /// Takes a view change that came in this frame. Where those of f + 1 others are for views above the own target, the
-    /// replica moves to the least of them; and where it is the primary of the view that it moves to, it begins the view
-    /// as soon as it can.
+    /// Takes a view change that arrived in this frame. If those of f + 1 others are for views above the replica's
+    /// target, it moves to the least of them. If it is the primary of that view, it begins the view as soon as it can.
     pub(crate) fn on_view_change(
         &mut self,
         alloc: Global,
@@ -54,7 +53,7 @@ impl Joined {
         self.begin_view(alloc, outputs)
     }
 
-    // Tells a proof by what view changes are judged.
+    // Tells a proof by which keys and sizes view changes are judged.
     pub(crate) fn judges_changes(&self)
         ensures alike { JudgesAlike self.now.orderer }
         ensures changes { ChangesAreJudged }
@@ -64,7 +63,7 @@ impl Joined {
 }
 
 impl Orderer {
-    // Tells a proof by what view changes are judged.
+    // Tells a proof by which keys and sizes view changes are judged.
     pub(crate) fn judges(&self)
         ensures alike { JudgesAlike self.now }
         ensures changes { ChangesAreJudged }
@@ -74,7 +73,7 @@ impl Orderer {
         refusals_decide();
     }
 
-    /// Takes a view change that was heard in this frame, or signed, unless there is a fault in it. Returns whether.
+    /// Takes a view change that was received or signed in this frame, if it has no fault. Returns whether.
     pub(crate) fn receive(
         &mut self,
         alloc: Global,
@@ -94,7 +93,7 @@ impl Orderer {
         }
     }
 
-    // The view that f + 1 others move the replica to, if they are that many.
+    // The view to which f + 1 others move the replica, if there are that many.
     fn joined_view(&self) -> Option<View>
         ensures above { IfSome result (λ view. IsNextView self.now view.0) }
         ensures joined { IfSome result (λ view. IsJoinedBy self.now view.0) }

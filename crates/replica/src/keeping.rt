@@ -14,8 +14,8 @@ use terms::{NoMemory, Number};
 use wire::CheckpointEntry;
 
 impl Desk {
-    /// Keeps the executed state, which is above all that are kept, where it is to have a checkpoint. NoMemory where
-    /// memory runs out.
+    /// Keeps the executed state if it is to have a checkpoint. It is above all kept states. NoMemory if memory runs
+    /// out.
     pub(crate) fn keep_due(&mut self) -> Result<(), NoMemory>
         requires newer { Each (λ x. x.number < self.old.executed.state.number) self.old.snapshots }
         ensures ok { OnOk result (self.new ≡ keeping_due self.old) }
@@ -28,8 +28,8 @@ impl Desk {
         self.keep_state()
     }
 
-    /// Keeps the executed state. Only pages that requests may have changed since the last checkpoint are written and
-    /// hashed. NoMemory where memory runs out.
+    /// Keeps the executed state. Only the pages that requests may have changed since the last checkpoint are written
+    /// and hashed. NoMemory if memory runs out.
     pub(crate) fn keep_state(&mut self) -> Result<(), NoMemory>
         requires may { MayKeep self.old }
         ensures ok { OnOk result (self.new ≡ keeping_state self.old) }
@@ -47,7 +47,7 @@ impl Desk {
         self.executed.number().0 % u64::from(self.period) == 0
     }
 
-    /// The checkpoint of the executed state, where it is to have one. It is of the newest state that is kept.
+    /// The checkpoint of the executed state, if it is to have one. That state is then the newest kept one.
     pub(crate) fn due_checkpoint(&self) -> Option<CheckpointEntry>
         ensures { option_map checkpoint_entry_data result ≡ due_entry self.now }
     {
@@ -65,7 +65,7 @@ impl Desk {
     }
 }
 
-/// The pages of the executed state. NoMemory where memory runs out.
+/// The pages of the executed state. NoMemory if memory runs out.
 pub(crate) fn pages_of(executed: &mut Executed) -> Result<Snapshot, NoMemory>
     ensures pages { IfOk result (λ pages. pages ≡ pages_of executed.old.state) }
     ensures short { IfOk result (λ pages. HaveShortPages pages) }

@@ -1,53 +1,99 @@
 //! A replica of the replicated space, over frames (Castro and Liskov, Practical Byzantine fault tolerance and proactive
-//! recovery, TOCS 2002, on normal-case operation and view changes). It numbers requests as the primary, or takes the
-//! primary's batches, goes through the three phases, executes what is committed and answers clients.
+//! recovery, TOCS 2002, on normal-case operation and view changes). As the primary it assigns numbers to requests; as a
+//! backup it takes the primary's batches. It goes through the three phases, executes committed batches and replies to
+//! clients.
 //!
-//! Behind each period it keeps its state and says its root in a checkpoint; where a quorum says the same, the marks
-//! move up to it. Where the quorum is ahead of it, it fetches that state part by part and installs it.
+//! After each period it keeps its state and multicasts a checkpoint with the root. If a quorum sent the same
+//! checkpoint, the marks move up to it. If the quorum is ahead, the replica fetches that state part by part and
+//! installs it.
 //!
-//! Where time goes by while a request waits, it signs a view change for the next view and is inactive until a new view
-//! comes; it joins f + 1 others that move to a later one. As the primary of the view that it moves to it makes the new
-//! view, as soon as the view changes that it has allow it.
+//! On a timeout while a request waits, it signs a view change for the next view and is inactive until a new view comes.
+//! It joins f + 1 others that move to a later view. As the primary of the view that it moves to, it makes the new view
+//! as soon as the stored view changes allow it.
 //!
-//! Reads it answers at once from what it has executed, beside the order; their templates lie in an arena that lasts as
+//! It answers reads at once from the executed state, beside the order. Their templates lie in an arena that lasts as
 //! long as the event.
 //!
-//! [`Replica::split`] takes it apart for two threads: the [`Orderer`] numbers, votes and executes, and the [`Desk`],
-//! with the state, the keys and the waiting requests, answers reads by itself. A step of the whole is one of its
+//! [`Replica::split`] takes a replica apart for two threads. The [`Orderer`] numbers, votes and executes. The [`Desk`]
+//! has the state, the keys and the waiting requests, and answers reads by itself. A step of the whole is a step of its
 //! orderer on its own desk.
 //!
 //! # What it keeps
 //!
-//! What strangers can make it keep is bounded: the latest request of each client; for each number within the marks, 32
-//! at the most, one batch and a prepare and a commit of each replica; of each replica the three checkpoints of the
-//! largest numbers; the states at its own checkpoints from the low mark on, three at the most; and one transfer, by the
-//! pages of one state and 33 times 1,024 bytes of digests. States share the pages that are the same in them. Of view
-//! changes it keeps of each replica the latest, with its frame; its own claims, which few views can make many
-//! (`view_change::Claims`); the frame of its own new view; the calls of the new view with which its view began, 512 at
-//! the most; and for each number within the marks the batch that was committed in an earlier view.
+//! What strangers can make it keep is bounded: the latest request of each client; for each number within the marks, at
+//! most 32, one batch and a prepare and a commit of each replica; of each replica the three checkpoints of the largest
+//! numbers; the states at its own checkpoints from the low mark on, at most three; and one transfer, by the pages of
+//! one state and 33 times 1,024 bytes of digests. States share equal pages.
+//!
+//! For view changes it keeps the latest view change of each replica, with its frame; its own claims, which few views
+//! can make many (`view_change::Claims`); the frame of its own new view; at most 512 calls of the new view with which
+//! its view began; and for each number within the marks the batch that was committed in an earlier view.
 //!
 //! # What it costs
 //!
-//! A step costs what its event asks for: a vote goes over the votes of one number, and a checkpoint over three of each
-//! replica. An execution hashes nothing of the state; a checkpoint writes and hashes those pages alone that requests
-//! may have changed since the last one. A part of a kept state is given without a hash. A part that comes is hashed,
-//! with the digests above it, and compared with 64 digests at the most; where requests were executed since the last
-//! part came, the pages that they may have changed, and those that were fetched, are hashed once more.
+//! The event bounds the cost of a step: a vote goes over the votes of one number, and a checkpoint over three of each
+//! replica. An execution hashes nothing of the state. A checkpoint writes and hashes only the pages that requests may
+//! have changed since the last one.
+//!
+//! Serving a part of a kept state needs no hash. The replica hashes a part that arrives, with the digests above it, and
+//! compares it with at most 64 digests. If requests were executed since the last part arrived, it hashes the pages that
+//! they may have changed, and the fetched ones, once more.
 //!
 //! # What is proved
 //!
-//! Whatever history fits a replica, the longer one behind an event fits it afterwards: [`Replica::new`] fits the empty
-//! history, and [`Replica::step`] hands it on by what it gives, also where it stops. A history that fits is that of a
-//! correct replica (`IsReplica`): safe, with all that is owed of it (`Owes`), in each view. Owed are numbers, prepares,
-//! commits, executions, replies, checkpoints, view changes, states that are fetched part by part until they are
-//! installed, parts that are asked for, and answers of reads; to a request that comes again its kept reply, or, while
-//! it waits, what the replica sent and others may lack; and nothing for what is dropped. As time goes by the open fetch
-//! may be sent again, and a primary may send its new view: neither is owed, and only tests tell that they are sent.
+//! If a history fits a replica before an event, the history with the event's entries fits it afterwards.
+//! [`Replica::new`] fits the empty history, and [`Replica::step`] extends the history by its outputs, also if it stops.
+//! A history that fits is that of a correct replica (`IsReplica`): safe, with all that the replica owes (`Owes`), in
+//! each view.
 //!
-//! Where memory runs out the replica has stopped: it gives nothing, then and later. The parts hand on the same
-//! histories, steps and reads in any order: the desk fits the whole of one, the orderer fits it without what stands
-//! beside ordering. An orderer and a desk of another replica give nothing together, and neither changes. Each frame
-//! that a step or a read sends goes exactly to the parties for whom it is.
+//! A replica owes numbers, prepares, commits, executions, replies, checkpoints, view changes, new views, and answers to
+//! reads and fetches. It owes the fetches of a state part by part until it is installed, and on a timeout the open
+//! fetch again. To a request that comes again it owes the kept reply, or, while the request waits, what the replica
+//! sent and others may lack. It owes nothing for what it drops.
+//!
+//! If memory runs out, the replica has stopped: it emits nothing, then and later. The parts extend the same histories,
+//! steps and reads in any order: the desk fits the whole history, the orderer fits it without what stands beside
+//! ordering. An orderer and a desk of another replica emit nothing together, and neither changes. Each frame that a
+//! step or a read sends goes exactly to the parties for whom it is.
+//!
+//! # How some events go on
+//!
+//! `docs/architecture.md` has the way of an event. These points are beside it:
+//!
+//! - **A request that comes again** (`say_all_again`). An active replica sends its own new view again. Then it sends
+//!   its batch, prepare and commit of each number above the executed one, and last its latest checkpoint. An inactive
+//!   one sends its view change. By contract all of it is among the outputs (`PostsAll`, `PostsChange` in
+//!   `specs/Saying.antt`), as `Owes.says_again` asks.
+//! - **A part that completes a state** (`install`, `Touched::State`). The marks move, and committed batches are
+//!   executed. A page that completes no state is given back.
+//! - **A tick** (`on_timeout`, `change_view`). The replica sends the open fetch again, as `Owes.fetches_again` asks. A
+//!   replica that moves to the next view signs a view change by its claims and kept states, leaves its view, and sends
+//!   it.
+//! - **A view change** (`receive`, `begin_view`). The primary signs and sends what `select` gives over the view changes
+//!   that it holds. If nothing is selected there, it owes none (`Owes.new_views`): `select` gives what meets the rules
+//!   over any part of them.
+//! - **A new view** (`enter`, `Touched::View`), the own one or another's. Calls in it count as numbered. The log enters
+//!   the view, the marks move up to the start, and the batches are logged and claimed. If the start is ahead, its state
+//!   is fetched (`Owes.fetches_start`). Then votes are sent, and committed batches are executed.
+//!
+//! # How it is made
+//!
+//! - An orderer has, beside endpoint and log, the number used last and the checkpoint sent last. For view changes it
+//!   has the target, the claims, the view changes that came, and its own new view.
+//! - The contracts are relations that any history passes through. If a history fitted the outputs before the call, it
+//!   fits those after it: `GoesOn` of the orderer, `Proceeds` of both parts. So two calls compose, and a loop's
+//!   invariant is its contract.
+//! - Within an event `Stands` ties both parts, with the messages that are still due, to that history. Between events
+//!   `Fits` ties a replica to a history, and `Leads` hands every such history on.
+//! - Each part is tied by itself (`FitsDesk`, `FitsOrderer` in `specs/Parted.antt`). The desk fits the whole history,
+//!   the orderer the history without read-only requests and their replies. So a desk that answers a read on its own
+//!   (`Desk::read`) needs no orderer.
+//! - By the law `parts_are_whole` the parts hold exactly what the joined replica holds. It rests on `reads_are_idle`:
+//!   entries beside the order bring nothing that a certificate counts, which two bytes of their frames tell
+//!   (`marks_tell_reads`).
+//! - Three facts settle the end of an event. Nothing is left to send or to execute (`Rests`). The waiting requests that
+//!   count as numbered are those to which the history gave a number (`FitsWaiting`). No free number has a request that
+//!   waits for it (`IsAllNumbered`).
 #![tactic(auto)]
 
 mod arriving;

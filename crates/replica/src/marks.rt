@@ -1,4 +1,4 @@
-//! What the orderer knows of checkpoints, and its marks.
+//! The orderer's checkpoints and its marks.
 
 ghost use Rattle.std.specs.Prelude.{◌≡◌, ℕ, ◌*◌, ◌+◌, ◌^◌, ◌<◌, Some, OnOk, nat_le, option_map, true};
 ghost use Rattle.wire.specs.Messages.{checkpoint};
@@ -16,8 +16,7 @@ use terms::{Number, ReplicaId};
 use wire::{Checkpoint, CheckpointEntry};
 
 impl Orderer {
-    /// Takes a replica's checkpoint, unless there is a fault in it or it is none of its sender's three latest. Returns
-    /// whether.
+    /// Takes a replica's checkpoint, if it has no fault and is one of its sender's three latest. Returns whether.
     pub(crate) fn take_checkpoint(&mut self, sender: ReplicaId, checkpoint: &Checkpoint) -> bool
         ensures takes { TakesCheckpoint self.old sender checkpoint.now self.new result }
         ensures endpoint { self.new.endpoint ≡ self.old.endpoint }
@@ -29,7 +28,7 @@ impl Orderer {
         self.log.has_checkpoint(sender, &entry_in(checkpoint))
     }
 
-    /// Says the own checkpoint to all other replicas, and counts it.
+    /// Multicasts the replica's own checkpoint, and counts it.
     pub(crate) fn say_checkpoint(
         &mut self,
         alloc: Global,
@@ -50,7 +49,7 @@ impl Orderer {
         Ok(())
     }
 
-    /// Says the own latest checkpoint again, if there was one, at or below the low mark too.
+    /// Multicasts the replica's latest checkpoint again, if there was one, also at or below the low mark.
     pub(crate) fn say_checkpoint_again(
         &mut self,
         alloc: Global,
@@ -80,7 +79,7 @@ impl Orderer {
         self.say(alloc, message, outputs)
     }
 
-    /// Whether a quorum of replicas said this checkpoint.
+    /// Whether a quorum of replicas sent this checkpoint.
     pub(crate) fn has_quorum(&self, entry: &CheckpointEntry) -> bool
         ensures { result ≡ nat_le (2 * self.now.log.faults + 1)
             (count_checkpoints self.now.log (checkpoint_entry_data entry.now)) }

@@ -1,4 +1,4 @@
-//! Whose part a part of a replica is.
+//! To which replica a part belongs.
 
 ghost use Rattle.std.specs.Prelude.{◌≡◌, ◌↔◌, IsTrue};
 ghost use Rattle.protocol.specs.System.Configuration.{members};
@@ -7,7 +7,7 @@ ghost use Rattle.replica.specs.MemberView.{member_data};
 use events::Config;
 use terms::ReplicaId;
 
-/// A replica, and among whom it is one.
+/// A replica, and the members of its system.
 #[derive(Clone, Copy, Drop)]
 pub(crate) struct Member {
     me: ReplicaId,

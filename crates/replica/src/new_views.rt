@@ -1,4 +1,4 @@
-//! New views: the own ones, and those of others.
+//! New views: the replica's own, and those of others.
 
 ghost use Rattle.std.specs.Prelude.{◌≡◌, ◌↔◌, [], None, true, IfNone, IfOk, IfSome, IsTrue, OnOk};
 ghost use Rattle.wire.specs.Lists.{Each};
@@ -28,7 +28,7 @@ use view_change::{
 use wire::NewView;
 
 impl Joined {
-    /// Begins the view that the replica moves to, if it is its primary and the view changes that it has allow it.
+    /// Begins the view that the replica moves to, if it is that view's primary and the stored view changes allow it.
     pub(crate) fn begin_view(
         &mut self,
         alloc: Global,
@@ -54,7 +54,7 @@ impl Joined {
         Ok(Touched::View)
     }
 
-    /// Takes a new view, unless there is a fault in it.
+    /// Takes a new view, if it has no fault.
     pub(crate) fn on_new_view(
         &mut self,
         alloc: Global,
@@ -83,7 +83,7 @@ impl Joined {
 }
 
 impl Orderer {
-    // The selection for the view that the replica moves to, if it is its primary and there is one.
+    // The selection for the view that the replica moves to, if it is that view's primary and a selection exists.
     fn selection(&self, alloc: Global) -> Result<Option<Selection>, NoMemory>
         ensures selects { IfOk result (λ o. IfSome o
             (λ s. IsSelection self.now s.start.0 s.root (texts_of s.batches.items))) }
@@ -99,7 +99,7 @@ impl Orderer {
         select(alloc, &set, self.received.sizes(), view, &held)
     }
 
-    // Signs the new view with this selection. Its frame; none, where the keys are spent.
+    // Signs the new view with this selection. Returns the frame, or None if the keys are spent.
     fn sign_new_view(
         &mut self,
         alloc: Global,
@@ -129,7 +129,7 @@ impl Orderer {
         }
     }
 
-    /// Says the own new view of the view again, if there is one.
+    /// Multicasts the replica's own new view of the current view again, if there is one.
     pub(crate) fn say_new_view_again(
         &mut self,
         alloc: Global,
@@ -147,7 +147,7 @@ impl Orderer {
     }
 }
 
-// What a new view begins with.
+// The selection with which a new view begins.
 fn selection_in(alloc: Global, new: NewView) -> Result<Selection, NoMemory>
     ensures start { IfOk result (λ s. s.start.0 ≡ (new_view_data new).start) }
     ensures root { IfOk result (λ s. s.root ≡ (new_view_data new).root) }

@@ -1,4 +1,4 @@
-//! Requests that come, and the numbers that a primary gives them.
+//! Requests that arrive, and the numbers that a primary assigns to them.
 
 ghost use Rattle.std.specs.Prelude.{◌≡◌, ◌≤◌, suc, true, [], length, IfNone, IfOk, IfSome, OnOk};
 ghost use Rattle.wire.specs.Spelling.{IsCarried, is_ordered_request};
@@ -16,12 +16,12 @@ use events::{Outputs, Stop};
 use std::alloc::Global;
 use terms::{ClientId, Number, Timestamp};
 
-/// So many numbers above the executed one a primary gives at the most.
+/// A primary assigns numbers at most so far above the executed one.
 const AHEAD: u64 = 2;
 
 impl Joined {
-    /// Takes a client's ordered request: the last one that ran is answered again, a newer one waits, and one that waits
-    /// already makes the replica say again what it said of numbers that aren't executed.
+    /// Takes a client's ordered request. The replica answers the last executed one again, and makes a newer one wait.
+    /// If the request waits already, the replica multicasts again what it sent for numbers that aren't executed.
     pub(crate) fn on_request(
         &mut self,
         alloc: Global,
@@ -52,7 +52,7 @@ impl Joined {
         }
     }
 
-    // Says again, while active, what was said of numbers that aren't executed, and else the own view change.
+    // Multicasts again, while active, what the replica sent for numbers that aren't executed; else its view change.
     fn say_all_again(&mut self, alloc: Global, outputs: &mut Outputs) -> Result<(), Stop>
         ensures ok { OnOk result (AllAgain self.old outputs.old.items self.new outputs.new.items) }
         ensures same { self.new ≡ self.old }
@@ -64,8 +64,8 @@ impl Joined {
         self.orderer.say_again(alloc, executed, outputs)
     }
 
-    /// Gives the free numbers to requests that wait, if the replica is the primary. Each turn leaves fewer requests
-    /// without one.
+    /// Assigns the free numbers to waiting requests, if the replica is the primary. Each turn leaves fewer requests
+    /// without a number.
     pub(crate) fn number_waiting(
         &mut self,
         alloc: Global,
@@ -83,7 +83,7 @@ impl Joined {
         Ok(())
     }
 
-    // Gives the next number to requests that wait, and does what it asks for then. Returns whether there were both.
+    // Assigns the next number to waiting requests, and does what follows. Returns whether there were both.
     fn number_turn(&mut self, alloc: Global, outputs: &mut Outputs) -> Result<bool, Stop>
         ensures ok { IfOk result
             (NumbersTurn self.old outputs.old.items self.new outputs.new.items) }
@@ -100,7 +100,7 @@ impl Joined {
         Ok(true)
     }
 
-    // Gives the number to the oldest requests that have none.
+    // Assigns the number to the oldest requests without one.
     fn number_next(
         &mut self,
         alloc: Global,
@@ -119,7 +119,7 @@ impl Joined {
         Ok(())
     }
 
-    // The number above the low mark and all that were used, if the replica, as the primary, may give it to a batch.
+    // The number above the low mark and all used ones, if the replica, as the primary, may assign it to a batch.
     fn free_number(&self) -> Option<Number>
         ensures within { IfSome result (λ number. is_in_marks self.now.orderer.log number.0 ≡ true) }
         ensures next { IfSome result (λ number. number.0 ≡ next_number self.now.orderer) }

@@ -1,4 +1,4 @@
-//! A transfer that is open: the state of a checkpoint is fetched, part by part.
+//! An open state transfer: the replica fetches a checkpoint's state part by part.
 
 ghost use Rattle.std.specs.Prelude.{◌≡◌, true, false, IfNone, IfOk, IfSome, OnErr, OnOk};
 ghost use Rattle.wire.specs.Views.{checkpoint_entry_data};
@@ -14,12 +14,12 @@ use std::marker::Model;
 use terms::{NoMemory, Number};
 use wire::{CheckpointEntry, Meta, Page};
 
-/// A transfer of a state, and the number of the executed state whose pages stand where none were fetched. Where
-/// requests were executed since, the transfer rests on the pages of the new state before it is looked at again, and not
-/// before: so executions themselves write and hash nothing.
+/// A state transfer, and the number of the executed state whose pages stand where none were fetched. After an execution
+/// the transfer rests on the new state's pages only once it is looked at again. So executions themselves write and hash
+/// nothing.
 #[derive(Drop)]
 pub(crate) struct OpenTransfer {
-    // It is some kilobytes, with digests of the parts, so it lies where it is when the desk moves.
+    // It is some kilobytes, with digests of the parts. So it stays in its place when the desk moves.
     transfer: Box<Transfer>,
     rests_at: Number,
 }
@@ -33,7 +33,7 @@ impl Model for OpenTransfer {
     ghost view = { open_data };
 }
 
-/// What a page replaced, and where the transfer rested before it.
+/// What a page replaced, and the number at which the transfer rested before.
 #[derive(Drop)]
 pub(crate) struct Taken {
     pub(crate) replaced: Replaced,
@@ -41,7 +41,7 @@ pub(crate) struct Taken {
 }
 
 impl OpenTransfer {
-    /// A transfer of the state of this checkpoint, which rests on the executed state. NoMemory where memory runs out.
+    /// Starts a transfer to this checkpoint's state, which rests on the executed state. NoMemory if memory runs out.
     pub(crate) fn start(
         alloc: Global,
         entry: &CheckpointEntry,
@@ -59,7 +59,7 @@ impl OpenTransfer {
         })
     }
 
-    /// The checkpoint whose state is fetched.
+    /// The checkpoint whose state the transfer fetches.
     pub(crate) fn entry(&self) -> CheckpointEntry
         ensures { checkpoint_entry_data result
             ≡ record { number = self.now.transfer.number; digest = self.now.transfer.root } }
@@ -70,7 +70,7 @@ impl OpenTransfer {
         }
     }
 
-    /// The place that is asked for.
+    /// The place that the transfer asks for.
     pub(crate) fn asked(&self) -> Place
         ensures value { result ≡ self.now.transfer.asked }
         ensures range { IsPlace result }
@@ -78,20 +78,20 @@ impl OpenTransfer {
         self.transfer.asked()
     }
 
-    /// A newer checkpoint overtakes.
+    /// Moves the transfer to a newer checkpoint.
     pub(crate) fn move_to(&mut self, entry: &CheckpointEntry)
         ensures { self.new ≡ moved self.old (checkpoint_entry_data entry.now) }
     {
         self.transfer.move_to(entry.number, entry.digest);
     }
 
-    /// Takes the digests below a place, if they are the ones asked for. Returns whether. Takes no memory.
+    /// Takes the digests below a place if the transfer awaits them. Returns whether. Takes no memory.
     pub(crate) fn take_digests(&mut self, meta: &Meta) -> bool
         requires { MayBeSaid meta.now }
         ensures { TakesDigestsOf self.old meta.now self.new result }
     {
         let Ok(digests) = <&[_; 32]>::try_from(meta.digests.as_slice()) else {
-            // A message that may be said has 32.
+            // A message that may be sent has 32.
             unreachable!();
         };
         let place = Place {
@@ -102,8 +102,7 @@ impl OpenTransfer {
         self.transfer.on_meta(meta.number, place, digests).is_ok()
     }
 
-    /// Takes the text of a page, if it is the one asked for, and returns what it replaced. NoMemory where memory runs
-    /// out.
+    /// Takes the text of a page if the transfer awaits it, and returns what it replaced. NoMemory if memory runs out.
     pub(crate) fn take_page(&mut self, page: &Page) -> Result<Option<Taken>, NoMemory>
         ensures ok { IfOk result (TakesPageOf self.old page.now self.new) }
         ensures err { OnErr result (self.new ≡ self.old) }
@@ -120,7 +119,7 @@ impl OpenTransfer {
         }
     }
 
-    /// The next place that differs from the state that is wanted, which is asked for then; none where all are equal.
+    /// The next place that differs from the wanted state. The transfer asks for it then. None if all are equal.
     pub(crate) fn next_fetch(&mut self, executed: &mut Executed) -> Result<Option<Place>, NoMemory>
         ensures asks { IfOk result (AsksPlace executed.old.state self.old self.new) }
         ensures range { IfOk result (λ place. IfSome place IsPlace) }
@@ -146,8 +145,8 @@ impl OpenTransfer {
         Ok(())
     }
 
-    /// Puts the state that has the pages which are held in the place of the executed one, if there is one that may take
-    /// it. Returns whether. NoMemory where memory runs out.
+    /// Installs the state of the held pages in place of the executed one, if there is such a state and it may. Returns
+    /// whether. NoMemory if memory runs out.
     pub(crate) fn install(&self, executed: &mut Executed) -> Result<bool, NoMemory>
         ensures installed { (result ≡ Ok true)
             → HasPagesAt self.now.transfer.number self.now.transfer.held executed.new.state }
@@ -163,7 +162,7 @@ impl OpenTransfer {
         executed.install(self.transfer.number(), pages.copy()?)
     }
 
-    /// Forgets the page that was taken last, as if it hadn't come. Takes no memory.
+    /// Forgets the page that was taken last, as if it had not arrived. Takes no memory.
     pub(crate) fn give_back(&mut self, taken: Taken)
         ensures { is_given_back self.old taken self.new }
     {

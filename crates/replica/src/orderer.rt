@@ -1,9 +1,9 @@
-//! What orders: the log of the three phases, what is kept for changes of the view, and the keys that frames are heard
-//! and posted with.
+//! The orderer: the log of the three phases, what the replica keeps for view changes, and the keys with which it
+//! authenticates and seals frames.
 
 ghost use Rattle.std.specs.Prelude.{◌≡◌, ◌+◌, ◌*◌, ◌<◌, IfOk};
 ghost use Rattle.wire.specs.Spelling.{IsBatch};
-ghost use Rattle.posting.specs.Endpoint.{Hears};
+ghost use Rattle.posting.specs.Endpoint.{HearsBody};
 ghost use Rattle.replica.specs.Changing.{AreChanges};
 ghost use Rattle.replica.specs.Taking.{IsNewOrderer, TakesBatch, TakesPrepare, TakesCommit};
 
@@ -19,26 +19,26 @@ use terms::{NoMemory, Number, Party, ReplicaId, View};
 use view_change::{Claims, Received, Sizes};
 use wire::{Body, CheckpointEntry, Commit, PrePrepare, Prepare};
 
-/// What orders.
+/// The part of a replica that orders requests.
 #[derive(Drop)]
 pub(crate) struct Orderer {
-    /// It is some kilobytes, with the signer's tree of keys, so it lies where it is when a part moves.
+    /// It is some kilobytes, with the signer's tree of keys. So it stays in its place when a part moves.
     pub(crate) endpoint: Box<Endpoint>,
     pub(crate) log: Log,
-    /// The greatest number that has a batch by the new view with which the view began, or by the replica as its
-    /// primary, 0 before the first.
+    /// The greatest number assigned in this view, by the new view or by this replica as the primary; 0 before the
+    /// first.
     pub(crate) used: Number,
-    /// The number up to which the new view with which the view began has batches, 0 in the first view.
+    /// The greatest number that the new view assigned, 0 in the first view.
     pub(crate) begun: Number,
-    /// The greatest view that a view change was said for, 0 before the first.
+    /// The greatest view that the replica sent a view change for, 0 before the first.
     pub(crate) target: View,
-    /// The frame of the new view with which the view began, where the replica made it.
+    /// The frame of the new view with which the view began, if the replica made it.
     pub(crate) new_view: Option<Vec<u8>>,
-    /// What it logged and prepared, for its own view changes.
+    /// What the replica logged and prepared, for its own view changes.
     pub(crate) claims: Claims,
     /// The latest view change of each replica.
     pub(crate) received: Received,
-    /// The last checkpoint that the replica said.
+    /// The last checkpoint that the replica sent.
     pub(crate) last_checkpoint: Option<CheckpointEntry>,
 }
 
@@ -87,29 +87,29 @@ impl Orderer {
         })
     }
 
-    // How many batches lie from one checkpoint to the next.
+    // The number of batches from one checkpoint to the next.
     pub(crate) fn period(&self) -> u8
         ensures { result ≡ self.now.received.sizes.period }
     {
         self.received.sizes().period
     }
 
-    // Tells a proof that the frames of the view changes that it has say these.
+    // Tells a proof that the stored frames spell the stored view changes.
     pub(crate) fn note_changes(&self)
         ensures { AreChanges self.now.received.held }
     {
         self.received.note_held();
     }
 
-    /// What the replica hears from the bytes.
+    /// Authenticates the bytes and returns their body, if they have one.
     pub(crate) fn hear(&mut self, alloc: Global, bytes: &[u8]) -> Result<Option<Body>, Stop>
-        ensures heard { IfOk result (Hears self.old.endpoint bytes.now) }
+        ensures heard { IfOk result (HearsBody self.old.endpoint bytes.now) }
         ensures same { self.new ≡ self.old }
     {
         Ok(self.endpoint.hear(alloc, bytes)?)
     }
 
-    /// Takes the primary's batch for a number, if its place is free and its requests are genuine. Returns whether.
+    /// Takes the primary's batch for a number, if its place is free and its requests are authentic. Returns whether.
     pub(crate) fn take_batch(
         &mut self,
         alloc: Global,
@@ -125,7 +125,7 @@ impl Orderer {
         if self.log.preprepare_fault(sender, &message).is_some() {
             return Ok(false);
         }
-        if !self.endpoint.are_genuine(alloc, &message.batch)? {
+        if !self.endpoint.are_genuine(&message.batch) {
             return Ok(false);
         }
         let PrePrepare { number, batch, .. } = message;
@@ -134,7 +134,7 @@ impl Orderer {
         Ok(true)
     }
 
-    /// Takes a backup's prepare, unless there is a fault in it. Returns whether.
+    /// Takes a backup's prepare, if it has no fault. Returns whether.
     pub(crate) fn take_prepare(&mut self, sender: ReplicaId, message: &Prepare) -> bool
         ensures takes { TakesPrepare self.old sender message.now self.new result }
     {
@@ -142,7 +142,7 @@ impl Orderer {
         self.log.on_prepare(sender, message).is_ok()
     }
 
-    /// Takes a replica's commit, unless there is a fault in it. Returns whether.
+    /// Takes a replica's commit, if it has no fault. Returns whether.
     pub(crate) fn take_commit(&mut self, sender: ReplicaId, message: &Commit) -> bool
         ensures takes { TakesCommit self.old sender message.now self.new result }
     {

@@ -1,7 +1,7 @@
-//! A replica in two parts, which may lie behind two locks: what orders, and the desk, which answers reads beside it.
+//! A replica in two parts, which may lie behind two locks: the orderer, and the desk, which answers reads beside it.
 //!
-//! The desk goes with the whole history, the orderer with the entries of ordering. An event of ordering takes both; a
-//! read takes the desk alone. Each part has a stop flag of its own: one that stopped holds nothing any more.
+//! The desk keeps up with the whole history, the orderer with the entries of ordering. An event of ordering takes both;
+//! a read takes the desk alone. Each part has a stop flag of its own, and a stopped part holds nothing any more.
 
 ghost use Rattle.std.specs.Prelude.{◌≡◌, ◌⊎◌, ◌↔◌, true, false, [], None, Some, Err, is_none, IfOk, IsOk, OnErr, OnOk, IsTrue};
 ghost use Rattle.events.specs.declared.output.Stop.TheVariants as Stop;
@@ -21,7 +21,7 @@ use read_only::asks_read;
 use std::alloc::Global;
 use std::marker::Model;
 
-/// What orders. It knows of no state.
+/// The part that orders requests. It knows no state.
 #[derive(Drop)]
 pub struct Orderer {
     member: Member,
@@ -39,7 +39,7 @@ impl Model for Orderer {
     ghost invariant = { λ o. IsOrdererPart (orderer_part o) };
 }
 
-/// What is executed, what is kept of it, and what waits for it, with the keys for replies.
+/// The executed state, the kept states and what waits for execution, with the keys for replies.
 #[derive(Drop)]
 pub struct Desk {
     member: Member,
@@ -94,7 +94,7 @@ impl Orderer {
     ///
     /// # Errors
     ///
-    /// NoMemory where memory runs out, which it never does with such a desk, and Stopped exactly where either part had
+    /// NoMemory if memory runs out, which it never does with such a desk, and Stopped exactly if either part had
     /// stopped before. Both have stopped then, and nothing is given.
     pub fn step(
         &mut self,
@@ -128,7 +128,7 @@ impl Orderer {
         self.step_with(alloc, desk, event)
     }
 
-    // Whether both are of one replica, and neither has stopped.
+    // Whether both are parts of one replica, and neither has stopped.
     fn goes_with(&self, desk: &Desk) -> bool
         ensures { IsTrue result ↔ AreTogether self.now desk.now }
     {
@@ -138,7 +138,7 @@ impl Orderer {
         self.member.is_same(&desk.member) && have_one_period(orderer, state)
     }
 
-    // What both give together. They have stopped where that is refused.
+    // The outputs of both parts together. Both have stopped if the step fails.
     fn step_with(
         &mut self,
         alloc: Global,
@@ -165,7 +165,7 @@ impl Orderer {
     }
 }
 
-// Whether both have checkpoints as often.
+// Whether both have the same period of checkpoints.
 fn have_one_period(orderer: &OrdererState, desk: &DeskState) -> bool
     ensures { IsTrue result ↔ (orderer.now.received.sizes.period ≡ desk.now.period) }
 {
@@ -194,7 +194,7 @@ fn take_desk(holds: &mut Option<DeskState>) -> DeskState
     }
 }
 
-// What orders, the desk, and what they gave for the event.
+// The orderer, the desk, and their outputs for the event.
 fn react(
     alloc: Global,
     orderer: OrdererState,
@@ -242,13 +242,13 @@ impl Desk {
         self.holds = None;
     }
 
-    /// What the replica gives for bytes with the marks of a read: the answer from what is executed, if it hears a read.
-    /// Other bytes give nothing, and change nothing. The arena is for the read's template alone.
+    /// What the replica gives for bytes with the marks of a read: the answer from the executed state, if they are a
+    /// read. Other bytes give nothing, and change nothing. The arena is for the read's template alone.
     ///
     /// # Errors
     ///
-    /// NoMemory where memory runs out for a read, with which the desk stops, and Stopped exactly where it had stopped
-    /// before. Nothing is given then.
+    /// NoMemory if memory runs out for a read, with which the desk stops, and Stopped exactly if it had stopped before.
+    /// Nothing is given then.
     pub fn read(&mut self, alloc: Global, bytes: &[u8], arena: &mut Bump) -> Result<Outputs, Stop>
         ensures leads { asks_read bytes.now ≡ true
             → IfOk result (λ outs. ReadLeads self.old bytes.now outs.items self.new) }
@@ -272,7 +272,7 @@ impl Desk {
         Ok(outputs)
     }
 
-    // Gives the answer to bytes with the marks of a read.
+    // The answer to bytes with the marks of a read.
     fn answer(
         &mut self,
         alloc: Global,

@@ -1,23 +1,24 @@
-//! Laws of a replica in two parts: what stands beside ordering counts for nothing, and the parts are the whole.
+//! Laws of a replica in two parts: entries beside ordering count for nothing, and the parts are the whole.
 
 ghost use Rattle.replica.specs.Idle.{ReadsAreIdle, WordsStay};
 ghost use Rattle.replica.specs.PartedLaws.{DesksArePrompt, HoldsPart, PartsJoin, ReplicasArePrompt};
 ghost use Rattle.replica.specs.Reads.{MarkedAreReplies, MarkedAreRequests, RepliesAreMarked};
 
-/// Bytes with the marks of a read, or of a reply to one, say that, if anything; and such a reply has its marks.
+/// If bytes with the marks of a read, or of a reply to one, say anything, they say that. Each reply to a read has its
+/// marks.
 pub fn marks_tell_reads()
     ensures requests { MarkedAreRequests }
     ensures replies { MarkedAreReplies }
     ensures marked { RepliesAreMarked }
 {}
 
-/// A history without its reads leaves out entries that bring nothing, and certifies the same.
+/// A history and the one without its reads certify the same. The reads bring nothing that counts.
 pub fn reads_are_idle()
     ensures idle { ReadsAreIdle }
     ensures words { WordsStay }
 {}
 
-/// Desk and orderer together hold of a history what a whole replica holds, and the other way round.
+/// A desk and an orderer together hold exactly what a whole replica holds of a history.
 pub fn parts_are_whole()
     ensures join { PartsJoin }
     ensures part { HoldsPart }

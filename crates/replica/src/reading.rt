@@ -1,4 +1,4 @@
-//! Reads: they are answered beside the order, in their event.
+//! Reads, which the replica answers beside the order, in their event.
 
 ghost use Rattle.std.specs.Prelude.{◌≡◌, true, [], IfOk, OnOk};
 ghost use Rattle.wire.specs.Marks.{asks_read};
@@ -14,8 +14,8 @@ use read_only::{ReadFault, Shelf, answer, hear_read};
 use std::alloc::Global;
 
 impl Joined {
-    /// Answers the read that bytes with its marks ask for, if the replica hears one. The arena for its template is made
-    /// here and dropped here.
+    /// Answers the read that bytes with its marks ask for, if they are an authentic read. The arena for its template
+    /// lasts for this call.
     pub(crate) fn on_read(
         &mut self,
         alloc: Global,
@@ -36,8 +36,8 @@ impl Joined {
 }
 
 impl Desk {
-    /// Answers the read that bytes with its marks ask for, if the replica hears one, from what is executed. The arena
-    /// is for its template alone. Nothing changes.
+    /// Answers the read that bytes with its marks ask for, if they are an authentic read, from the executed state. The
+    /// arena is for its template alone. Nothing changes.
     pub(crate) fn read(
         &mut self,
         alloc: Global,

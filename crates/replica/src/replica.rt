@@ -15,12 +15,12 @@ use std::alloc::Global;
 use std::marker::Model;
 use terms::{NoMemory, ReplicaId};
 
-/// What a replica takes.
+/// The input of a replica.
 #[derive(Drop)]
 pub enum Event<'a> {
-    /// These bytes came.
+    /// These bytes arrived.
     Got(&'a [u8]),
-    /// Time went by.
+    /// A timeout.
     Timeout,
 }
 
@@ -51,7 +51,7 @@ impl Replica {
     ///
     /// # Errors
     ///
-    /// NoMemory where memory runs out.
+    /// NoMemory if memory runs out.
     pub fn new(
         alloc: Global,
         config: &Config,
@@ -85,8 +85,8 @@ impl Replica {
     ///
     /// # Errors
     ///
-    /// NoMemory where memory runs out, with which the replica stops, and Stopped exactly where it had stopped before.
-    /// Nothing is given then.
+    /// NoMemory if memory runs out, with which the replica stops, and Stopped exactly if it had stopped before. Nothing
+    /// is given then.
     pub fn step(&mut self, alloc: Global, event: Event<'_>) -> Result<Outputs, Stop>
         ensures leads { IfOk result (λ outs. EventLeads self.old event.entry outs.items self.new) }
         ensures meant { IfOk result (λ outs. SendsAsMeant self.old outs.items) }

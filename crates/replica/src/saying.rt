@@ -1,4 +1,4 @@
-//! What is said to the other replicas, and what is said again where a client asks again.
+//! What the replica multicasts to the others, and what it multicasts again when a client asks again.
 
 ghost use Rattle.std.specs.Prelude.{◌≡◌, ◌+◌, ◌≤◌, ◌<◌, ◌^◌, true, false, length, OnOk};
 ghost use Rattle.wire.specs.Lists.{Each};
@@ -22,7 +22,7 @@ use terms::Number;
 use wire::{Batch, Message};
 
 impl Orderer {
-    /// Gives a number to these request frames, 1 to 16, as the primary.
+    /// Assigns a number to these request frames, 1 to 16, as the primary.
     pub(crate) fn say_batch(
         &mut self,
         alloc: Global,
@@ -47,7 +47,7 @@ impl Orderer {
         Ok(())
     }
 
-    /// Says again what the replica said of the numbers above this one, each in its order, and last its latest
+    /// Multicasts again what the replica sent for the numbers above this one, each in its order, and last its latest
     /// checkpoint.
     pub(crate) fn say_again(
         &mut self,
@@ -68,7 +68,7 @@ impl Orderer {
         self.say_checkpoint_again(alloc, outputs)
     }
 
-    // Says again what the replica said of a number.
+    // Multicasts again what the replica sent for a number.
     fn say_row_again(
         &mut self,
         alloc: Global,
@@ -95,7 +95,7 @@ impl Orderer {
         ensures same { self.new ≡ self.old }
     {
         self.keeps();
-        // Up to this number the new view has said it.
+        // Up to this number the new view has the batches.
         if !self.is_primary() || number.0 <= self.begun.0 {
             return Ok(());
         }
@@ -176,7 +176,7 @@ impl Orderer {
         self.say(alloc, message, outputs)
     }
 
-    /// Says a message that fits a frame to all other replicas.
+    /// Multicasts a message that fits a frame.
     pub(crate) fn say(
         &mut self,
         alloc: Global,

@@ -1,4 +1,4 @@
-//! Frames that are signed.
+//! Signed frames.
 
 ghost use Rattle.std.specs.Prelude.{◌≡◌, true, IfOk, OnOk};
 ghost use Rattle.wire.specs.Spelling.{IsMessage, is_signed};
@@ -12,7 +12,7 @@ use std::alloc::Global;
 use wire::Message;
 
 impl Orderer {
-    /// The frame of a message that is signed by the next leaf; none, where the keys are spent or the frame would be too
+    /// Signs a message with the next leaf. Returns the frame, or None if the keys are spent or the frame would be too
     /// long.
     pub(crate) fn sign(&mut self, alloc: Global, message: Message) -> Result<Option<Vec<u8>>, Stop>
         requires said { IsMessage (message_data message) }
@@ -28,7 +28,7 @@ impl Orderer {
         }
     }
 
-    /// Says what stands in a signed frame to all other replicas.
+    /// Multicasts what stands in a signed frame.
     pub(crate) fn say_frame(
         &self,
         alloc: Global,

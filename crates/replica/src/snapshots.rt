@@ -1,4 +1,4 @@
-//! The states that are kept for those that fetch them.
+//! The states that the replica keeps for others to fetch.
 
 ghost use Rattle.std.specs.Prelude.{◌≡◌, ◌≢◌, ◌<◌, ◌≤◌, [], length, IfNone, IfOk, IfSome, IsTrue, OnErr, OnOk, option_map};
 ghost use Rattle.wire.specs.Lists.{Each};
@@ -24,13 +24,12 @@ pub(crate) struct KeptState {
     ghost short: { HaveShortPages pages },
 }
 
-/// So many states are kept at the most.
+/// At most so many states are kept.
 const KEPT: usize = 3;
 
-/// The states at checkpoints from the low mark on, at most three, the newest first. They share the pages that are the
-/// same in them.
+/// The states at checkpoints from the low mark on, at most three, the newest first. They share equal pages.
 ///
-/// Their numbers are those of checkpoints within the marks, and the low mark, so none is given up for want of room.
+/// Their numbers are those of checkpoints within the marks, and the low mark. So none is dropped for lack of room.
 #[derive(Drop)]
 pub(crate) struct Snapshots {
     kept: Vec<KeptState>,
@@ -51,7 +50,7 @@ impl Model for Snapshots {
 }
 
 impl Snapshots {
-    /// None yet.
+    /// No states.
     pub(crate) fn new(alloc: Global) -> Snapshots
         ensures { result ≡ [] }
     {
@@ -60,15 +59,15 @@ impl Snapshots {
         }
     }
 
-    /// Tells a proof that they are few. It does nothing.
+    /// Tells a proof that they are few. Does nothing.
     pub(crate) fn are_few(&self)
         ensures { AreFew self.now }
     {
         let _count = self.kept.len();
     }
 
-    /// Keeps the state of a number above all that are kept, beside the newest two. NoMemory where memory runs out, and
-    /// nothing changes then.
+    /// Keeps the state of a number above all kept ones, beside the newest two. NoMemory if memory runs out, and nothing
+    /// changes then.
     pub(crate) fn keep(&mut self, number: Number, pages: Snapshot) -> Result<(), NoMemory>
         requires newer { Each (λ x. x.number < number.0) self.old }
         requires short { HaveShortPages pages }
@@ -80,7 +79,7 @@ impl Snapshots {
         Ok(())
     }
 
-    /// Drops all.
+    /// Drops all states.
     pub(crate) fn clear(&mut self)
         ensures { self.new ≡ [] }
     {
@@ -102,7 +101,7 @@ impl Snapshots {
         None
     }
 
-    /// The number and root of the newest one. Takes no memory.
+    /// The number and root of the newest state. Takes no memory.
     pub(crate) fn newest(&self) -> Option<CheckpointEntry>
         ensures { option_map checkpoint_entry_data result ≡ newest_entry self.now }
     {
@@ -115,7 +114,7 @@ impl Snapshots {
         }
     }
 
-    /// The numbers and roots of all, ascending. The error is want of memory.
+    /// The numbers and roots of all states, ascending. NoMemory if memory runs out.
     pub(crate) fn entries(&self, alloc: Global) -> Result<Vec<CheckpointEntry>, NoMemory>
         ensures are { IfOk result (λ entries. checkpoint_entries_data entries ≡ entries_of self.now) }
         ensures few { length (entries_of self.now) ≤ 3 }
@@ -132,7 +131,7 @@ impl Snapshots {
         Ok(entries)
     }
 
-    /// Drops those below the low mark.
+    /// Drops the states below the low mark.
     pub(crate) fn drop_below(&mut self, low: Number)
         ensures { self.new ≡ kept_from low.0 self.old }
     {

@@ -1,4 +1,4 @@
-//! What a message that comes does.
+//! What the replica does with a message that arrives.
 
 ghost use Rattle.std.specs.Prelude.{◌≡◌, ◌+◌, ◌<◌, [], Some, IfOk};
 ghost use Rattle.wire.specs.Messages.{pre_prepare, prepare, commit};
@@ -15,23 +15,23 @@ use std::alloc::Global;
 use terms::{ClientId, Mode, Number, Party, ReplicaId};
 use wire::{Body, Commit, Message, PrePrepare, Prepare, Request};
 
-/// What a message touched, and so what may be asked for next.
+/// What a message touched, and so what may follow.
 #[derive(Clone, Copy, Drop)]
 pub(crate) enum Touched {
-    /// Nothing is asked for: the message was dropped, or answered.
+    /// Nothing follows: the message was dropped, or answered.
     Nothing,
-    /// The requests that wait, or the marks, and so the numbers that are free for them.
+    /// The waiting requests or the marks, and so the numbers that are free for them.
     Waiting,
     /// The log's row of this number.
     Row(Number),
-    /// The executed state: another one was installed.
+    /// The executed state: the replica installed another one.
     State,
-    /// The view: a later one is entered.
+    /// The view: the replica entered a later one.
     View,
 }
 
 impl Joined {
-    /// Takes the message that the replica hears from the bytes, if it hears one and has no fault to find.
+    /// Takes the message in the bytes, if it is authentic and has no fault.
     pub(crate) fn take(
         &mut self,
         alloc: Global,
@@ -47,7 +47,7 @@ impl Joined {
         if asks_read(bytes) {
             return self.on_read(alloc, bytes, outputs);
         }
-        // A view change that is held isn't verified again.
+        // A stored view change isn't verified again.
         if self.orderer.received.has_frame(bytes) {
             self.orderer.judges();
             return Ok(Touched::Nothing);
@@ -61,7 +61,7 @@ impl Joined {
         }
     }
 
-    // A client's message, which came in this frame. It is no read.
+    // Takes a client's message, which arrived in this frame. It is no read.
     fn on_client(
         &mut self,
         alloc: Global,
@@ -93,7 +93,7 @@ impl Joined {
         }
     }
 
-    // Another replica's message, which came in this frame.
+    // Takes another replica's message, which arrived in this frame.
     fn on_replica(
         &mut self,
         alloc: Global,
@@ -171,7 +171,7 @@ impl Joined {
     }
 }
 
-// A replica's number is below those of clients.
+// Tells a proof that a replica's number is below those of clients.
 fn note_replica(replica: ReplicaId)
     ensures { replica.0 < 256 }
 {

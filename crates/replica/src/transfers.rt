@@ -1,4 +1,4 @@
-//! Transfers of states: parts that are asked for, and parts that come.
+//! State transfer: the parts that the replica asks for, and the parts that arrive.
 
 ghost use Rattle.std.specs.Prelude.{◌≡◌, ◌≤◌, [], IfOk, OnOk};
 ghost use Rattle.wire.specs.Messages.{fetch, meta, page};
@@ -15,7 +15,7 @@ use terms::ReplicaId;
 use wire::{Fetch, Meta, Page};
 
 impl Joined {
-    /// Asks all others for the part that an open transfer asks for.
+    /// Asks all other replicas for the part that the open transfer awaits.
     pub(crate) fn say_fetch(&mut self, alloc: Global, outputs: &mut Outputs) -> Result<(), Stop>
         ensures ok { OnOk result (SaysFetch self.old outputs.old.items outputs.new.items) }
         ensures same { self.new ≡ self.old }
@@ -26,7 +26,7 @@ impl Joined {
         }
     }
 
-    /// Gives a part of a state that is kept to the replica that asks for it.
+    /// Sends a part of a kept state to the replica that asks for it.
     pub(crate) fn on_fetch(
         &mut self,
         alloc: Global,
@@ -46,7 +46,7 @@ impl Joined {
         Ok(Touched::Nothing)
     }
 
-    /// Takes the digests below a place, and goes on with what differs.
+    /// Takes the digests below a place, and goes on with the parts that differ.
     pub(crate) fn on_meta(
         &mut self,
         alloc: Global,
@@ -74,8 +74,8 @@ impl Joined {
         Ok(Touched::Nothing)
     }
 
-    /// Takes the text of a page, and goes on with what differs. Where it completes what is no state, it is forgotten
-    /// again, as if it hadn't come.
+    /// Takes the text of a page, and goes on with the parts that differ. If the pages are then complete and no state,
+    /// the replica forgets the page, as if it had not arrived.
     pub(crate) fn on_page(
         &mut self,
         alloc: Global,
@@ -115,8 +115,8 @@ impl Joined {
         Ok(true)
     }
 
-    // Installs the state that was fetched, keeps it as a checkpoint, and moves the marks up to it. Returns whether it
-    // is a state.
+    // Installs the fetched state, keeps it as a checkpoint, and moves the marks up to it. Returns whether it is a
+    // state.
     fn install(&mut self, outputs: &mut Outputs) -> Result<bool, Stop>
         ensures ok { IfOk result (InstallsFetched self.old outputs.old.items self.new outputs.new.items) }
         ensures endpoint { self.new.orderer.endpoint ≡ self.old.orderer.endpoint }

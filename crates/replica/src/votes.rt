@@ -1,4 +1,4 @@
-//! The replica's own prepares and commits, which its log asks for.
+//! The replica's own prepares and commits, for which its log asks.
 
 ghost use Rattle.std.specs.Prelude.{◌≡◌, ◌==◌, true, false, OnOk};
 ghost use Rattle.wire.specs.Messages.{commit, prepare};
@@ -15,7 +15,7 @@ use std::alloc::Global;
 use terms::{Digest, Number};
 
 impl Orderer {
-    // Tells a proof what each orderer keeps.
+    // Tells a proof the invariant of an orderer.
     pub(crate) fn keeps(&self)
         ensures log { IsLog self.now.log }
         ensures own { IsOrderer self.now }
@@ -30,7 +30,8 @@ impl Orderer {
         self.log.me().0 == self.log.primary(self.log.view()).0
     }
 
-    /// Says what the log asks for of a number: the prepare of a batch that was taken, and the commit of a prepared one.
+    /// Multicasts the votes that the log asks for, for one number: the prepare of a taken batch, and the commit of a
+    /// prepared one.
     pub(crate) fn say_votes(
         &mut self,
         alloc: Global,
@@ -87,7 +88,7 @@ impl Orderer {
         Ok(())
     }
 
-    // Counts the own prepare.
+    // Counts the replica's own prepare.
     fn add_prepare(&mut self, number: Number, digest: Digest)
         requires { is_in_marks self.old.log number.0 ≡ true }
         ensures { AddsPrepare number.0 digest self.old self.new }
@@ -97,7 +98,7 @@ impl Orderer {
         self.log.add_prepare(number, Vote { sender, digest });
     }
 
-    // Counts the own commit.
+    // Counts the replica's own commit.
     fn add_commit(&mut self, number: Number, digest: Digest)
         requires { is_in_marks self.old.log number.0 ≡ true }
         ensures { AddsCommit number.0 digest self.old self.new }
@@ -107,7 +108,7 @@ impl Orderer {
         self.log.add_commit(number, Vote { sender, digest });
     }
 
-    /// Says a prepare to all other replicas.
+    /// Multicasts a prepare.
     pub(crate) fn say_prepare(
         &mut self,
         alloc: Global,
@@ -123,7 +124,7 @@ impl Orderer {
         self.say(alloc, message, outputs)
     }
 
-    /// Says a commit to all other replicas.
+    /// Multicasts a commit.
     pub(crate) fn say_commit(
         &mut self,
         alloc: Global,

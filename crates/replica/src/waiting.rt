@@ -1,4 +1,4 @@
-//! Requests that wait to be executed.
+//! Requests that wait for execution.
 
 ghost use Rattle.std.specs.Prelude.{◌≡◌, ◌≤◌, ◌++◌, ◌∷◌, [], not, length, map, filter, ◌↔◌, IfOk, IfSome, IsFalse, IsTrue, OnErr, OnOk};
 ghost use Rattle.wire.specs.Lists.{Each};
@@ -13,7 +13,7 @@ use std::marker::Model;
 use terms::{ClientId, Timestamp};
 use wire::MAX_REQUESTS;
 
-/// A request that waits: its client and timestamp, and the frame in which it came.
+/// A waiting request: its client and timestamp, and the frame in which it arrived.
 #[derive(Drop)]
 pub(crate) struct WaitingRequest {
     pub(crate) client: ClientId,
@@ -23,15 +23,15 @@ pub(crate) struct WaitingRequest {
     numbered: bool,
 }
 
-/// A call that stands in the new view with which the view began, and so has a number in it.
+/// A call in the new view with which the view began. So it has a number in the view.
 #[derive(Clone, Copy, Drop)]
 pub(crate) struct BegunCall {
     pub(crate) client: ClientId,
     pub(crate) timestamp: Timestamp,
 }
 
-/// The requests that wait, in order of arrival: of each client the latest, so at most 256 frames; and the calls in the
-/// new view with which the view began, 32 times 16 at the most.
+/// The waiting requests in order of arrival, of each client the latest, so at most 256 frames; and the calls in the new
+/// view with which the view began, at most 32 times 16.
 #[derive(Drop)]
 pub(crate) struct Waiting {
     requests: Vec<WaitingRequest>,
@@ -102,8 +102,7 @@ impl Waiting {
         copy_unnumbered(alloc, &self.requests)
     }
 
-    /// Puts a client's request in this frame behind all others. It has a number in the view where the view began with
-    /// it.
+    /// Appends a client's request in this frame. It has a number in the view if the view began with it.
     pub(crate) fn push(
         &mut self,
         client: ClientId,
@@ -124,14 +123,14 @@ impl Waiting {
         Ok(())
     }
 
-    /// The first so many of the requests that had no number have one.
+    /// Notes that the first `count` of the requests without a number have one.
     pub(crate) fn note_numbered(&mut self, count: usize)
         ensures { self.new ≡ with_numbered count self.old }
     {
         number_first(count, &mut self.requests);
     }
 
-    /// A view begins by a new view with these calls: they have a number in it, and no others.
+    /// A view begins by a new view with these calls. They alone have a number in it.
     pub(crate) fn begin_view(&mut self, calls: Vec<BegunCall>)
         ensures { self.new ≡ with_view calls.items self.old }
     {
@@ -139,14 +138,14 @@ impl Waiting {
         self.begun = calls;
     }
 
-    /// Takes the client's request away, if one waits.
+    /// Removes the client's request, if one waits.
     pub(crate) fn remove(&mut self, client: ClientId)
         ensures { self.new ≡ without client.number self.old }
     {
         keep_others(client, &mut self.requests);
     }
 
-    /// Takes away what ran, or is older than what ran.
+    /// Removes the requests that ran, or are older than one of their client's that ran.
     pub(crate) fn forget(&mut self, executed: &Executed)
         ensures { self.new ≡ forgotten executed.now.state self.old }
     {

@@ -1,4 +1,4 @@
--- What goes again: the own votes and batches that stand in the log.
+-- What a replica sends again: its own votes and batches that stand in the log.
 use Rattle.std.proofs.Common.{◌≡◌, ◌≢◌, ℕ, zero, suc, ◌-◌, ◌≤◌, ◌⊎◌, inl, inr, Bool, true, false, ◌&&◌, not, cond, List, [], ◌∷◌, length, take, refl, sym, ap, ◌∙◌, subst, arith, Some, None, eqb-true, slice_get}
 use Rattle.std.specs.Prelude.{◌==◌, nat_lt, option_and_then}
 use Rattle.std.proofs.lemmas.Bool.{and_parts, eqb-false, not-true}
@@ -21,7 +21,7 @@ use Rattle.protocol.proofs.Words.Elements.{each_weaker}
 use Rattle.protocol.proofs.Agreement.Voting.{RightAt, once_right, Logs, logged_stays}
 use Rattle.replica_histories.specs.Desk.{Desk, point_of}
 use Rattle.replica_histories.specs.Logs.{above_mark, Takes}
-use Rattle.replica_histories.specs.Events.{Start, behind, Fits}
+use Rattle.replica_histories.specs.Events.{Start, after_outputs, Fits}
 use Rattle.replica_histories.specs.Outputs.{PreparesGoAgain, CommitsGoAgain, BatchesGoAgain, CheckpointsGoAgain}
 use Rattle.replica_histories.proofs.Words.{passed, given_not, marks_are, primary_same}
 use Rattle.replica_histories.proofs.Certified.{active}
@@ -36,7 +36,7 @@ use Rattle.replica_histories.proofs.SaidOnce.{unsent, pays_none, pays_alone, no_
 use Rattle.replica_histories.proofs.Giving.{sent_fits, no_proposal, placed, never_rests, prepare_placed, commit_placed}
 
 leaves_now : (c : Configuration) (me : ℕ) (s : Start) (desk : Desk) (log : LogData) (due : List Message) (outputs : List Entry) (f : Fits c me s desk log due outputs)
-    → Leaves c me (behind s outputs) (point_of desk f.of_desk.states f.of_desk.ran)
+    → Leaves c me (after_outputs s outputs) (point_of desk f.of_desk.states f.of_desk.ran)
 leaves_now c me s desk log due outputs f = steps_leave c me s outputs (point_of desk f.of_desk.states f.of_desk.ran) f.of_desk.leaves f.of_desk.steps
 
 pub prepares_go_again : PreparesGoAgain
@@ -44,11 +44,11 @@ prepares_go_again c me s desk log due outputs i digest bytes is_active there non
     sent_fits c me s desk log log due due outputs bytes (others c me) (Prepare log.view i digest) f posted refl tt
     (record { is_backup = backup; active = active c me log past f.of_log ∙ is_active; batch = l.batch; is_logged = l.is_logged; digest_is = l.digest })
     tt takes (prepare_placed c me me i digest log is_active within)
-    refl (no_root c (behind s outputs) bytes me (Prepare log.view i digest) desk.state.number posted.says refl) (pays_none c me s desk log outputs (Prepare log.view i digest) bytes posted.says due refl f)
+    refl (no_root c (after_outputs s outputs) bytes me (Prepare log.view i digest) desk.state.number posted.says refl) (pays_none c me s desk log outputs (Prepare log.view i digest) bytes posted.says due refl f)
     (unsent me s (Prepare log.view i digest) bytes outputs f.says.begins posted.says none) (no_proposal c me past bytes (Prepare log.view i digest) posted.says tt)
   where
     past : List Entry
-    past = behind s outputs
+    past = after_outputs s outputs
 
     within : logs.is_in_marks log i ≡ true
     within = (passed (logs.is_in_marks log i) (vote_of (logs.row_of log i).prepares me) digest there).0
@@ -79,11 +79,11 @@ commits_go_again c me s desk log due outputs i digest bytes is_active there none
     sent_fits c me s desk log log due due outputs bytes (others c me) (Commit log.view i digest) f posted refl tt
     (record { active = active c me log past f.of_log ∙ is_active; batch = l.batch; prepared = l.prepared; digest_is = l.digest_is })
     tt takes (commit_placed c me me i digest log is_active within)
-    refl (no_root c (behind s outputs) bytes me (Commit log.view i digest) desk.state.number posted.says refl) (pays_none c me s desk log outputs (Commit log.view i digest) bytes posted.says due refl f)
+    refl (no_root c (after_outputs s outputs) bytes me (Commit log.view i digest) desk.state.number posted.says refl) (pays_none c me s desk log outputs (Commit log.view i digest) bytes posted.says due refl f)
     (unsent me s (Commit log.view i digest) bytes outputs f.says.begins posted.says none) (no_proposal c me past bytes (Commit log.view i digest) posted.says tt)
   where
     past : List Entry
-    past = behind s outputs
+    past = after_outputs s outputs
 
     within : logs.is_in_marks log i ≡ true
     within = (passed (logs.is_in_marks log i) (vote_of (logs.row_of log i).commits me) digest there).0
@@ -105,16 +105,16 @@ commits_go_again c me s desk log due outputs i digest bytes is_active there none
         let leaves = leaves_now c me s desk log due outputs f in
         spoken_certified c me log.view i digest past (point_of desk f.of_desk.states f.of_desk.ran) leaves (commit_spoken c me log.view i digest past (point_of desk f.of_desk.states f.of_desk.ran) leaves own)
 
--- ---- the own batch
+-- ---- the replica's own batch
 
--- a batch that was proposed is genuine, and its requests were seen
+-- the requests of a proposed batch are authentic and were seen
 abbrev Proposed : Configuration → ℕ → List ℕ → List Entry → Type 0
 Proposed c me batch past = (are_genuine c me batch ≡ true) × Each (λ frame. Once (HasSeen frame) past) (requests_of batch)
 
 proposed_stays : (c : Configuration) (me : ℕ) (batch : List ℕ) (e : Entry) (past : List Entry) → Proposed c me batch past → Proposed c me batch (e ∷ past)
 proposed_stays c me batch e past h = (h.0, each_weaker (λ frame. Once (HasSeen frame) past) (λ frame. Once (HasSeen frame) (e ∷ past)) (λ frame k. inr k) (requests_of batch) h.1)
 
--- what proposes a batch is a pre-prepare by the primary
+-- a message that proposes a batch is a pre-prepare by the primary
 batch_is : (c : Configuration) (me v i : ℕ) (batch : List ℕ) (sender : ℕ) (message : Message) → batch_from c me v i (record { sender = sender; message = message }) ≡ Some batch
     → (message ≡ PrePrepare v i batch) × (sender ≡ primary c v) × (are_genuine c me batch ≡ true)
 batch_is c me v i batch sender (PrePrepare w k b) h =
@@ -142,7 +142,7 @@ proposes c me v i batch own past (Executed x y z) r h = absurd (let bad : None �
 proposes c me v i batch own past (Installed x y z) r h = absurd (let bad : None ≡ Some h.0 = h.1 in cc)
 proposes c me v i batch own past (Accepted x y z) r h = absurd (let bad : None ≡ Some h.0 = h.1 in cc)
 
--- a new view that is taken proposes the batch for the number
+-- a new view that the replica takes proposes the batch for the number
 abbrev BegunAt : Configuration → ℕ → ℕ → List ℕ → List Entry → Entry → Type 0
 BegunAt c v i batch past e = (new : NewViewData) × (taken c past e ≡ Some new) × (batch_begun v i new ≡ Some batch)
 
@@ -151,7 +151,7 @@ beyond batch [] k l h = cc
 beyond batch (x ∷ xs) zero l h = absurd (omega arith)
 beyond batch (x ∷ xs) (suc k) l h = beyond batch xs k (omega arith) h
 
--- none does where all new views of the view end below it
+-- none does, if all new views of the view end below the number
 not_begun : (c : Configuration) (v i : ℕ) (batch : List ℕ) (history : List Entry) → IsBegunBelow c v i history → Once (BegunAt c v i batch) history → ⊥
 not_begun c v i batch [] below h = h
 not_begun c v i batch (e ∷ past) below (inr h) = not_begun c v i batch past (λ new once at. below new (inr once) at) h
@@ -161,7 +161,7 @@ not_begun c v i batch (e ∷ past) below (inl h) =
     let l = below h.0 (inl h.1) (eqb-true h.0.view v q.0) in
     beyond batch h.0.batches (i - h.0.start - 1) (omega arith) p.1
 
--- what an entry proposes, where no new view begins with it
+-- an entry's proposal, if no new view begins with it
 proposal_source : (c : Configuration) (me v i : ℕ) (batch : List ℕ) (past : List Entry) (e : Entry) → (BegunAt c v i batch past e → ⊥) → proposal c me past e v i ≡ Some batch
     → (body : Body) × (brought c e ≡ Some body) × (batch_from c me v i body ≡ Some batch)
 proposal_source c me v i batch past e none h = go (or_else_cases (begun_proposal c me past e v i) (entry_proposal c me past e v i) batch h)
@@ -180,7 +180,7 @@ once_but P Q [] h n = h
 once_but P Q (e ∷ past) (inl h) n = inl (h, λ q. n (inl q))
 once_but P Q (e ∷ past) (inr h) n = inr (once_but P Q past h (λ q. n (inr q)))
 
--- the own batch of a log that fits was proposed
+-- the replica proposed its own batch in a log that fits
 batch_proposed : (c : Configuration) (me v i : ℕ) (batch : List ℕ) (past : List Entry) (point : Point) → Leaves c me past point → primary c v ≡ me → (Once (BegunAt c v i batch) past → ⊥) → logged c me past v i ≡ Some batch
     → Proposed c me batch past
 unfolding logged
@@ -199,11 +199,11 @@ batches_go_again c me s desk log due outputs i batch bytes is_active own there b
     sent_fits c me s desk log log due due outputs bytes (others c me) (PrePrepare log.view i batch) f posted refl proposed.1
     (record { is_primary = primary_is; active = active c me log past f.of_log ∙ is_active; in_marks = marks_are c me log past i f.of_log ∙ within; genuine = proposed.0; one = logged_stays c me log.view i batch (Sent me bytes) past logs_it; next = λ none. absurd (given_not (logged c me past log.view i) batch logs_it none) })
     tt takes (record { batch = place; votes = λ v j x other. (refl, refl); resting = λ rests j x. never_rests log is_active rests })
-    refl (no_root c (behind s outputs) bytes me (PrePrepare log.view i batch) desk.state.number posted.says refl) (pays_none c me s desk log outputs (PrePrepare log.view i batch) bytes posted.says due refl f)
+    refl (no_root c (after_outputs s outputs) bytes me (PrePrepare log.view i batch) desk.state.number posted.says refl) (pays_none c me s desk log outputs (PrePrepare log.view i batch) bytes posted.says due refl f)
     (unsent me s (PrePrepare log.view i batch) bytes outputs f.says.begins posted.says none) once
   where
     past : List Entry
-    past = behind s outputs
+    past = after_outputs s outputs
 
     primary_is : primary c log.view ≡ me
     primary_is = sym (primary_same c log log.view f.of_log.faults) ∙ own
@@ -242,7 +242,7 @@ batches_go_again c me s desk log due outputs i batch bytes is_active own there b
         place_of : Message → ℕ × ℕ
         place_of message = elim message [ PrePrepare w k x ↦ (w, k) | _ ↦ (0, 0) ]
 
--- ---- an own checkpoint
+-- ---- the replica's own checkpoint
 
 pub checkpoints_go_again : CheckpointsGoAgain
 checkpoints_go_again c me s desk log outputs k root bytes once none posted f =
@@ -253,7 +253,7 @@ checkpoints_go_again c me s desk log outputs k root bytes once none posted f =
     (unsent me s (Checkpoint k root) bytes outputs f.says.begins posted.says none) (no_proposal c me past bytes (Checkpoint k root) posted.says tt)
   where
     past : List Entry
-    past = behind s outputs
+    past = after_outputs s outputs
 
     may : MayCheckpoint c past (point_of desk f.of_desk.states f.of_desk.ran) k root
     may = said_may c me k root past (point_of desk f.of_desk.states f.of_desk.ran) (leaves_now c me s desk log [] outputs f) once

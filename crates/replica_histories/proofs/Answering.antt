@@ -1,4 +1,4 @@
--- The parts of kept snapshots that others fetch, and the answers of reads, over what the replica holds.
+-- The parts of kept snapshots that others fetch, and the answers to reads, over desk and log.
 use Rattle.std.proofs.Common.{◌≡◌, ℕ, Bool, true, false, List, [], ◌∷◌, refl, sym, ap, ◌∙◌, subst, Option, None, Some}
 use Rattle.std.specs.Prelude.{⊤}
 use Rattle.tuple_codec.specs.Operations.{Operation}
@@ -14,14 +14,14 @@ use Rattle.protocol.specs.System.Trace.Entry.{Sent}
 use Rattle.protocol.specs.Replica.Certificates.{low}
 use Rattle.protocol.specs.Replica.State.{State}
 use Rattle.protocol.specs.Replica.RightReplica.{Point, Leaves, IsFor, MaySay, kept_states}
-use Rattle.protocol.specs.Replica.Owed.{Gives}
+use Rattle.protocol.specs.Replica.Owed.{SendsMessage}
 use Rattle.protocol.proofs.Words.Elements.{has_map, has_weaker}
 use Rattle.protocol.proofs.Words.Options.{some_injective}
 use Rattle.protocol.proofs.Words.Reacting.{proceeds_leaves}
 use Rattle.replica_histories.specs.Desk.{Desk, snapshot_of, point_of}
 use Rattle.replica_histories.specs.TransfersAnswers.{answer_by, KeptPages}
 use Rattle.replica_histories.specs.Questions.{read_from, read_reply}
-use Rattle.replica_histories.specs.Events.{Start, behind, Fits, Holds}
+use Rattle.replica_histories.specs.Events.{Start, after_outputs, Fits, Holds}
 use Rattle.replica_histories.specs.Answering.{PartsFit, KeptFetchesCount, PartsSuffice, OtherNumbersOweNone, ReadsFit, ReadsSuffice, OtherOperationsOweNone}
 use Rattle.replica_histories.proofs.Taking.{takes_nothing}
 use Rattle.replica_histories.proofs.Logging.{beside_placed}
@@ -31,7 +31,7 @@ use Rattle.replica_histories.proofs.TransfersAnswering.{IsPart, hears_one, snaps
 use Rattle.replica_histories.proofs.Questions.{fetches_owe_no_read, others_bring_no_part, reads_owe_no_part, hears_no_move, fetches_owe_nothing_again, reads_owe_nothing_again}
 use Rattle.replica_histories.proofs.TransfersQuorums.{no_root}
 
--- ---- a part is given
+-- ---- a part is sent
 
 is_part : (pages : List (List ℕ)) (k : ℕ) (level : Level) (index : ℕ) → IsPart (answer_by pages k level index)
 is_part pages k levels.Root index = tt
@@ -39,20 +39,20 @@ is_part pages k levels.Inner index = tt
 is_part pages k levels.Page index = tt
 
 part_goes : (c : Configuration) (me : ℕ) (s : Start) (desk : Desk) (log : LogData) (due : List Message) (outputs : List Entry) (receivers bytes : List ℕ) (message : Message) (f : Fits c me s desk log due outputs) → IsPart message
-    → IsPosted c me message receivers bytes → IsFor c me (behind s outputs) message receivers → MaySay c me (behind s outputs) (point_of desk f.of_desk.states f.of_desk.ran) (Sent me bytes) bytes message → (Gives me message outputs → ⊥)
+    → IsPosted c me message receivers bytes → IsFor c me (after_outputs s outputs) message receivers → MaySay c me (after_outputs s outputs) (point_of desk f.of_desk.states f.of_desk.ran) (Sent me bytes) bytes message → (SendsMessage me message outputs → ⊥)
     → Fits c me s desk log due (Sent me bytes ∷ outputs)
 part_goes c me s desk log due outputs receivers bytes (Meta k level index digests) f is posted for say none =
     sent_fits c me s desk log log due due outputs bytes receivers (Meta k level index digests) f posted for tt say
     tt
     (takes_nothing c me (Some (record { sender = me; message = Meta k level index digests })) log f.of_log.is_log (λ i w h. refl) (λ i x w h. refl) (λ i x w h. refl) (λ x. refl)) (beside_placed c me log me (Meta k level index digests) tt)
-    refl (no_root c (behind s outputs) bytes me (Meta k level index digests) desk.state.number posted.says refl) (pays_none c me s desk log outputs (Meta k level index digests) bytes posted.says due refl f)
-    (unsent me s (Meta k level index digests) bytes outputs f.says.begins posted.says none) (no_proposal c me (behind s outputs) bytes (Meta k level index digests) posted.says tt)
+    refl (no_root c (after_outputs s outputs) bytes me (Meta k level index digests) desk.state.number posted.says refl) (pays_none c me s desk log outputs (Meta k level index digests) bytes posted.says due refl f)
+    (unsent me s (Meta k level index digests) bytes outputs f.says.begins posted.says none) (no_proposal c me (after_outputs s outputs) bytes (Meta k level index digests) posted.says tt)
 part_goes c me s desk log due outputs receivers bytes (Page k index text) f is posted for say none =
     sent_fits c me s desk log log due due outputs bytes receivers (Page k index text) f posted for tt say
     tt
     (takes_nothing c me (Some (record { sender = me; message = Page k index text })) log f.of_log.is_log (λ i w h. refl) (λ i x w h. refl) (λ i x w h. refl) (λ x. refl)) (beside_placed c me log me (Page k index text) tt)
-    refl (no_root c (behind s outputs) bytes me (Page k index text) desk.state.number posted.says refl) (pays_none c me s desk log outputs (Page k index text) bytes posted.says due refl f)
-    (unsent me s (Page k index text) bytes outputs f.says.begins posted.says none) (no_proposal c me (behind s outputs) bytes (Page k index text) posted.says tt)
+    refl (no_root c (after_outputs s outputs) bytes me (Page k index text) desk.state.number posted.says refl) (pays_none c me s desk log outputs (Page k index text) bytes posted.says due refl f)
+    (unsent me s (Page k index text) bytes outputs f.says.begins posted.says none) (no_proposal c me (after_outputs s outputs) bytes (Page k index text) posted.says tt)
 part_goes c me s desk log due outputs receivers bytes _ f is posted for say none = absurd is
 
 pub parts_fit : PartsFit
@@ -62,11 +62,11 @@ parts_fit c me s desk log due outputs snapshot asker index level bytes has asked
     point : Point
     point = point_of desk f.of_desk.states f.of_desk.ran
 
-    kept : KeptPages c me (behind s outputs) point snapshot.number snapshot.pages
-    kept = snapshots_are_kept c me (behind s outputs) point desk.snapshots snapshot f.of_desk.kept has
+    kept : KeptPages c me (after_outputs s outputs) point snapshot.number snapshot.pages
+    kept = snapshots_are_kept c me (after_outputs s outputs) point desk.snapshots snapshot f.of_desk.kept has
 
-    may : MaySay c me (behind s outputs) point (Sent me bytes) bytes (answer_by snapshot.pages snapshot.number level index) × IsFor c me (behind s outputs) (answer_by snapshot.pages snapshot.number level index) (asker ∷ [])
-    may = let a = answers_may_go c me (behind s outputs) point (Sent me bytes) bytes asker snapshot.number index level snapshot.pages kept asked in (a.0, a.1)
+    may : MaySay c me (after_outputs s outputs) point (Sent me bytes) bytes (answer_by snapshot.pages snapshot.number level index) × IsFor c me (after_outputs s outputs) (answer_by snapshot.pages snapshot.number level index) (asker ∷ [])
+    may = let a = answers_may_go c me (after_outputs s outputs) point (Sent me bytes) bytes asker snapshot.number index level snapshot.pages kept asked in (a.0, a.1)
 
 -- ---- a fetch
 
@@ -103,7 +103,7 @@ other_numbers_owe_none c me desk log past input outputs asker k index executed l
 
 -- ---- a read
 
--- the reply to a body, where that is a read-only request; and whether its operation is a read
+-- the reply to a body, if that is a read-only request; and whether its operation is a read
 abbrev reply_from : State → Body → Option Message
 reply_from st body = elim body.message [ Request t mode op ↦ Some (read_reply st body.sender t op) | _ ↦ None ]
 
@@ -115,8 +115,8 @@ reads_fit c me s desk log due outputs client t op bytes heard_it is none posted 
     sent_fits c me s desk log log due due outputs bytes (client ∷ []) reply f posted refl tt (record { op = op; is_read = is; heard = heard_it; answer_is = refl; number_is = refl })
     tt
     (takes_nothing c me (Some (record { sender = me; message = reply })) log f.of_log.is_log (λ i w h. refl) (λ i x w h. refl) (λ i x w h. refl) (λ x. refl)) (beside_placed c me log me reply tt)
-    refl (no_root c (behind s outputs) bytes me reply desk.state.number posted.says refl) (pays_none c me s desk log outputs reply bytes posted.says due refl f)
-    (unsent me s reply bytes outputs f.says.begins posted.says none) (no_proposal c me (behind s outputs) bytes reply posted.says tt)
+    refl (no_root c (after_outputs s outputs) bytes me reply desk.state.number posted.says refl) (pays_none c me s desk log outputs reply bytes posted.says due refl f)
+    (unsent me s reply bytes outputs f.says.begins posted.says none) (no_proposal c me (after_outputs s outputs) bytes reply posted.says tt)
   where
     reply : Message
     reply = read_reply desk.state client t op
@@ -132,21 +132,21 @@ reads_suffice c me desk log past input outputs client t executed op held hears g
     state_is : desk.state ≡ from
     state_is = sym (ap (λ (p : Point). p.state) held.of_desk.is)
 
-    given_there : Gives me (read_reply from client t op) outputs
-    given_there = subst (λ (st : State). Gives me (read_reply st client t op) outputs) state_is given
+    given_there : SendsMessage me (read_reply from client t op) outputs
+    given_there = subst (λ (st : State). SendsMessage me (read_reply st client t op) outputs) state_is given
 
     -- it is the one read that the input brings
-    each : (k u : ℕ) (other : Operation) → Hears c me (read_from k u other) past input → is_read_only other ≡ true → Gives me (read_reply from k u other) outputs
+    each : (k u : ℕ) (other : Operation) → Hears c me (read_from k u other) past input → is_read_only other ≡ true → SendsMessage me (read_reply from k u other) outputs
     each k u other h is =
         let same : ◌≡◌ {A = Option Message} (reply_from from (read_from client t op)) (reply_from from (read_from k u other)) = ap (reply_from from) (hears_one c me (read_from client t op) (read_from k u other) past input hears h) in
-        subst (λ (m : Message). Gives me m outputs) (some_injective (read_reply from client t op) (read_reply from k u other) same) given_there
+        subst (λ (m : Message). SendsMessage me m outputs) (some_injective (read_reply from client t op) (read_reply from k u other) same) given_there
 
 pub other_operations_owe_none : OtherOperationsOweNone
 other_operations_owe_none c me desk log past input outputs client t executed op held hears not_read =
     let none = others_bring_no_part c me (read_from client t op) past input hears outputs held.of_desk.point executed refl in
     (reads_owe_no_part c me client t op past input outputs held.of_desk.point hears, each, none.0, none.1, reads_owe_nothing_again c me client t op past input outputs held.of_desk.point hears, hears_no_move c me (read_from client t op) past input outputs held.of_desk.point hears refl)
   where
-    each : (k u : ℕ) (other : Operation) → Hears c me (read_from k u other) past input → is_read_only other ≡ true → Gives me (read_reply held.of_desk.point.state k u other) outputs
+    each : (k u : ℕ) (other : Operation) → Hears c me (read_from k u other) past input → is_read_only other ≡ true → SendsMessage me (read_reply held.of_desk.point.state k u other) outputs
     each k u other h is =
         let same : is_read_only_of (read_from client t op) ≡ is_read_only_of (read_from k u other) = ap is_read_only_of (hears_one c me (read_from client t op) (read_from k u other) past input hears h) in
         absurd (let bad : false ≡ true = sym not_read ∙ same ∙ is in cc)

@@ -1,4 +1,4 @@
--- What a log asks for, and has committed, by what is read of it; so a cut log asks for no more.
+-- The votes that a log asks for, and the batches that it has committed, by its answers; so a cut log asks for no more.
 use Rattle.std.proofs.Common.{◌≡◌, ℕ, ◌+◌, ◌*◌, ◌%◌, Bool, true, false, cond, ◌&&◌, not, List, refl, sym, ap, ◌∙◌, Option, Some, None, option_map, is_none}
 use Rattle.std.specs.Prelude.{◌==◌, nat_le}
 use Rattle.std.specs.Option.{option_map_or}
@@ -13,7 +13,7 @@ use Rattle.ordering.proofs.Moving.{cuts_keep}
 use Rattle.replica_histories.specs.Marks.{CutsAskNoMore}
 use Rattle.replica_histories.proofs.Cutting.{cut_same}
 
--- ---- by what is read
+-- ---- by the log's answers
 
 -- a batch of this digest has so many votes
 abbrev has_votes : ℕ → ℕ → (ℕ → Option (List ℕ)) → Option (List ℕ) → Bool
@@ -22,7 +22,7 @@ has_votes faults needed votes batch = option_map_or (λ d. nat_le needed (count_
 abbrev has_own : ℕ → (ℕ → Option (List ℕ)) → Option (List ℕ) → Bool
 has_own me votes batch = option_map_or (λ d. has_digest d (votes me)) (option_map sha256 batch) false
 
--- what is read of a number, at a replica in a view
+-- the log's answers for a number, at a replica in a view
 record Reading : Type 0 where
   pub me : ℕ
   pub faults : ℕ
@@ -77,7 +77,7 @@ committed_read m i = go (logs.is_in_marks m i)
     go true = ap (λ (t : Bool). cond (logs.is_row_prepared m.faults (logs.replicas m) (logs.row_of m i) && t) (logs.row_of m i).batch (logs.row_of m i).decided) (both (logs.row_of m i).batch)
     go false = refl
 
--- ---- readings that are alike
+-- ---- equal answers
 
 record Alike (r t : Reading) : Type 0 where
   pub me : r.me ≡ t.me
@@ -116,7 +116,7 @@ committed_alike r t a =
     )
     refl
 
--- nothing is read
+-- no answers
 none_asked : (r : Reading) → r.batch ≡ None → r.decided ≡ None → (asks_prepare r ≡ None) × (asks_commit r ≡ None) × (has_committed r ≡ None)
 none_asked r none known = (rw none (either_none (r.active && not (r.me == r.view % (3 * r.faults + 1)) && is_none (r.prepares r.me))), rw none (either_none (r.active && false && is_none (r.commits r.me))), rw (none, known) refl)
   where

@@ -1,4 +1,4 @@
--- What is read of the log where a new view begins: the new view's batches, no votes, and what was committed before.
+-- The answers of the log when a new view begins: the new view's batches, no votes, and the batches committed before.
 use Rattle.std.proofs.Common.{◌≡◌, ℕ, suc, ◌-◌, ◌≤◌, ◌<◌, ◌^◌, Bool, true, false, cond, List, [], ◌∷◌, max, Option, Some, None, slice_get, refl, sym, ap, ◌∙◌, subst, arith, eqb-true}
 use Rattle.std.specs.Prelude.{◌==◌, nat_lt}
 use Rattle.std.proofs.lemmas.Bool.{eqb-false, eq-eqb, ne_eqb, ltb-true, ltb-false}
@@ -16,7 +16,7 @@ use Rattle.replica_histories.specs.Views.{with_batches, begun_log}
 use Rattle.replica_histories.proofs.Words.{gated, marks_stay}
 use Rattle.replica_histories.proofs.Cutting.{cut_low, cut_same, cut_at, cut_is_log}
 
--- ---- one batch, where its number is within the marks
+-- ---- one batch, if its number is within the marks
 
 abbrev pub with_one : LogData → ℕ → List ℕ → LogData
 with_one m k batch = cond (logs.is_in_marks m k) (logs.with_batch m k batch) m
@@ -38,7 +38,7 @@ stays_one m k batch is = go (logs.is_in_marks m k) refl
     }
     go false w = record { is_log = is; me = refl; faults = refl; span = refl; view = refl; active = refl; low = refl; checkpoints = refl }
 
--- and is read at its number alone
+-- and changes the answers at its number alone
 one_there : (m : LogData) (k : ℕ) (batch : List ℕ) → IsLog m → logs.is_in_marks m k ≡ true → logs.logged_batch (with_one m k batch) k ≡ Some batch
 one_there m k batch is w = rw w ((batches_are_logged m k k m.me batch is w).0 ∙ rw (eq-eqb k k refl) refl)
 
@@ -49,7 +49,7 @@ one_elsewhere m k i batch is other = go (logs.is_in_marks m k) refl
     go true w = (batches_are_logged m i k m.me batch is w).0 ∙ rw (ne_eqb i k other) refl
     go false w = refl
 
--- no vote changes, nor what was committed
+-- no vote changes, nor a batch that was committed
 one_votes : (m : LogData) (k i s : ℕ) (batch : List ℕ) → IsLog m
     → (logs.prepare_of (with_one m k batch) i s ≡ logs.prepare_of m i s) × (logs.commit_of (with_one m k batch) i s ≡ logs.commit_of m i s)
 one_votes m k i s batch is = go (logs.is_in_marks m k) refl
@@ -86,7 +86,7 @@ batches_stay m k (batch ∷ batches) is =
     let one = stays_one m k batch is in
     stays_on m (with_one m k batch) (with_batches m k (batch ∷ batches)) one (batches_stay (with_one m k batch) (suc k) batches one.is_log)
 
--- below the number nothing is read otherwise
+-- below the number no answer changes
 batches_above : (m : LogData) (k i : ℕ) (batches : List (List ℕ)) → IsLog m → i < k → logs.logged_batch (with_batches m k batches) i ≡ logs.logged_batch m i
 batches_above m k i [] is l = refl
 batches_above m k i (batch ∷ batches) is l =
@@ -140,7 +140,7 @@ batches_decided m k i (batch ∷ batches) is w =
     let one = stays_one m k batch is in
     batches_decided (with_one m k batch) (suc k) i batches one.is_log (marks_stay m (with_one m k batch) i one ∙ w) ∙ one_decided m k i batch is w
 
--- ---- the log where a new view begins
+-- ---- the log when a new view begins
 
 module _ (log : LogData) (new : NewViewData) (is : IsLog log) (small : new.start < 2 ^ 48) where
   abbrev in_view : LogData
@@ -207,7 +207,7 @@ module _ (log : LogData) (new : NewViewData) (is : IsLog log) (small : new.start
       (batches_votes cut (suc new.start) i s new.batches cut_is).1 ∙ (cuts_keep in_view new.start i s in_view_is_log).2
       ∙ gated (logs.is_in_marks cut i) (logs.commit_of in_view i s) (committed_stay log new.view i s is).2
 
-  -- and it has what was committed
+  -- and it has the batch that was committed
   pub begun_decided : (i : ℕ) → logs.is_in_marks (begun_log log new) i ≡ true → (logs.row_of (begun_log log new) i).decided ≡ logs.committed_batch log i
   begun_decided i w =
       batches_decided cut (suc new.start) i new.batches cut_is (within_cut i w) ∙ (cuts_keep in_view new.start i log.me in_view_is_log).3 (within_cut i w) ∙ go (logs.is_in_marks log i) refl

@@ -1,5 +1,5 @@
--- The log where a new view begins is that of the longer history: the new view's batches are logged, nobody has voted, and
--- of the earlier views what was committed is known.
+-- The log when a new view begins fits the longer history: the new view's batches are logged, nobody has voted, and the
+-- batches that were committed in earlier views are known.
 use Rattle.std.proofs.Common.{◌≡◌, ℕ, suc, ◌+◌, ◌-◌, ◌*◌, ◌≤◌, ◌<◌, ◌^◌, ◌⊎◌, inl, inr, Bool, true, false, cond, List, [], ◌∷◌, Option, Some, None, slice_get, slice_index_or, refl, sym, ap, ◌∙◌, subst, arith, eq-eqb, eqb-true}
 use Rattle.std.specs.Prelude.{◌==◌, nat_le, nat_lt, option_and_then, bytes_eq, ◌&&◌, ⊤}
 use Rattle.std.specs.List.{list_any}
@@ -34,7 +34,7 @@ use Rattle.replica_histories.proofs.Batches.{begun_is_log, begun_me, begun_fault
 
 -- ---- an entry that brings a view change or a new view
 
--- It proposes nothing on its own, casts no vote, brings no checkpoint and installs nothing.
+-- It alone proposes nothing, casts no vote, brings no checkpoint and installs nothing.
 pub record Still (c : Configuration) (me : ℕ) (past : List Entry) (e : Entry) : Type 0 where
   pub batch : (v i : ℕ) → entry_proposal c me past e v i ≡ None
   pub prepare : (v i s : ℕ) → vote_in c me past e (prepare_from c s v i) v i ≡ None
@@ -99,7 +99,7 @@ module _ (c : Configuration) (me : ℕ) (past : List Entry) (e : Entry) (q : Sti
   unfolding checkpoints_of
   still_checkpoints s = ap (λ (o : Option (ℕ × CheckpointEntry)). with_checkpoint s o (checkpoints_of c past s)) q.checkpoint
 
-  -- what is prepared or committed behind it, and was logged, was so before
+  -- a batch that is prepared or committed after it, and was logged, was so before
   pub still_prepared : (v i : ℕ) (batch : List ℕ) → logged c me past v i ≡ Some batch → Prepared c me (e ∷ past) v i batch → Prepared c me past v i batch
   still_prepared v i batch was p = record {
     logged = was;
@@ -115,9 +115,9 @@ module _ (c : Configuration) (me : ℕ) (past : List Entry) (e : Entry) (q : Sti
     own = sym (still_commit v i me) ∙ k.own;
   }
 
--- ---- a new view that is taken, or sent
+-- ---- a new view that the replica takes or sends
 
--- it starts at a number, as its view changes list checkpoints of numbers alone
+-- it starts at a number, since its view changes list checkpoints of numbers alone
 pub start_small : (c : Configuration) (new : NewViewData) → may_select c new ≡ true → new.start < 2 ^ 48
 start_small c new h =
     let s = selects c new h in
@@ -167,7 +167,7 @@ module _ (c : Configuration) (me : ℕ) (log : LogData) (past : List Entry) (e :
   begun_start : new.start ≤ begun.low
   begun_start = let is = begun_low log new f.is_log new_small in omega arith
 
-  -- what it proposes is for its view, within the marks behind it
+  -- its proposals are for its view, within the marks after it
   proposed : (v i : ℕ) (batch : List ℕ) → proposal c me past e v i ≡ Some batch → (v ≡ new.view) × (logs.is_in_marks begun i ≡ true)
   proposed v i batch h = go (or_else_cases (begun_proposal c me past e v i) (entry_proposal c me past e v i) batch h)
     where
@@ -185,7 +185,7 @@ module _ (c : Configuration) (me : ℕ) (log : LogData) (past : List Entry) (e :
       go (inl k) = inl k
       go (inr k) = inr (proposed v i batch k)
 
-  -- in an earlier view nothing is logged
+  -- in an earlier view it logs nothing
   pub logged_before : (v i : ℕ) (batch : List ℕ) → v < new.view → logged c me (e ∷ past) v i ≡ Some batch → logged c me past v i ≡ Some batch
   logged_before v i batch l h = go (logged_cases v i batch h)
     where
@@ -193,7 +193,7 @@ module _ (c : Configuration) (me : ℕ) (log : LogData) (past : List Entry) (e :
       go (inl k) = k
       go (inr k) = let same = k.0 in absurd (omega arith)
 
-  -- and in its own nothing was
+  -- and in its own no batch was logged
   none_logged : (i : ℕ) → logged c me past new.view i ≡ None
   none_logged i = go (logged c me past new.view i) refl
     where

@@ -1,4 +1,4 @@
--- What is prepared and committed in a log is so in the history that it fits, and the other way round.
+-- A batch that is prepared or committed in a log is so in the history that it fits, and the other way round.
 use Rattle.std.proofs.Common.{◌≡◌, ℕ, ◌+◌, ◌*◌, ◌≤◌, ◌<◌, ◌^◌, ◌≢◌, Bool, true, false, cond, ◌&&◌, List, refl, sym, ap, ◌∙◌, subst, arith, Option, Some, None, option_map}
 use Rattle.std.specs.Prelude.{nat_le, nat_lt, ◌==◌}
 use Rattle.std.specs.Option.{option_map_or}
@@ -28,7 +28,7 @@ active_view c me log past v f a = sym (eqb-true (view c past) v (and_parts (view
 pub active_log : (c : Configuration) (me : ℕ) (log : LogData) (past : List Entry) (v : ℕ) → FitsLog c me log past → is_active_in c past v ≡ true → log.active ≡ true
 active_log c me log past v f a = sym (active c me log past f) ∙ subst (λ (x : ℕ). is_active_in c past x ≡ true) (active_view c me log past v f a) a
 
--- ---- certificates that are alike
+-- ---- equal certificates
 
 -- two histories log and count the same for a view and number
 pub record Same (c : Configuration) (me : ℕ) (later past : List Entry) (v i : ℕ) : Type 0 where
@@ -58,7 +58,7 @@ same_turned c me later past v i same = record { logged = sym same.logged; prepar
 
 -- ---- counts
 
--- a count in the log, of as many replicas as the configuration has
+-- a count in the log, over as many replicas as the configuration has
 counted : (c : Configuration) (log : LogData) (n : ℕ → ℕ) (digest : List ℕ) (votes : List Vote) (read : ℕ → Option (List ℕ)) → log.faults ≡ c.faults → ((s : ℕ) → read s ≡ vote_of votes s)
     → nat_le (n log.faults) (voters (logs.replicas log) digest votes) ≡ nat_le (n c.faults) (count_below (λ s. has_digest digest (read s)) (replicas c))
 counted c log n digest votes read e same =
@@ -67,7 +67,7 @@ counted c log n digest votes read e same =
 
 -- ---- prepared
 
--- a number within the marks has a batch that is prepared
+-- a number within the marks has a prepared batch
 pub record PreparedIn (log : LogData) (i : ℕ) (batch : List ℕ) : Type 0 where
   pub within : logs.is_in_marks log i ≡ true
   pub row : (logs.row_of log i).batch ≡ Some batch
@@ -110,13 +110,13 @@ prepared_here c me log past i batch f p = record {
       (sym (counted c log (λ n. 2 * n) (sha256 batch) (logs.row_of log i).prepares (prepare_of c me past log.view i) f.faults (λ s. prepare_read c me log past i s f p.within)) ∙ p.backups);
 }
 
--- what is logged above the low mark is in the marks
+-- a number above the low mark with a logged batch is in the marks
 pub logged_within : (c : Configuration) (me : ℕ) (log : LogData) (past : List Entry) (v i : ℕ) (batch : List ℕ) → FitsLog c me log past → log.low < i → logged c me past v i ≡ Some batch → logs.is_in_marks log i ≡ true
 logged_within c me log past v i batch f above h =
     let w = f.within v i batch h in
     and_from (nat_lt log.low i && nat_le i (log.low + log.span)) (nat_lt i (2 ^ 48)) (and_from (nat_lt log.low i) (nat_le i (log.low + log.span)) (lt-ltb log.low i above) (le-leb i (log.low + log.span) w.ahead.0)) (lt-ltb i (2 ^ 48) w.ahead.1)
 
--- what is prepared above it in the history, in the view of the log, is so in the log
+-- a batch that is prepared above the low mark in the history, in the view of the log, is so in the log
 pub prepared_there : (c : Configuration) (me : ℕ) (log : LogData) (past : List Entry) (i : ℕ) (batch : List ℕ) → FitsLog c me log past → log.low < i → Prepared c me past log.view i batch → PreparedIn log i batch
 prepared_there c me log past i batch f above p = record {
   within = w;
@@ -156,7 +156,7 @@ row_committed_here c me log past i batch f within is batch_is = record {
       backups = subst (λ (o : Option (List ℕ)). option_map_or (λ (digest : List ℕ). nat_le (2 * log.faults) (voters (logs.replicas log) digest (logs.row_of log i).prepares)) (option_map sha256 o) false ≡ true) batch_is row.0;
     }
 
--- what a log has committed was committed in its view, or in an earlier one
+-- a batch that a log has committed was committed in its view, or in an earlier one
 pub committed_here : (c : Configuration) (me : ℕ) (log : LogData) (past : List Entry) (i : ℕ) (batch : List ℕ) → FitsLog c me log past → logs.committed_batch log i ≡ Some batch
     → (v : ℕ) × Committed c me past v i batch
 committed_here c me log past i batch f h = go (logs.is_row_committed log.faults (logs.replicas log) log.me (logs.row_of log i)) refl given.1
@@ -192,7 +192,7 @@ committed_in_view c me log past i batch f above k = rw (p.within, is) p.row
 ne_lt : (a b : ℕ) → a ≤ b → a ≢ b → a < b
 ne_lt a b l n = omega arith
 
--- what is committed above the low mark in the history, in any view, is so in the log
+-- a batch that is committed above the low mark in the history, in any view, is so in the log
 pub committed_there : (c : Configuration) (me : ℕ) (log : LogData) (past : List Entry) (v i : ℕ) (batch : List ℕ) → FitsLog c me log past → log.low < i → Committed c me past v i batch
     → (known : List ℕ) × (logs.committed_batch log i ≡ Some known)
 committed_there c me log past v i batch f above k = go (v == log.view) refl
@@ -200,7 +200,7 @@ committed_there c me log past v i batch f above k = go (v == log.view) refl
     within : logs.is_in_marks log i ≡ true
     within = logged_within c me log past v i batch f above k.prepared.logged
 
-    -- where the row has a batch committed in the view it is that one, else the earlier one
+    -- if the row has a batch committed in the view it is that one, else the earlier one
     known : (b : Bool) → logs.is_row_committed log.faults (logs.replicas log) log.me (logs.row_of log i) ≡ b → (d : List ℕ) → (logs.row_of log i).decided ≡ Some d → (x : List ℕ) × (cond b (logs.row_of log i).batch (logs.row_of log i).decided ≡ Some x)
     known true is d e = let p = row_prepared log i (and_parts (logs.is_row_prepared log.faults (logs.replicas log) (logs.row_of log i)) _ is).0 in (p.0, p.1)
     known false is d e = (d, e)

@@ -1,4 +1,4 @@
--- Which entries bring nothing about for changes of the view, and which view changes are signed.
+-- Which entries change no view-change data, and which view changes are signed.
 use Rattle.std.proofs.Common.{◌≡◌, ◌≢◌, ℕ, ◌≤◌, ◌<◌, Bool, true, false, ◌&&◌, List, ◌∷◌, Option, Some, None, refl, sym, ap, ◌∙◌, subst, arith, eqb-true}
 use Rattle.std.specs.Prelude.{◌==◌, option_and_then, ⊤}
 use Rattle.std.specs.Bool.{then_some}
@@ -36,9 +36,9 @@ use Rattle.replica_histories.proofs.ChangesPassing.{commit_quiet, changes_noted}
 use Rattle.replica_histories.proofs.OwnCheckpoints.{IsNoLater, none_later, got_later, sent_later}
 use Rattle.replica_histories.proofs.Leaves.{unsigned_sends_none}
 
--- ---- what is said again
+-- ---- messages that are sent again
 
--- of a checkpoint nothing is asked
+-- a checkpoint needs no condition
 abbrev pub IsNoViewNews : Configuration → ℕ → List Entry → Message → Type 0
 IsNoViewNews c me past (Checkpoint k root) = ⊤
 IsNoViewNews c me past message = IsNoNews c me past message
@@ -113,13 +113,13 @@ sent_keep c me past message bytes says news again = record {
   checkpoint = sent_later c me past bytes message says (no_later_checkpoint c me past message news);
 }
 
--- an own checkpoint that is new
+-- the replica's own checkpoint that is new
 pub checkpoints_are_noted : CheckpointsAreNoted
 checkpoints_are_noted c me past log after x claims entry bytes p same says latest cuts f =
     changes_noted c me past (Sent me bytes) log after x claims (Some entry) p same
     (sent_views c me past (Checkpoint entry.number entry.digest) bytes says tt (λ signed. absurd cc)) latest cuts f
 
--- ---- what brings nothing
+-- ---- entries that change nothing
 
 nothing_keeps : (c : Configuration) (me : ℕ) (past : List Entry) (e : Entry) → brought c e ≡ None → change_sent e ≡ 0 → ((s : ℕ) → latest_change c (e ∷ past) s ≡ latest_change c past s) → ((sent : List ℕ) → SendsBytes sent past e → ⊥) → KeepsChanges c me past e
 nothing_keeps c me past e nothing still changes sends = record {
@@ -146,14 +146,14 @@ silent_keep c me past (Got x y) h = absurd h
 silent_keep c me past (Sent x y) h = absurd h
 silent_keep c me past (Accepted x y z) h = absurd h
 
--- ---- what is got
+-- ---- received bytes
 
--- what a number that is free gets
+-- the batch that a free number gets
 logged_new : (c : Configuration) (me v i : ℕ) (batch : List ℕ) (past : List Entry) (e : Entry) → logged c me past v i ≡ None → proposal c me past e v i ≡ Some batch → logged c me (e ∷ past) v i ≡ Some batch
 unfolding logged
 logged_new c me v i batch past e free h = or_else_second (logged c me past v i) (proposal c me past e v i) free ∙ h
 
--- what is heard is no own commit
+-- received bytes are no commit of the replica's own
 not_own : (me v i sender : ℕ) (message : Message) → sender ≢ me → commit_from me v i (record { sender = sender; message = message }) ≡ None
 not_own me v i sender (Commit w j digest) other = rw (ne_eqb sender me other) refl
 not_own me v i sender _ other = refl
@@ -240,7 +240,7 @@ heard_are_signed c me s vc bytes h = (signed, heard_other c me bytes (record { s
     signed : signed_change c bytes ≡ Some (s, vc)
     signed = ap (option_and_then change_in) (heard_was_signed (members c) me bytes (record { sender = s; message = ViewChange vc }) h refl)
 
--- what is sealed as it is to be, and signed, has its sender's signature
+-- a frame that is sealed as it has to be, and signed, has its sender's signature
 sealed_signed : (c : Configuration) (body : Body) (a : Authenticator) → authenticator_is_signed a ≡ true → IsSealed c (record { body = body; authenticator = a }) → has_signature c.seed (record { body = body; authenticator = a }) ≡ true
 sealed_signed c body (macs entries) h well = absurd cc
 sealed_signed c body (signature s) h well = well

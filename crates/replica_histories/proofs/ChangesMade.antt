@@ -1,4 +1,4 @@
--- What a replica holds for changes of its view where a view change is sent or taken, and where a new view begins its view.
+-- A replica's view-change data after it sends or takes a view change, and after a new view begins its view.
 use Rattle.std.proofs.Common.{◌≡◌, ◌≢◌, ℕ, suc, ◌+◌, ◌-◌, ◌≤◌, ◌<◌, ◌^◌, ◌⊎◌, inl, inr, Bool, true, false, cond, List, [], ◌∷◌, length, Option, Some, None, slice_get, refl, sym, ap, ◌∙◌, subst, arith, eqb-true}
 use Rattle.std.specs.Prelude.{◌==◌, option_and_then}
 use Rattle.std.specs.Option.{option_map_or}
@@ -192,7 +192,7 @@ module _ (m : LogData) (v : ℕ) where
 
 -- ---- a new view begins
 
--- no new view that was taken is of a later view
+-- no new view that the replica took is of a later view
 taken_at_most : (c : Configuration) (new : NewViewData) (past : List Entry) → Once (λ past e. taken c past e ≡ Some new) past → new.view ≤ view c past
 taken_at_most c new [] h = absurd h
 taken_at_most c new (e ∷ past) (inl h) = let is = (takes c 0 past e new h).view_is in omega arith
@@ -299,7 +299,7 @@ views_are_begun c me past e log x new frame claims s spent p t brings begins own
     own_begins None other mine = absurd (other mine)
     own_begins (Some text) k mine = inr (text, refl)
 
--- a new view that is got is of another primary
+-- a received new view is of another primary
 pub not_mine : (c : Configuration) (me : ℕ) (past : List Entry) (s : ℕ) (new : NewViewData) (bytes : List ℕ) → heard (members c) me bytes ≡ Some (record { sender = s; message = NewView new }) → taken c past (Got me bytes) ≡ Some new
     → primary c new.view ≢ me
 not_mine c me past s new bytes h t mine = go (s == primary c new.view) refl

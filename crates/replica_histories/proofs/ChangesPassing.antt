@@ -1,5 +1,4 @@
--- What a replica holds for changes of its view stays where an entry brings nothing about, and claims what is logged and
--- committed.
+-- A replica's view-change data stay if an entry changes nothing, and claim each batch that is logged or committed.
 use Rattle.std.proofs.Common.{◌≡◌, ◌≢◌, ℕ, zero, suc, ◌+◌, ◌^◌, ◌⊎◌, inl, inr, Bool, true, false, cond, ◌&&◌, List, [], ◌∷◌, length, filter, replicate, Option, Some, None, is_none, refl, sym, ap, ◌∙◌, subst, arith, eq-eqb}
 use Rattle.std.specs.Prelude.{◌==◌, nat_lt, nat_le, option_and_then}
 use Rattle.std.specs.Bool.{then_some}
@@ -91,7 +90,7 @@ claims_are_above c me log history claims f fits = record {
     at : (i : ℕ) → is_in_marks c (low c me history) i ≡ true → nat_lt log.low i ≡ true
     at i k = subst (λ (h : ℕ). nat_lt h i ≡ true) f.low (over_low c (low c me history) i k)
 
--- claims grow at an entry that is passed
+-- claims grow at an entry
 pub claims_pass : (c : Configuration) (me : ℕ) (past : List Entry) (e : Entry) (log after : LogData) (claims new : ClaimsData) (commits batches : List Claim) → Passes c me past e log after
     → Adds (SaidCommit c me past) (SaidCommit c me (e ∷ past)) (is_in_marks c (low c me (e ∷ past))) commits
     → Adds (IsLoggedAs c me past) (IsLoggedAs c me (e ∷ past)) (is_in_marks c (low c me (e ∷ past))) batches
@@ -106,7 +105,7 @@ claims_pass c me past e log after claims new commits batches p says logs_it prep
       logged = logged ∙ ap (λ (h : ℕ). with_all with_logged batches (above_mark h claims.logged)) (sym p.fits_behind.low);
     }) texts f
 
--- ---- what stays
+-- ---- data that stay
 
 pub begun_before : (c : Configuration) (past : List Entry) (e : Entry) (new : NewViewData) → taken c past e ≡ None → Once (λ past e. taken c past e ≡ Some new) (e ∷ past)
     → Once (λ past e. taken c past e ≡ Some new) past
@@ -186,7 +185,7 @@ logs_nothing c me past e sender message none brings other v i = logged_same c me
     let bad : true ≡ false = ap is_pre_prepare (sym (ap (λ (b : Body). b.message) same ∙ s.2)) ∙ other in
     cc)
 
--- no own commit
+-- no commit of the replica's own
 pub commit_quiet : (c : Configuration) (me : ℕ) (past : List Entry) (e : Entry) (v i : ℕ) → option_and_then (commit_from me v i) (brought c e) ≡ None → commit_of c me (e ∷ past) v i me ≡ commit_of c me past v i me
 unfolding commit_of
 commit_quiet c me past e v i none =
@@ -209,7 +208,7 @@ changes_nothing c past (Executed x y z) body s h none = omega arith
 changes_nothing c past (Installed x y z) body s h none = omega arith
 changes_nothing c past (Accepted x y z) body s h none = omega arith
 
--- no view change of the own
+-- no view change of the replica's own
 pub sends_none : (c : Configuration) (e : Entry) (sender : ℕ) (message : Message) → brought c e ≡ Some (record { sender = sender; message = message }) → change_from (record { sender = sender; message = message }) ≡ 0 → change_sent e ≡ 0
 sends_none c (Sent p bytes) sender message h none = ap (λ (o : Option Body). option_map_or change_from o 0) h ∙ none
 sends_none c (Got p bytes) sender message h none = refl
@@ -219,7 +218,7 @@ sends_none c (Executed x y z) sender message h none = refl
 sends_none c (Installed x y z) sender message h none = refl
 sends_none c (Accepted x y z) sender message h none = refl
 
--- ---- the own commit
+-- ---- the replica's own commit
 
 commit_new : (c : Configuration) (me : ℕ) (past : List Entry) (e : Entry) (v i : ℕ) (digest : List ℕ) → commit_of c me past v i me ≡ None → vote_in c me past e (commit_from me v i) v i ≡ Some digest
     → commit_of c me (e ∷ past) v i me ≡ Some digest

@@ -1,4 +1,4 @@
--- A replica leaves its view by a view change, and what is said of views again changes nothing.
+-- A replica leaves its view by a view change. What it sends again for views changes nothing.
 use Rattle.std.proofs.Common.{◌≡◌, ℕ, ◌≤◌, ◌<◌, ◌⊎◌, inl, inr, Bool, true, false, cond, List, [], ◌∷◌, map, reverse, Option, Some, None, refl, sym, ap, ◌∙◌, subst, arith}
 use mathlib.Core.List.{reverse_aux}
 use Rattle.std.specs.Prelude.{◌==◌, suc, nat_le, nat_lt, option_and_then, ◌&&◌}
@@ -24,7 +24,7 @@ use Rattle.protocol.proofs.Agreement.Executing.{commit_stays, committed_later}
 use Rattle.protocol.proofs.Words.Posting.{leaf_signs_once}
 use Rattle.replica_histories.specs.Desk.{Desk, snapshot_of, point_of}
 use Rattle.replica_histories.specs.Logs.{above_mark, FitsLog, IsVoted}
-use Rattle.replica_histories.specs.Events.{Start, behind, IsReached, IsFetched, Fits}
+use Rattle.replica_histories.specs.Events.{Start, after_outputs, IsReached, IsFetched, Fits}
 use Rattle.replica_histories.specs.Views.{entry_of, entries_of, ViewChangesFit, ViewChangesGoAgain, NewViewsGoAgain, ViewChangesCount}
 use Rattle.replica_histories.proofs.Certified.{active, prepared_there}
 use Rattle.replica_histories.proofs.Settling.{own_commit, voted_goes}
@@ -59,8 +59,8 @@ module _ (c : Configuration) (me : ℕ) (log : LogData) (past : List Entry) (e :
       let was = f.low in
       omega arith
 
-  -- The log is that of the longer history, but for whether the replica is active there; where it leaves, all that is
-  -- prepared has the own commit.
+  -- The log fits the longer history, except perhaps for whether the replica is active there. If it leaves, each
+  -- prepared batch has its own commit.
   module _ (active : Bool) (is_active : nat_le (target (e ∷ past)) log.view ≡ active) (was_active : active ≡ true → log.active ≡ true) (none_due : active ≡ false → (i : ℕ) → logs.due_commit log i ≡ None) where
     abbrev after : LogData
     after = record log { active = active }
@@ -122,7 +122,7 @@ module _ (c : Configuration) (me : ℕ) (log : LogData) (past : List Entry) (e :
       latest = f.latest;
     }
 
--- ---- where the low mark is reached
+-- ---- the low mark is reached
 
 pub fetched_later : (mark : ℕ) (due : List Message) (e : Entry) (past : List Entry) → IsFetched mark due past → IsFetched mark due (e ∷ past)
 fetched_later mark due e past (inl l) = inl (omega arith)
@@ -133,7 +133,7 @@ pub same_reached : (c : Configuration) (me : ℕ) (past : List Entry) (e : Entry
 same_reached c me past e q none mark number due (inl l) = inl l
 same_reached c me past e q none mark number due (inr h) = inr (fetched_later mark due e past h.0, λ v batch k. h.1 v batch (same_committed c me past e q none v (suc number) batch k))
 
--- ---- what a view change lists of kept states
+-- ---- how a view change lists kept states
 
 turned_mapped : (xs ys : List State) → map checkpoint_of (reverse_aux xs ys) ≡ reverse_aux (map checkpoint_of xs) (map checkpoint_of ys)
 turned_mapped [] ys = refl
@@ -165,7 +165,7 @@ view_changes_fit c me s desk log due outputs vc bytes none_due change posted lea
     (pays_none c me s desk log outputs (ViewChange vc) bytes posted.says due refl f) (no_proposal c me past bytes (ViewChange vc) posted.says tt)
   where
     past : List Entry
-    past = behind s outputs
+    past = after_outputs s outputs
 
     e : Entry
     e = Sent me bytes
@@ -192,13 +192,13 @@ view_changes_fit c me s desk log due outputs vc bytes none_due change posted lea
       reason = change.reason;
     }
 
--- ---- what goes again
+-- ---- messages that are sent again
 
 each_self : {A : Type 0} (P : A → Type 0) (xs : List A) → ((x : A) → Has (λ y. y ≡ x) xs → P x) → Each P xs
 each_self P [] f = tt
 each_self P (x ∷ xs) f = (f x (inl refl), each_self P xs (λ y has. f y (inr has)))
 
--- what was sent before carries nothing that was not seen
+-- a message that was sent before carries only frames that were seen
 pub seen_again : (me : ℕ) (message : Message) (bytes : List ℕ) (past : List Entry) → said bytes ≡ Some (record { sender = me; message = message }) → SentBefore bytes past
     → Each (λ frame. Once (HasSeen frame) past) (carried message)
 seen_again me message bytes past says before =
@@ -217,11 +217,11 @@ seen_again me message bytes past says before =
     seen frame has earlier (Installed x y z) h = absurd h
     seen frame has earlier (Accepted x y z) h = absurd h
 
--- a frame that was sent before has its leaf still
-leaf_again : (c : Configuration) (me : ℕ) (s : Start) (desk : Desk) (log : LogData) (due : List Message) (outputs : List Entry) (bytes : List ℕ) (f : Fits c me s desk log due outputs) → SentBefore bytes (behind s outputs)
-    → HasOwnLeaf bytes (behind s outputs)
+-- a frame that was sent before still has its leaf
+leaf_again : (c : Configuration) (me : ℕ) (s : Start) (desk : Desk) (log : LogData) (due : List Message) (outputs : List Entry) (bytes : List ℕ) (f : Fits c me s desk log due outputs) → SentBefore bytes (after_outputs s outputs)
+    → HasOwnLeaf bytes (after_outputs s outputs)
 leaf_again c me s desk log due outputs bytes f before leaf sent is was earlier =
-    leaf_signs_once c me leaf sent bytes was is (behind s outputs) (point_of desk f.of_desk.states f.of_desk.ran)
+    leaf_signs_once c me leaf sent bytes was is (after_outputs s outputs) (point_of desk f.of_desk.states f.of_desk.ran)
     (steps_leave c me s outputs (point_of desk f.of_desk.states f.of_desk.ran) f.of_desk.leaves f.of_desk.steps) earlier before
 
 pub view_changes_go_again : ViewChangesGoAgain
@@ -234,7 +234,7 @@ view_changes_go_again c me s desk log due outputs vc bytes left last before fres
     (pays_none c me s desk log outputs (ViewChange vc) bytes posted.says due refl f) (no_proposal c me past bytes (ViewChange vc) posted.says tt)
   where
     past : List Entry
-    past = behind s outputs
+    past = after_outputs s outputs
 
     e : Entry
     e = Sent me bytes
@@ -260,7 +260,7 @@ new_views_go_again c me s desk log due outputs new bytes is_active own primary_i
     (pays_none c me s desk log outputs (NewView new) bytes posted.says due refl f) (no_proposal c me past bytes (NewView new) posted.says tt)
   where
     past : List Entry
-    past = behind s outputs
+    past = after_outputs s outputs
 
     e : Entry
     e = Sent me bytes

@@ -1,5 +1,5 @@
--- The checkpoints of a history: of each sender the latest, nothing stable above the low mark, and the own ones said of
--- executed states.
+-- The checkpoints of a history: the latest of each sender, nothing stable above the low mark, and the replica's own,
+-- which it sent of executed states.
 use Rattle.std.proofs.Common.{◌≡◌, ℕ, ◌+◌, ◌*◌, ◌≤◌, ◌<◌, ◌⊎◌, inl, inr, Bool, true, false, cond, ◌&&◌, List, [], ◌∷◌, Option, Some, None, refl, sym, ap, ◌∙◌, subst, arith, eq-eqb}
 use Rattle.std.specs.Bool.{then_some}
 use Rattle.std.specs.Prelude.{◌==◌, nat_le, nat_lt, option_and_then, ◌%◌}
@@ -39,13 +39,13 @@ unfolding checkpoints_of
 latest_of c [] s = none_latest
 latest_of c (e ∷ past) s = behind_latest s (checkpoint_in c e) (checkpoints_of c past s) (latest_of c past s)
 
--- ---- what is stable
+-- ---- stable checkpoints
 
--- by the checkpoints that are held of each sender
+-- by the stored checkpoints of each sender
 abbrev pub is_stable_by : Configuration → ℕ → (ℕ → List CheckpointEntry) → CheckpointEntry → Bool
 is_stable_by c me held entry = is_quorum c (count_below (λ s. says_checkpoint entry (held s)) (replicas c)) && says_checkpoint entry (held me)
 
--- where each sender's say no less, it is stable too
+-- if each sender's checkpoints say no less, it is stable too
 stable_more : (c : Configuration) (me : ℕ) (held more : ℕ → List CheckpointEntry) (m : CheckpointEntry) → ((s : ℕ) → says_checkpoint m (held s) ≡ true → says_checkpoint m (more s) ≡ true)
     → is_stable_by c me held m ≡ true → is_stable_by c me more m ≡ true
 stable_more c me held more m grows h =
@@ -55,7 +55,7 @@ stable_more c me held more m grows h =
     and_from (is_quorum c (count_below (λ s. says_checkpoint m (more s)) (replicas c))) (says_checkpoint m (more me))
     (le-leb (2 * c.faults + 1) (count_below (λ s. says_checkpoint m (more s)) (replicas c)) (omega arith)) (grows me p.1)
 
--- of a number above the mark what is above it says all
+-- for a number above the mark the checkpoints above the mark decide
 pub stable_above : (c : Configuration) (me low : ℕ) (held other : ℕ → List CheckpointEntry) (m : CheckpointEntry) → low < m.number → ((s : ℕ) → above_mark low (held s) ≡ above_mark low (other s))
     → is_stable_by c me held m ≡ is_stable_by c me other m
 stable_above c me low held other m l same =
@@ -65,7 +65,7 @@ stable_above c me low held other m l same =
     says_same : (s : ℕ) → says_checkpoint m (held s) ≡ says_checkpoint m (other s)
     says_same s = sym (says_above low m (held s) l) ∙ ap (says_checkpoint m) (same s) ∙ says_above low m (other s) l
 
--- what an entry makes stable it brings
+-- an entry that makes a checkpoint stable brings it
 abbrev is_this : CheckpointEntry → Option (ℕ × CheckpointEntry) → Bool
 is_this m o = option_map_or (λ x. is_checkpoint m x.1) o false
 
@@ -109,7 +109,7 @@ stable_are_low c me (e ∷ past) m h = go (stable_before c me m e past h) (stabl
 
 -- ---- in the log
 
--- what is stable in a log that has the same checkpoints above its mark
+-- a checkpoint that is stable in a log with the same checkpoints above its mark
 pub log_stable : (c : Configuration) (me : ℕ) (log : LogData) (history : List Entry) (m : CheckpointEntry) → log.faults ≡ c.faults → log.me ≡ me → log.low < m.number
     → ((s : ℕ) → above_mark log.low (checkpoints_of c history s) ≡ above_mark log.low (logs.checkpoints_of log s)) → is_stable c me history m ≡ logs.is_stable log m
 log_stable c me log history m faults own l same =
@@ -117,7 +117,7 @@ log_stable c me log history m faults own l same =
     ∙ ap (λ (x : ℕ). is_stable_by c x (logs.checkpoints_of log) m) (sym own)
     ∙ ap (λ (f : ℕ). nat_le (2 * f + 1) (count_below (λ s. says_checkpoint m (logs.checkpoints_of log s)) (3 * f + 1)) && says_checkpoint m (logs.checkpoints_of log log.me)) (sym faults)
 
--- the log counts what the history does above the mark
+-- the log counts as the history does above the mark
 pub quorum_counted : (c : Configuration) (log : LogData) (history : List Entry) (m : CheckpointEntry) → log.faults ≡ c.faults → log.low < m.number
     → ((s : ℕ) → above_mark log.low (checkpoints_of c history s) ≡ above_mark log.low (logs.checkpoints_of log s)) → is_quorum c (count_checkpoints c history m) ≡ nat_le (2 * log.faults + 1) (logs.count_checkpoints log m)
 quorum_counted c log history m faults l same =
@@ -138,7 +138,7 @@ stable_are_cut c me log history m f h = go (nat_lt log.low m.number) refl
         let same = f.low in
         omega arith
 
--- ---- the own checkpoints were said
+-- ---- the replica sent its own checkpoints
 
 abbrev pub checking : ℕ → ℕ → List ℕ → Body
 checking s k root = record { sender = s; message = Checkpoint k root }
@@ -175,7 +175,7 @@ own_said c me m history point leaves h =
 
 -- ---- of executed states
 
--- a snapshot is never given up
+-- a snapshot is never removed from the point
 snapshots_stay : (c : Configuration) (me : ℕ) (P : State → Type 0) (past : List Entry) (e : Entry) (old new : Point) → May c me past old e → Moves c me past old e new → Has P old.snapshots → Has P new.snapshots
 snapshots_stay c me P past (Got p bytes) old new may moves h = subst (λ (q : Point). Has P q.snapshots) (sym moves) h
 snapshots_stay c me P past (Tick p) old new may moves h = subst (λ (q : Point). Has P q.snapshots) (sym moves) h
@@ -189,7 +189,7 @@ snapshots_stay c me P past (Installed p k root) old new may moves h = subst (Has
 snapshots_stay c me P past (Invoke x y z) old new may moves h = absurd may
 snapshots_stay c me P past (Accepted x y z) old new may moves h = absurd may
 
--- so what may be said as a checkpoint stays so
+-- so a checkpoint that may be sent stays so
 pub checkpoint_stays : (c : Configuration) (me k : ℕ) (root : List ℕ) (past : List Entry) (e : Entry) (old new : Point) → IsStep c me past old e new → MayCheckpoint c past old k root → MayCheckpoint c (e ∷ past) new k root
 checkpoint_stays c me k root past e old new step h =
     record { multiple = h.multiple; executed = inr h.executed; state = snapshots_stay c me (λ st. (st.number ≡ k) × (root_of st ≡ root)) past e old new step.may step.moves h.state }
@@ -211,7 +211,7 @@ said_may c me k root [] point leaves h = absurd h
 said_may c me k root (e ∷ past) point leaves (inl h) = checkpoint_stays c me k root past e leaves.0 point leaves.2 (saying_may c me k root past e leaves.0 leaves.2.may h)
 said_may c me k root (e ∷ past) point leaves (inr h) = checkpoint_stays c me k root past e leaves.0 point leaves.2 (said_may c me k root past leaves.0 leaves.1 h)
 
--- ---- what was executed is no later than the state
+-- ---- an executed number is at most the state's
 
 state_grows : (c : Configuration) (me : ℕ) (past : List Entry) (e : Entry) (old new : Point) → May c me past old e → Moves c me past old e new → old.state.number ≤ new.state.number
 state_grows c me past (Got p bytes) old new may moves = let same = ap (λ (q : Point). q.state.number) moves in omega arith
@@ -239,12 +239,12 @@ executed_at_most c me k (e ∷ past) point leaves (inr h) =
     let grows = state_grows c me past e leaves.0 point leaves.2.may leaves.2.moves in
     omega arith
 
--- an own checkpoint is at most the state's
+-- the replica's own checkpoint is at most the state's number
 pub own_at_most : (c : Configuration) (me : ℕ) (m : CheckpointEntry) (history : List Entry) (point : Point) → Leaves c me history point → says_checkpoint m (checkpoints_of c history me) ≡ true → m.number ≤ point.state.number
 own_at_most c me m history point leaves h =
     executed_at_most c me m.number history point leaves (said_may c me m.number m.digest history point leaves (own_said c me m history point leaves h)).executed
 
--- ---- one that was said adds nothing
+-- ---- a checkpoint that was sent adds nothing
 
 pub said_listed : (c : Configuration) (me k : ℕ) (root : List ℕ) (e : Entry) → is_number k ≡ true → IsSaying me (Checkpoint k root) e → checkpoint_in c e ≡ Some (me, record { number = k; digest = root })
 said_listed c me k root (Sent p bytes) n h = ap (option_and_then checkpoint_from) h ∙ ap (λ (b : Bool). then_some b (let y : ℕ × CheckpointEntry = (me, record { number = k; digest = root }) in y)) n

@@ -1,4 +1,4 @@
--- The claims of a replica are kept by its history, and are the lists of a view change.
+-- The history keeps the claims of a replica, and they are the lists of a view change.
 use Rattle.std.proofs.Common.{◌≡◌, ℕ, ◌+◌, ◌≤◌, ◌<◌, ◌^◌, ◌⊎◌, inl, inr, Bool, true, false, length, List, [], ◌∷◌, Some, None, refl, sym, ap, ◌∙◌, subst, arith}
 use Rattle.std.specs.Prelude.{nat_lt, nat_le, ◌&&◌}
 use Rattle.std.proofs.lemmas.Bool.{and_parts, and_from, ltb-true, ltb-false, lt-ltb, leb-true, le-leb}
@@ -33,7 +33,7 @@ claims_begin c me = record {
   texts = tt;
 }
 
--- ---- an own commit was of what is prepared
+-- ---- a replica's commit was of a prepared batch
 
 certified : (c : Configuration) (me v i : ℕ) (digest : List ℕ) (history : List Entry) (point : Point) → Leaves c me history point → SaidCommit c me history v i digest → Certified c me v i digest history
 certified c me v i digest history point leaves said = spoken_certified c me v i digest history point leaves (commit_spoken c me v i digest history point leaves said)
@@ -89,7 +89,7 @@ claims_grow c me log past e old new claims after commits batches f leaves later 
     was text (inl h) = let w = each_has (WasLogged c me past) claims.texts text fits.texts h in (w.0, w.1, logged_stays c me w.0 w.1 text e past w.2)
     was text (inr h) = h
 
--- ---- what is prepared has the own commit, where the log asks for none
+-- ---- a prepared batch has the replica's own commit, if the log asks for none
 
 pub prepared_said : (c : Configuration) (me : ℕ) (log : LogData) (history : List Entry) (v i : ℕ) (batch : List ℕ) → FitsLog c me log history → ((j : ℕ) → logs.due_commit log j ≡ None) → logs.is_in_marks log i ≡ true
     → Prepared c me history v i batch → (digest : List ℕ) × SaidCommit c me history v i digest

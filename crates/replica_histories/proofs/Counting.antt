@@ -1,4 +1,4 @@
--- Which messages count, and what the others change: nothing.
+-- Which messages count, and that the others change nothing.
 use Rattle.std.proofs.Common.{◌≡◌, ℕ, ◌+◌, ◌*◌, ◌^◌, ◌<◌, ◌⊎◌, inl, inr, Bool, true, false, cond, ◌&&◌, ◌||◌, not, List, [], ◌∷◌, take, slice_set, refl, sym, ap, ◌∙◌, subst, Option, Some, None, option_map, eqb-true, eq-eqb}
 use Rattle.std.specs.Prelude.{◌==◌, nat_lt, nat_le, find, option_and_then}
 use Rattle.std.specs.Bool.{then_some}
@@ -37,7 +37,7 @@ use Rattle.replica_histories.proofs.Cutting.{counts_one, counts_alike}
 
 -- ---- faults
 
--- nothing speaks against the message
+-- the message has no fault
 record NoFault (log : LogData) (may_send : Bool) (v i : ℕ) : Type 0 where
   pub sends : may_send ≡ true
   pub view : v ≡ log.view
@@ -81,7 +81,7 @@ no_batch log i k h = batch_read log i k ∙ mapped_none sha256 (logs.row_of log 
 no_digest : (log : LogData) (i : ℕ) → logs.is_in_marks log i ≡ true → logs.logged_batch log i ≡ None → logs.logged_digest log i ≡ None
 no_digest log i k h = let row : (logs.row_of log i).batch ≡ None = sym (batch_read log i k) ∙ h in rw (k, row) refl
 
--- ---- what is read of a message that is heard
+-- ---- the log's answers after a received message
 
 reads_it : (c : Configuration) (me : ℕ) (log : LogData) (past : List Entry) (bytes : List ℕ) (body : Body) (i : ℕ) (vote : Body → Option (List ℕ)) → FitsLog c me log past → heard (members c) me bytes ≡ Some body
     → log.active ≡ true → logs.is_in_marks log i ≡ true → vote_in c me past (Got me bytes) vote log.view i ≡ vote body
@@ -140,7 +140,7 @@ batches_drop c me log past s v i batch bytes f h faulty = subst (λ (o : Option 
 
 -- ---- votes
 
--- who is heard with a vote is a replica
+-- the sender of a received vote is a replica
 known : (c : Configuration) (me : ℕ) (log : LogData) (past : List Entry) (bytes : List ℕ) (body : Body) → FitsLog c me log past → heard (members c) me bytes ≡ Some body
     → has_sender (members c) body ≡ nat_lt body.sender (3 * c.faults + 1) → nat_lt body.sender (logs.replicas log) ≡ true
 known c me log past bytes body f h is =
@@ -266,7 +266,7 @@ others_drop c me log past bytes f beside = go (heard (members c) me bytes) besid
 
 -- ---- checkpoints
 
--- nothing speaks against the checkpoint
+-- the checkpoint has no fault
 pub record CheckpointFree (log : LogData) (s k : ℕ) (root : List ℕ) : Type 0 where
   pub known : s < logs.replicas log
   pub above : log.low < k
@@ -283,7 +283,7 @@ checkpoint_free log s k root h = go (nat_le (logs.replicas log) s) (nat_lt log.l
     go false true false x y z h = absurd cc
     go false true true x y z h = record { known = leb-false (logs.replicas log) s x; above = ltb-true log.low k y; number = z; free = beside_none (root_at (logs.checkpoints_of log s) k) root h }
 
--- what has a root there has the number
+-- a root in the list is of a checkpoint of the number
 not_found : (test : CheckpointEntry → Bool) (xs : List CheckpointEntry) → find test xs ≡ None → list_any test xs ≡ false
 not_found test [] h = refl
 not_found test (x ∷ xs) h = go (test x) (not_found test xs) h
@@ -321,7 +321,7 @@ checkpoints_count c me log past point s entry bytes f h none says = (
         ∙ ap (says_checkpoint entry) (counts_alike c log past (Got me bytes) s s entry f.is_log p.known marked (f.checkpoints s) (f.latest s))
         ∙ says_above log.low entry (logs.checkpoints_of (logs.with_checkpoint_of log s entry) s) p.above ∙ says
 
--- a checkpoint that is brought and adds nothing above the mark
+-- a checkpoint that adds nothing above the mark
 adds_nothing : (c : Configuration) (me : ℕ) (log : LogData) (s : ℕ) (entry : CheckpointEntry) → IsLog log
     → (is_number entry.number ≡ true → above_mark log.low (take 3 (insert_checkpoint entry (logs.checkpoints_of log s))) ≡ above_mark log.low (logs.checkpoints_of log s))
     → Takes c me (Some (record { sender = s; message = Checkpoint entry.number entry.digest })) log log

@@ -1,4 +1,4 @@
--- The marks move: the log is cut where a checkpoint becomes stable, or a state is installed.
+-- The marks move: the log is cut when a checkpoint becomes stable, or a state is installed.
 use Rattle.std.proofs.Common.{◌≡◌, ℕ, suc, ◌+◌, ◌-◌, ◌≤◌, ◌<◌, ◌⊎◌, inl, inr, Bool, true, false, cond, ◌&&◌, List, [], ◌∷◌, length, drop, replicate, min, max, slice_index_or, slice_set, take, refl, sym, ap, ◌∙◌, subst, arith, Option, Some, None, eqb-true}
 use Rattle.std.specs.Prelude.{◌==◌, nat_le, nat_lt, option_and_then, ◌^◌}
 use Rattle.std.specs.Bool.{then_some}
@@ -30,7 +30,7 @@ use Rattle.replica_histories.proofs.Settling.{votes_said, voted_goes}
 use Rattle.replica_histories.proofs.Logging.{none_taken, view_quiet, proposal_quiet, begun_quiet, active_goes}
 use Rattle.replica_histories.proofs.Reaching.{reached_by}
 
--- ---- the log behind a cut
+-- ---- the log after a cut
 
 pub cut_low : (log : LogData) (h : ℕ) → log.low ≤ h → (logs.cut_to log h).low ≡ h
 cut_low log h above = go (nat_le h log.low) refl
@@ -39,7 +39,7 @@ cut_low log h above = go (nat_le h log.low) refl
     go true e = let l = leb-true h log.low e in omega arith
     go false e = refl
 
--- what a cut leaves
+-- what stays after a cut
 pub cut_same : {A : Type 0} (of : LogData → A) → ((log : LogData) (h : ℕ) (rows : List Row) → of (record log { low = h; rows = rows }) ≡ of log) → (log : LogData) (h : ℕ) → of (logs.cut_to log h) ≡ of log
 cut_same of same log h = go (nat_le h log.low)
   where
@@ -102,7 +102,7 @@ mute_same c me past e v i q = record {
   commit = λ s. or_else_alone (commit_of c me past v i s) (vote_in c me past e (commit_from s v i) v i) (q.commit v i s);
 }
 
--- The log with these checkpoints, cut where the low mark of the history is behind the entry.
+-- The log with these checkpoints, cut at the low mark of the history after the entry.
 module _ (c : Configuration) (me : ℕ) (log : LogData) (past : List Entry) (e : Entry) (f : FitsLog c me log past) (q : Mute c me past e) (held : List (List CheckpointEntry)) (mark : ℕ) where
   abbrev counted : LogData
   counted = record log { checkpoints = held }
@@ -133,11 +133,11 @@ module _ (c : Configuration) (me : ℕ) (log : LogData) (past : List Entry) (e :
     es : new.span ≡ log.span
     es = cut_same (λ m. m.span) (λ m h rows. refl) counted mark
 
-    -- what is above the new mark was above the old one
+    -- a number above the new mark was above the old one
     above_new : (i : ℕ) → logs.is_in_marks new i ≡ true → log.low < i
     above_new i k = let a = above_low new i k in let n = low_new in omega arith
 
-    -- what is in the old marks is cut or in the new ones
+    -- a number in the old marks is cut or in the new ones
     cut_or_in : (i : ℕ) → logs.is_in_marks log i ≡ true → (i ≤ new.low) ⊎ (logs.is_in_marks new i ≡ true)
     cut_or_in i k = go (nat_lt new.low i) refl
       where
@@ -152,7 +152,7 @@ module _ (c : Configuration) (me : ℕ) (log : LogData) (past : List Entry) (e :
             inr (and_from (nat_lt new.low i && nat_le i (new.low + new.span)) (nat_lt i (2 ^ 48)) (and_from (nat_lt new.low i) (nat_le i (new.low + new.span)) h (le-leb i (new.low + new.span) (omega arith))) p.1)
         go false h = inl (let l = ltb-false new.low i h in omega arith)
 
-    -- a reading within the new marks: the old one, or nothing on both sides
+    -- an answer within the new marks: the old one, or none on both sides
     read : (i : ℕ) → logs.is_in_marks new i ≡ true → (now old behind : Option (List ℕ)) → behind ≡ cond (logs.is_in_marks new i) old None → (logs.is_in_marks log i ≡ true → now ≡ old)
         → (logs.is_in_marks log i ≡ false → (now ≡ None) × (old ≡ None)) → now ≡ behind
     read i k now old behind cut there beyond = go (logs.is_in_marks log i) refl ∙ sym (cut ∙ ap (λ (t : Bool). cond t old None) k)
@@ -207,7 +207,7 @@ module _ (c : Configuration) (me : ℕ) (log : LogData) (past : List Entry) (e :
         let high = w.ahead.0 in
         record { view = subst (λ (x : ℕ). v ≤ x) (sym ev) w.view; marks = λ at. place i (w.marks (at ∙ ev)); ahead = (omega arith, w.ahead.1) }
 
-    -- what is committed in an earlier view, within the new marks, was within the old ones
+    -- a batch that is committed in an earlier view, within the new marks, was within the old ones
     known_in : (v i : ℕ) (batch : List ℕ) → logs.is_in_marks new i ≡ true → logged c me past v i ≡ Some batch → logs.is_in_marks log i ≡ true
     known_in v i batch k h = logged_within c me log past v i batch f (above_new i k) h
 
@@ -327,7 +327,7 @@ module _ (c : Configuration) (me : ℕ) (log : LogData) (past : List Entry) (e :
   abbrev more : LogData
   more = logs.with_checkpoint_of log s entry
 
-  -- where the low mark is behind it
+  -- the low mark after it
   abbrev next : ℕ
   next = cond (logs.is_stable more entry) (max log.low entry.number) log.low
 
@@ -423,7 +423,7 @@ module _ (c : Configuration) (me : ℕ) (log : LogData) (past : List Entry) (e :
   pub checked_up : log.low ≤ (checked_log log s entry).low
   checked_up = let is = checked_low in let l = up in omega arith
 
-  -- the low mark is what it was, or at most what is stable, so it is reached where what is stable was executed
+  -- the low mark stays, or is at most the stable number; so it is reached if the stable state was executed
   pub checked_reached : (number : ℕ) (due rest : List Message) → ((x : Message) → Has (λ y. y ≡ x) due → Has (λ y. y ≡ x) rest ⊎ IsSaying me x e) → IsReached c me log.low number due past
       → (is_stable c me (e ∷ past) entry ≡ true → entry.number ≤ number) → IsReached c me (checked_log log s entry).low number rest (e ∷ past)
   checked_reached number due rest paid was stable = subst (λ (x : ℕ). IsReached c me x number rest (e ∷ past)) (sym checked_low) (go (logs.is_stable more entry) refl)

@@ -1,4 +1,4 @@
--- An event ends: what it owes was given.
+-- An event ends, and the replica has sent all that it owes.
 use Rattle.std.proofs.Common.{◌≡◌, ◌≢◌, ℕ, suc, ◌<◌, ◌⊎◌, inl, inr, Bool, true, false, List, [], ◌∷◌, ◌++◌, refl, sym, ap, ◌∙◌, subst, arith, ◌%◌, Some, None, reverse}
 use mathlib.Core.List.{reverse_aux}
 use Rattle.std.proofs.lemmas.List.{reverse-reverse}
@@ -16,14 +16,14 @@ use Rattle.protocol.specs.Replica.Certificates.{is_active_in, logged, prepare_of
 use Rattle.protocol.specs.Replica.State.{State, Call, root_of, page_text}
 use Rattle.protocol.specs.Replica.RightReplica.{Point, Leaves, Executes, reply_of, KeptState, digests_at, IsFree}
 use Rattle.protocol.specs.Replica.Transfers.{fetch_sent, fetching}
-use Rattle.protocol.specs.Replica.Owed.{IsSaying, Gives, GivesTo, AtOutputs, NumbersOnce, IsNumbered, IsDropped, TransferGoesOn, Owes, Proceeds}
+use Rattle.protocol.specs.Replica.Owed.{IsSaying, SendsMessage, GivesTo, AtOutputs, NumbersOnce, IsNumbered, IsDropped, TransferGoesOn, Owes, Proceeds}
 use Rattle.protocol.proofs.Words.Options.{some_injective}
 use Rattle.protocol.proofs.Words.Elements.{has_weaker, has_reverse, has_reversed}
 use Rattle.protocol.proofs.Words.Linking.{Speaks}
 use Rattle.protocol.proofs.Agreement.Voting.{preparing}
 use Rattle.protocol.proofs.Agreement.Commits.{committing, prepared_stays, prepared_remains}
 use Rattle.replica_histories.specs.Desk.{Desk, point_of}
-use Rattle.replica_histories.specs.Events.{Start, behind, Steps, AtEach, IsOnItsWay, IsReached, Fits, IsSettled, LeavesNoView, IsTaken, EventsEnd}
+use Rattle.replica_histories.specs.Events.{Start, after_outputs, Steps, AtEach, IsOnItsWay, IsReached, Fits, IsSettled, LeavesNoView, IsTaken, EventsEnd}
 use Rattle.replica_histories.specs.Logs.{IsVoted}
 use Rattle.replica_histories.specs.Questions.{AnswersInput, read_reply}
 use Rattle.replica_histories.specs.TransfersQuorums.{IsToFetch, QuorumsFetched}
@@ -37,20 +37,20 @@ use Rattle.replica_histories.proofs.Resending.{sends_turned}
 
 -- ---- at each output
 
-at_outputs : (P : List Entry → Entry → Type 0) (s : Start) (outputs later : List Entry) → AtEach P s outputs → AtOutputs P (behind s outputs) later → AtOutputs P (s.input ∷ s.before) (reverse_aux outputs later)
+at_outputs : (P : List Entry → Entry → Type 0) (s : Start) (outputs later : List Entry) → AtEach P s outputs → AtOutputs P (after_outputs s outputs) later → AtOutputs P (s.input ∷ s.before) (reverse_aux outputs later)
 at_outputs P s [] later h k = k
 at_outputs P s (e ∷ outputs) later h k = at_outputs P s outputs (e ∷ later) h.1 (h.0, k)
 
--- safe so far
-pub steps_leave : (c : Configuration) (me : ℕ) (s : Start) (outputs : List Entry) (point : Point) → Leaves c me s.before s.old → Steps c me s outputs point → Leaves c me (behind s outputs) point
+-- the history up to here is safe
+pub steps_leave : (c : Configuration) (me : ℕ) (s : Start) (outputs : List Entry) (point : Point) → Leaves c me s.before s.old → Steps c me s outputs point → Leaves c me (after_outputs s outputs) point
 steps_leave c me s [] point leaves steps = (s.old, leaves, steps)
 steps_leave c me s (e ∷ outputs) point leaves steps = (steps.0, steps_leave c me s outputs steps.0 leaves steps.1, steps.2)
 
--- ---- what is owed
+-- ---- what the event owes
 
-module _ (c : Configuration) (me : ℕ) (s : Start) (desk : Desk) (log : LogData) (outputs : List Entry) (is : is_output s.input ≡ false) (f : Fits c me s desk log [] outputs) (settled : IsSettled c me desk log (behind s outputs)) where
+module _ (c : Configuration) (me : ℕ) (s : Start) (desk : Desk) (log : LogData) (outputs : List Entry) (is : is_output s.input ≡ false) (f : Fits c me s desk log [] outputs) (settled : IsSettled c me desk log (after_outputs s outputs)) where
   abbrev now : List Entry
-  now = behind s outputs
+  now = after_outputs s outputs
 
   abbrev reached : Point
   reached = point_of desk f.of_desk.states f.of_desk.ran
@@ -58,24 +58,24 @@ module _ (c : Configuration) (me : ℕ) (s : Start) (desk : Desk) (log : LogData
   leaves_now : Leaves c me now reached
   leaves_now = steps_leave c me s outputs reached f.of_desk.leaves f.of_desk.steps
 
-  given : (message : Message) → Gives me message outputs → Gives me message (reverse outputs)
+  given : (message : Message) → SendsMessage me message outputs → SendsMessage me message (reverse outputs)
   given message h = has_reversed (IsSaying me message) outputs h
 
   -- nothing is due any more
-  gave : (message : Message) → IsOnItsWay me [] outputs message → Gives me message outputs
+  gave : (message : Message) → IsOnItsWay me [] outputs message → SendsMessage me message outputs
   gave message (inl h) = absurd h
   gave message (inr h) = h
 
-  -- what is logged has the own votes, while the replica is active
+  -- a logged batch has the replica's own votes, while the replica is active
   votes : (v i : ℕ) (batch : List ℕ) → is_active_in c now v ≡ true → logged c me now v i ≡ Some batch → IsVoted c me now v i batch
   votes v i batch active h =
       let at : v ≡ log.view = active_view c me log now v f.of_log active in
       subst (λ (x : ℕ). IsVoted c me now x i batch) (sym at) (votes_said c me log now f.of_log i batch (active_log c me log now v f.of_log active) (λ above. (settled.prepares i, settled.commits i)) (subst (λ (x : ℕ). logged c me now x i ≡ Some batch) at h))
 
   prepares : (v i : ℕ) (batch : List ℕ) → logged c me s.before v i ≡ None → logged c me now v i ≡ Some batch → is_active_in c now v ≡ true → primary c v ≢ me
-      → Gives me (Prepare v i (sha256 batch)) outputs
+      → SendsMessage me (Prepare v i (sha256 batch)) outputs
   prepares v i batch none some active backup =
-      subst (λ (x : List ℕ). Gives me (Prepare v i x) outputs) digest (pick (in_event me (Prepare v i own.0) s outputs is said))
+      subst (λ (x : List ℕ). SendsMessage me (Prepare v i x) outputs) digest (pick (in_event me (Prepare v i own.0) s outputs is said))
     where
       own : (d : List ℕ) × (prepare_of c me now v i me ≡ Some d)
       own = (votes v i batch active some).prepare backup
@@ -88,7 +88,7 @@ module _ (c : Configuration) (me : ℕ) (s : Start) (desk : Desk) (log : LogData
           let l = spoken_logged c me v i own.0 now reached leaves_now said in
           sym l.digest ∙ ap sha256 (some_injective l.batch batch (sym l.is_logged ∙ some))
 
-      pick : Gives me (Prepare v i own.0) outputs ⊎ Once (Speaks (preparing me v i own.0)) s.before → Gives me (Prepare v i own.0) outputs
+      pick : SendsMessage me (Prepare v i own.0) outputs ⊎ Once (Speaks (preparing me v i own.0)) s.before → SendsMessage me (Prepare v i own.0) outputs
       pick (inl h) = h
       pick (inr h) = let l = spoken_logged c me v i own.0 s.before s.old f.of_desk.leaves h in absurd (given_not (logged c me s.before v i) l.batch l.is_logged none)
 
@@ -96,9 +96,9 @@ module _ (c : Configuration) (me : ℕ) (s : Start) (desk : Desk) (log : LogData
   logged_now v i batch p = (prepared_remains c me v i batch outputs (s.input ∷ s.before) (prepared_stays c me v i batch s.input s.before p)).logged
 
   commits : (v i : ℕ) (batch : List ℕ) → (Prepared c me s.before v i batch → ⊥) → Prepared c me now v i batch → is_active_in c now v ≡ true
-      → Gives me (Commit v i (sha256 batch)) outputs
+      → SendsMessage me (Commit v i (sha256 batch)) outputs
   commits v i batch none some active =
-      subst (λ (x : List ℕ). Gives me (Commit v i x) outputs) digest (pick (in_event me (Commit v i own.0) s outputs is said))
+      subst (λ (x : List ℕ). SendsMessage me (Commit v i x) outputs) digest (pick (in_event me (Commit v i own.0) s outputs is said))
     where
       own : (d : List ℕ) × (commit_of c me now v i me ≡ Some d)
       own = (votes v i batch active some.logged).commit some
@@ -111,7 +111,7 @@ module _ (c : Configuration) (me : ℕ) (s : Start) (desk : Desk) (log : LogData
           let l = spoken_certified c me v i own.0 now reached leaves_now said in
           sym l.digest_is ∙ ap sha256 (some_injective l.batch batch (sym l.prepared.logged ∙ some.logged))
 
-      pick : Gives me (Commit v i own.0) outputs ⊎ Once (Speaks (committing me v i own.0)) s.before → Gives me (Commit v i own.0) outputs
+      pick : SendsMessage me (Commit v i own.0) outputs ⊎ Once (Speaks (committing me v i own.0)) s.before → SendsMessage me (Commit v i own.0) outputs
       pick (inl h) = h
       pick (inr h) =
           let l = spoken_certified c me v i own.0 s.before s.old f.of_desk.leaves h in
@@ -127,20 +127,20 @@ module _ (c : Configuration) (me : ℕ) (s : Start) (desk : Desk) (log : LogData
       at : v ≡ log.view
       at = active_view c me log now v f.of_log active
 
-  checkpoints : (k : ℕ) → Has (λ e. Executes k [] e) (reverse outputs) → k % c.period ≡ 0 → Has (λ st. (st.number ≡ k) × Gives me (Checkpoint k (root_of st)) (reverse outputs)) f.of_desk.states
+  checkpoints : (k : ℕ) → Has (λ e. Executes k [] e) (reverse outputs) → k % c.period ≡ 0 → Has (λ st. (st.number ≡ k) × SendsMessage me (Checkpoint k (root_of st)) (reverse outputs)) f.of_desk.states
   checkpoints k h multiple =
-      has_weaker (λ st. (st.number ≡ k) × IsOnItsWay me [] outputs (Checkpoint k (root_of st))) (λ st. (st.number ≡ k) × Gives me (Checkpoint k (root_of st)) (reverse outputs))
+      has_weaker (λ st. (st.number ≡ k) × IsOnItsWay me [] outputs (Checkpoint k (root_of st))) (λ st. (st.number ≡ k) × SendsMessage me (Checkpoint k (root_of st)) (reverse outputs))
       (λ st w. (w.0, given (Checkpoint k (root_of st)) (gave (Checkpoint k (root_of st)) w.1))) f.of_desk.states
       (f.of_desk.checkpoints k (has_reverse (λ e. Executes k [] e) outputs h) multiple)
 
-  -- nothing is committed for the next number: the log would have it, or the low mark is above it
+  -- no batch is committed for the next number: the log would have it, or the low mark is above it
   executes : (v : ℕ) (batch : List ℕ) → Committed c me now v (suc desk.state.number) batch → IsReached c me log.low desk.state.number [] now → ⊥
   executes v batch k (inl l) = let known = committed_there c me log now v (suc desk.state.number) batch f.of_log (omega arith) k in given_not (logs.committed_batch log (suc desk.state.number)) known.0 known.1 settled.executes
   executes v batch k (inr h) = h.1 v batch k
 
-  -- what was fetched of the quorums
+  -- the states of the quorums were fetched
   pub fetched : QuorumsFetched c desk.state.number now
-      × ((k : ℕ) (root : List ℕ) → IsToFetch c now k root → desk.state.number < k → fetching s.before < k → Gives me (Fetch k levels.Root 0) outputs)
+      × ((k : ℕ) (root : List ℕ) → IsToFetch c now k root → desk.state.number < k → fetching s.before < k → SendsMessage me (Fetch k levels.Root 0) outputs)
   fetched = quorums_end c me s desk.state.number outputs f.of_desk.fetches
 
   pub owes : AnswersInput c me s.before s.input outputs s.old desk.state.number → LeavesNoView c me now → (outputs ≡ []) ⊎ IsTaken c me s → Owes c me s.before s.input (reverse outputs) now s.old reached
@@ -195,7 +195,7 @@ by_or false X Y e y = y
 
 proceed : (c : Configuration) (me : ℕ) (s : Start) (outputs later : List Entry) (mid new : Point) → is_output s.input ≡ false → Steps c me s outputs mid
     → Owes c me s.before s.input (reverse_aux outputs later) (reverse (reverse_aux outputs later) ++ s.input ∷ s.before) s.old new
-    → Proceeds c me s.before [] s.old s.old → Proceeds c me (behind s outputs) later new mid
+    → Proceeds c me s.before [] s.old s.old → Proceeds c me (after_outputs s outputs) later new mid
 proceed c me s [] later mid new is steps owes past = (s.old, steps, by_or (is_output s.input) _ _ is (owes, past))
 proceed c me s (e ∷ outputs) later mid new is steps owes past =
     (steps.0, steps.2, by_either (is_output e) _ _ steps.3 (proceed c me s outputs (e ∷ later) steps.0 new is steps.1 owes past))

@@ -1,4 +1,4 @@
--- An event begins: what is held behind the input fits.
+-- An event begins: desk and log after the input fit.
 use Rattle.std.proofs.Common.{◌≡◌, ℕ, ◌+◌, ◌-◌, ◌*◌, ◌≤◌, ◌<◌, ◌⊎◌, inl, inr, Bool, true, false, cond, ◌&&◌, slice_index_or, List, [], ◌∷◌, map, refl, sym, ap, ◌∙◌, subst, arith, Option, Some, None, is_some, eqb-true, eq-eqb}
 use Rattle.std.specs.Prelude.{◌==◌, nat_le, nat_lt, option_and_then, ⊤}
 use Rattle.std.specs.Option.{option_map_or}
@@ -43,7 +43,7 @@ use Rattle.replica_histories.proofs.Words.{apart}
 use Rattle.replica_histories.proofs.Transfers.{root_later, open_stays, open_above, asked_fetched, quorums_want, lower_are_fetched}
 use Rattle.replica_histories.proofs.TransfersQuorums.{unchanged_bring_none, none_starts, quorums_begin}
 
--- ---- what is asked for is due
+-- ---- what the input asks for is due
 
 module _ (c : Configuration) (me : ℕ) (past : List Entry) (bytes : List ℕ) (old : Point) where
   abbrev start : Start
@@ -99,7 +99,7 @@ module _ (c : Configuration) (me : ℕ) (past : List Entry) (bytes : List ℕ) (
       go None says h = absurd h
       go (Some body) says h = of body.sender body.message says h
 
--- it is one reply at the most
+-- it is at most one reply
 again_unsaid : (me k timestamp : ℕ) (o : Option Kept) → AreUnsaid me (again_for k timestamp o) []
 again_unsaid me k timestamp None = tt
 again_unsaid me k timestamp (Some kept) = go (kept.timestamp == timestamp)
@@ -169,7 +169,7 @@ inputs_fit c me desk new log after due past bytes held none e = record {
     fits : FitsLog c me after (Got me bytes ∷ past)
     fits = log_goes c me log after past (Got me bytes) held.of_log.fits (got_read c me log past bytes held.of_log.fits none) e.takes
 
-    -- what is above the state and not above the low mark was fetched
+    -- a state above the executed one and not above the low mark was fetched
     below_fetched : (k : ℕ) → k ≤ log.low → desk.state.number < k → IsReached c me log.low desk.state.number [] past → k ≤ fetching past
     below_fetched k l above (inl low) = absurd (omega arith)
     below_fetched k l above (inr h) = go h.0
@@ -201,7 +201,7 @@ inputs_fit c me desk new log after due past bytes held none e = record {
     due_is : due ≡ asked old.state (heard (members c) me bytes)
     due_is = e.due_is ∙ ap (λ (st : State). asked st (heard (members c) me bytes)) (sym state_is)
 
-    -- the kept reply that is asked for is of its client's last timestamp
+    -- the kept reply that the input asks for has its client's last timestamp
     replies : (k : ℕ) (kept : Kept) → IsOnItsWay me due [] (reply_of k kept) → kept.timestamp ≤ last_time new.state k
     replies k kept (inr h) = absurd h
     replies k kept (inl h) =
@@ -220,9 +220,9 @@ inputs_fit c me desk new log after due past bytes held none e = record {
     kept_frame frame (inl k) = let f = held.of_desk.frames frame k in (inr f.0, f.1)
     kept_frame frame (inr k) = (inl (inl (sym k.0)), subst (λ (x : List ℕ). is_some (heard (members c) me x) ≡ true) (sym k.0) k.1)
 
--- ---- a checkpoint is got
+-- ---- a checkpoint arrives
 
--- what no other message is
+-- the message is a checkpoint
 abbrev IsCheckpoint : Message → Type 0
 IsCheckpoint message = elim message [ Checkpoint k root ↦ ⊤ | _ ↦ ⊥ ]
 
@@ -313,7 +313,7 @@ checkpoints_enter c me desk log past s entry bytes held h none = record {
     counted : is_quorum c (count_checkpoints c (Got me bytes ∷ past) entry) ≡ has_quorum
     counted = quorum_counted c more (Got me bytes ∷ past) entry f.faults parts.above same
 
-    -- a quorum that it makes above the state is fetched already, or due
+    -- the state of a quorum that it completes above the executed one was fetched, or its fetch is due
     is_due : desk.state.number < entry.number → HasQuorum c (Got me bytes ∷ past) entry.number entry.digest → (entry.number ≤ fetching past) ⊎ Has (λ x. x ≡ Fetch entry.number levels.Root 0) (fetch_due desk more entry)
     is_due above quorum = go (logs.is_stable more entry) has_quorum is_ahead refl refl refl
       where
@@ -340,7 +340,7 @@ checkpoints_enter c me desk log past s entry bytes held h none = record {
     said true = fetch_once me (record { before = past; input = Got me bytes; old = old }) desk.state entry.number [] false refl (λ k kept given. absurd given)
     said false = fetch_once me (record { before = past; input = Got me bytes; old = old }) desk.state entry.number [] (has_quorum && is_ahead) refl (λ k kept given. absurd given)
 
-    -- the fetch that is due may be said
+    -- the due fetch may be sent
     rightly : (message : Message) → Has (λ x. x ≡ message) (fetch_due desk more entry) → MaySayDue c me (Got me bytes ∷ past) new message
     rightly message h = go (logs.is_stable more entry) has_quorum is_ahead refl refl h
       where
@@ -354,7 +354,7 @@ checkpoints_enter c me desk log past s entry bytes held h none = record {
             let over = ltb-true (open_number desk.state.number desk.transfer) entry.number y in
             subst (λ (z : Message). MaySayDue c me (Got me bytes ∷ past) new z) h (entry.digest, (omega arith, quorums_want c (Got me bytes ∷ past) entry.number entry.digest (counted ∙ x)))
 
--- a tick alone owes nothing but the fetch of what is open
+-- a tick alone owes only the fetch of the open transfer
 pub ticks_fit : TicksFit
 ticks_fit c me desk log past held = record {
   of_desk = record {
@@ -393,7 +393,7 @@ ticks_fit c me desk log past held = record {
     moves : point_of desk old.snapshots [] ≡ record old { ran = [] }
     moves = same_point old.snapshots desk.state old.state desk.waiting old.waiting (sym (ap (λ (p : Point). p.state) held.of_desk.is)) (sym (ap (λ (p : Point). p.waiting) held.of_desk.is))
 
-    -- what was asked for last of a number above the state's is what is open
+    -- the last place that was asked for, with a number above the state's, is the open transfer's
     again : (k index : ℕ) (level : Level) (o : Option TransferData) → FitsOpen c me o desk.state.number past → asked_last past ≡ Some (k, (level, index)) → desk.state.number < k
         → Has (λ x. x ≡ Fetch k level index) (again_due o)
     again k index level None f was above = let most = asked_fetched past k (level, index) was in let least = f.0 in absurd (omega (arith, most, least, above))

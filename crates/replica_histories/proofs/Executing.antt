@@ -1,4 +1,4 @@
--- An execution: what is held behind it fits, and its replies are due.
+-- An execution: desk and log after it fit, and its replies are due.
 use Rattle.std.proofs.Common.{◌≡◌, ℕ, suc, ◌+◌, ◌%◌, ◌^◌, ◌≤◌, ◌⊎◌, inl, inr, Bool, true, false, cond, ◌&&◌, List, [], ◌∷◌, ◌++◌, map, refl, sym, ap, ◌∙◌, subst, arith, Some, None, eqb-true, eq-eqb}
 use Rattle.std.specs.Prelude.{◌==◌, nat_le, nat_lt}
 use Rattle.std.proofs.lemmas.Bool.{and_parts, le-leb}
@@ -19,7 +19,7 @@ use Rattle.protocol.proofs.Words.Leaving.{executed_number}
 use Rattle.protocol.proofs.Points.Keeping.{executed_times}
 use Rattle.protocol.proofs.Words.Plain.{Plain, plain_low}
 use Rattle.replica_histories.specs.Desk.{Desk, Snapshot, snapshot_of, point_of}
-use Rattle.replica_histories.specs.Events.{behind, IsOnItsWay, MaySayDue, AreUnsaid}
+use Rattle.replica_histories.specs.Events.{after_outputs, IsOnItsWay, MaySayDue, AreUnsaid}
 use Rattle.replica_histories.specs.Transfers.{FitsOpen, still_open}
 use Rattle.replica_histories.specs.Outputs.{replies_to, checkpoint_due, executed_desk, ExecutesFit}
 use Rattle.replica_histories.proofs.Words.{apart, passed}
@@ -66,7 +66,7 @@ executes_fit c me s desk log outputs batch frames is_state few commits fewer f =
 }
   where
     past : List Entry
-    past = behind s outputs
+    past = after_outputs s outputs
 
     k : ℕ
     k = suc desk.state.number
@@ -108,7 +108,7 @@ executes_fit c me s desk log outputs batch frames is_state few commits fewer f =
         inl (has_left (λ x. x ≡ reply_to r) (replies_to more) (checkpoint_due c st)
         (has_mapped (λ x. x ≡ reply_to r) reply_to more (has_weaker (λ x. x ≡ r) (λ x. reply_to x ≡ reply_to r) (λ x is. ap reply_to is) more h)))
 
-    -- the checkpoint of the new state was not said: none was that is above the executed number
+    -- the checkpoint of the new state was not sent: none above the executed number was
     checkpoint_unsaid : (b : Bool) → AreUnsaid me (cond b (Checkpoint st.number (root_of st) ∷ []) []) (e ∷ outputs)
     checkpoint_unsaid false = tt
     checkpoint_unsaid true = (λ other way. never way, tt)
@@ -143,7 +143,7 @@ executes_fit c me s desk log outputs batch frames is_state few commits fewer f =
     replies j kept (inr (inl h)) = absurd h
     replies j kept (inr (inr given)) = let was = f.says.replies j kept (inr given) in let more_now = raised j in omega (arith, was, more_now)
 
-    -- the checkpoint of each state that was executed
+    -- the checkpoint of each executed state
     checked : (j : ℕ) (b : Bool) → (st.number % c.period == 0) ≡ b → (k ≡ j) ⊎ Has (λ x. Executes j [] x) outputs → j % c.period ≡ 0
         → Has (λ x. (x.number ≡ j) × IsOnItsWay me (replies_to more ++ cond b (Checkpoint st.number (root_of st) ∷ []) []) (e ∷ outputs) (Checkpoint j (root_of x))) (cond b (st ∷ f.of_desk.states) f.of_desk.states)
     checked j b is (inr h) multiple = older b (f.of_desk.checkpoints j h multiple)
@@ -164,7 +164,7 @@ executes_fit c me s desk log outputs batch frames is_state few commits fewer f =
         inl (number_is ∙ same, inl (has_right (λ x. x ≡ Checkpoint j (root_of st)) (replies_to more) (Checkpoint st.number (root_of st) ∷ []) (inl (ap (λ (n : ℕ). Checkpoint n (root_of st)) (number_is ∙ same)))))
     checked j false is (inl same) multiple = absurd (apart (st.number % c.period == 0) (eq-eqb (st.number % c.period) 0 (ap (λ (n : ℕ). n % c.period) (number_is ∙ same) ∙ multiple)) is)
 
-    -- what is kept above the low mark
+    -- the kept states above the low mark
     within : logs.is_in_marks log k ≡ true
     within = (passed (logs.is_in_marks log k) (logs.row_decided log.faults (logs.replicas log) log.me (logs.row_of log k)) batch commits).0
 
@@ -192,7 +192,7 @@ executes_fit c me s desk log outputs batch frames is_state few commits fewer f =
     numbered : is_number st.number ≡ true
     numbered = ap is_number number_is ∙ (and_parts (nat_lt log.low k && nat_le k (log.low + log.span)) (nat_lt k (2 ^ 48)) within).1
 
-    -- the checkpoint of the new state may be said
+    -- the checkpoint of the new state may be sent
     may : (b : Bool) → (st.number % c.period == 0) ≡ b → (message : Message) → Has (λ x. x ≡ message) (cond b (Checkpoint st.number (root_of st) ∷ []) [])
         → MaySayDue c me (e ∷ past) (point_of new (cond b (st ∷ f.of_desk.states) f.of_desk.states) (f.of_desk.ran ++ more)) message
     may false is message h = absurd h

@@ -1,4 +1,4 @@
--- What the replica holds that fetches: its fetches, and the parts that come.
+-- Desk and log of a replica that fetches: its fetches, and the parts that arrive.
 use Rattle.std.proofs.Common.{◌≡◌, ℕ, ◌+◌, ◌*◌, ◌≤◌, ◌<◌, inl, Bool, true, false, cond, ◌&&◌, List, [], ◌∷◌, map, refl, sym, ap, ◌∙◌, subst, arith, Option, Some, None}
 use Rattle.std.specs.Prelude.{nat_le, nat_lt, option_and_then}
 use Rattle.std.specs.Option.{option_map_or}
@@ -20,7 +20,7 @@ use Rattle.protocol.proofs.Words.Posting.{may_send}
 use Rattle.replica_histories.specs.Desk.{Desk, snapshot_of, point_of}
 use Rattle.replica_histories.specs.Logs.{FitsLog}
 use Rattle.replica_histories.specs.Transfers.{HasQuorum, MayAsk, AsksNext, FitsOpen, open_number}
-use Rattle.replica_histories.specs.Events.{Start, behind, Fits, Holds, start_at}
+use Rattle.replica_histories.specs.Events.{Start, after_outputs, Fits, Holds, start_at}
 use Rattle.replica_histories.specs.Inputs.{asked, Enters, IsBesideLog}
 use Rattle.replica_histories.specs.Fetching.{FetchesFit, DueFetchesFit, QuorumsMayAsk, HeldOweNoFetch, DigestsEnter, PagesEnter, AskedDigestsCount, AskedPagesCount, TransfersChange}
 use Rattle.replica_histories.proofs.Taking.{takes_nothing}
@@ -40,8 +40,8 @@ use Rattle.replica_histories.proofs.TransfersQuorums.{no_root}
 abbrev fetch_of : TransferData → Message
 fetch_of t = Fetch t.number t.asked.level t.asked.index
 
--- a fetch that may be asked, with what was due paid so far
-fetch_goes : (c : Configuration) (me : ℕ) (s : Start) (desk : Desk) (log : LogData) (due rest : List Message) (outputs : List Entry) (t : TransferData) (bytes : List ℕ) → MayAsk c me t desk.state.number (behind s outputs) → AsksNext c me t desk.state (behind s outputs)
+-- a fetch that the transfer may send, with due messages paid
+fetch_goes : (c : Configuration) (me : ℕ) (s : Start) (desk : Desk) (log : LogData) (due rest : List Message) (outputs : List Entry) (t : TransferData) (bytes : List ℕ) → MayAsk c me t desk.state.number (after_outputs s outputs) → AsksNext c me t desk.state (after_outputs s outputs)
     → IsPosted c me (fetch_of t) (others c me) bytes → Pays me s desk.state due rest outputs bytes
     → Fits c me s desk log due outputs → Fits c me s (record desk { transfer = Some t }) log rest (Sent me bytes ∷ outputs)
 fetch_goes c me s desk log due rest outputs t bytes m next posted pays f =
@@ -53,7 +53,7 @@ fetch_goes c me s desk log due rest outputs t bytes m next posted pays f =
     (none_taken c past (Sent me bytes) (ap (option_and_then (new_view_from c)) posted.says)) pays (no_proposal c me past bytes (fetch_of t) posted.says tt)
   where
     past : List Entry
-    past = behind s outputs
+    past = after_outputs s outputs
 
     may : MayFetch c me past (point_of desk f.of_desk.states f.of_desk.ran) t.number t.asked.level t.asked.index
     may = transfers_may_fetch c me t past (point_of desk f.of_desk.states f.of_desk.ran) m next
@@ -75,8 +75,8 @@ due_fetches_fit c me s desk log rest outputs t bytes m next posted f = fetch_goe
 
 pub quorums_may_ask : QuorumsMayAsk
 quorums_may_ask c me s desk log due outputs entry pages enough over above f =
-    quorums_open c me desk.transfer desk.state.number entry.number entry.digest pages desk.state (behind s outputs)
-    (quorum_counted c log (behind s outputs) entry f.of_log.faults over f.of_log.checkpoints
+    quorums_open c me desk.transfer desk.state.number entry.number entry.digest pages desk.state (after_outputs s outputs)
+    (quorum_counted c log (after_outputs s outputs) entry f.of_log.faults over f.of_log.checkpoints
     ∙ le-leb (2 * log.faults + 1) (logs.count_checkpoints log entry) enough)
     above f.of_desk.opened
 
@@ -128,11 +128,11 @@ transfers_change c me s desk log due outputs open_one o f = record {
   says = f.says;
 }
 
--- what a desk holds open
+-- the open transfer of a desk
 open_at : (c : Configuration) (me : ℕ) (desk : Desk) (t : TransferData) (number : ℕ) (history : List Entry) → desk.transfer ≡ Some t → FitsOpen c me desk.transfer number history → FitsOpen c me (Some t) number history
 open_at c me desk t number history is f = subst (λ (o : Option TransferData). FitsOpen c me o number history) is f
 
--- ---- a part comes
+-- ---- a part arrives
 
 -- it changes nothing but the transfer
 part_enters : (c : Configuration) (me : ℕ) (desk : Desk) (log : LogData) (past : List Entry) (s : ℕ) (message : Message) (bytes : List ℕ) → FitsLog c me log past → IsPart message
@@ -162,7 +162,7 @@ part_enters c me desk log past s message bytes f is h = record {
     none_asked (Page k index text) p = refl
     none_asked _ p = absurd p
 
--- so the event begins with the transfer that has it
+-- so the event begins with the transfer that has the part
 enters : (c : Configuration) (me : ℕ) (desk : Desk) (log : LogData) (past : List Entry) (s : ℕ) (message : Message) (bytes : List ℕ) (open_one : Option TransferData) (held : Holds c me desk log past) → IsPart message
     → heard (members c) me bytes ≡ Some (record { sender = s; message = message }) → FitsOpen c me open_one desk.state.number (Got me bytes ∷ past)
     → Fits c me (start_at c me desk log past held (Got me bytes)) (record desk { transfer = open_one }) log [] []
@@ -190,9 +190,9 @@ pages_enter c me desk log past t s index text bytes held is asks h long known = 
   pages_may_ask c me t desk.state.number past bytes s index text h asks long known (open_at c me desk t desk.state.number past is held.of_desk.opened),
 )
 
--- ---- which count
+-- ---- which parts count
 
--- what the point of a history that is held has open
+-- the open transfer at the point of a history that fits
 open_there : (c : Configuration) (me : ℕ) (desk : Desk) (log : LogData) (past : List Entry) (t : TransferData) (held : Holds c me desk log past) → desk.transfer ≡ Some t → FitsOpen c me (Some t) held.of_desk.point.state.number past
 open_there c me desk log past t held is =
     open_at c me desk t held.of_desk.point.state.number past is

@@ -1,4 +1,4 @@
--- One output more that is sent: what is held behind it fits.
+-- One output more: desk and log after it fit.
 use Rattle.std.proofs.Common.{◌≡◌, ◌≢◌, ℕ, ◌+◌, ◌≤◌, ◌<◌, ◌%◌, ◌⊎◌, inl, inr, Bool, true, false, cond, ◌&&◌, not, List, [], ◌∷◌, map, refl, sym, ap, ◌∙◌, subst, arith, Option, Some, None, is_some, is_none, eqb-true, eq-eqb}
 use Rattle.std.specs.Bool.{then_some}
 use Rattle.std.specs.Prelude.{◌==◌, nat_le, option_and_then, ⊤, AllPairs}
@@ -29,7 +29,7 @@ use Rattle.protocol.proofs.Words.Posting.{may_send}
 use Rattle.replica_histories.specs.Desk.{Desk, Snapshot, snapshot_of, kept_from, point_of}
 use Rattle.replica_histories.specs.Logs.{FitsLog, Takes}
 use Rattle.replica_histories.specs.Marks.{checked_log, BringsCheckpoint}
-use Rattle.replica_histories.specs.Events.{Start, behind, IsOnItsWay, MaySayDue, FitsFrames, IsReached, Fits, KeptAreAbove}
+use Rattle.replica_histories.specs.Events.{Start, after_outputs, IsOnItsWay, MaySayDue, FitsFrames, IsReached, Fits, KeptAreAbove}
 use Rattle.state_transfer.specs.Transfer.{TransferData}
 use Rattle.replica_histories.specs.Transfers.{FitsOpen}
 use Rattle.replica_histories.specs.TransfersQuorums.{BringsRoot}
@@ -46,7 +46,7 @@ use Rattle.replica_histories.proofs.SaidOnce.{Pays, pays_none, pays_first, first
 use Rattle.replica_histories.proofs.Transfers.{root_later, open_stays, asks_none}
 use Rattle.replica_histories.proofs.TransfersQuorums.{none_starts, quorums_go_on, no_root, own_root}
 
--- ---- what an output leaves as it is
+-- ---- what an output leaves
 
 pub on_way : (me : ℕ) (due rest : List Message) (outputs : List Entry) (e : Entry) → ((x : Message) → Has (λ y. y ≡ x) due → Has (λ y. y ≡ x) rest ⊎ IsSaying me x e) → (x : Message)
     → IsOnItsWay me due outputs x → IsOnItsWay me rest (e ∷ outputs) x
@@ -57,7 +57,7 @@ on_way me due rest outputs e paid x (inl h) = go (paid x h)
     go (inr k) = inr (inl k)
 on_way me due rest outputs e paid x (inr h) = inr (inr h)
 
--- what may be said as a reply, a checkpoint or a fetch may be said behind one more frame
+-- a reply, a checkpoint or a fetch that may be sent may be sent after one more frame
 pub due_stays : (c : Configuration) (me : ℕ) (past : List Entry) (bytes : List ℕ) (point : Point) (message : Message) → MaySayDue c me past point message → MaySayDue c me (Sent me bytes ∷ past) point message
 due_stays c me past bytes point (Reply client timestamp modes.Ordered number answer) h = h
 due_stays c me past bytes point (Reply client timestamp modes.ReadOnly number answer) h = h
@@ -72,7 +72,7 @@ due_stays c me past bytes point (Fetch k level index) h = (h.0, (h.1.0, root_lat
 due_stays c me past bytes point (Meta k level index digests) h = absurd h
 due_stays c me past bytes point (Page k index text) h = absurd h
 
--- a signed frame of the own that says what may be said may be sent, as it is for all
+-- the replica may send its own signed frame of a message that may be sent, since it is for all
 signed_addressed : (c : Configuration) (me : ℕ) (past : List Entry) (message : Message) (a : Authenticator) → authenticator_is_signed a ≡ true → IsAddressed c me past message a
 signed_addressed c me past message (macs entries) h = absurd cc
 signed_addressed c me past message (signature s) h = tt
@@ -93,16 +93,16 @@ signed_may_send c me past point e bytes message signed posted seen say leaf once
       ((posted.is_sealed frame is).0, signed_addressed c me past message frame.authenticator (spells.valid.proved ∙ ap (λ (b : Body). is_signed b.message) same ∙ signed));
 }
 
--- A frame that is sent: the log changes, of the snapshots these stay, this transfer is open, and what was due may be paid.
+-- A sent frame: the log changes, of the snapshots these stay, this transfer is open, and due messages may be paid.
 pub sent_goes : (c : Configuration) (me : ℕ) (s : Start) (desk : Desk) (log after : LogData) (due rest : List Message) (outputs : List Entry) (bytes : List ℕ) (snapshots : List Snapshot) (transfer : Option TransferData)
-    (f : Fits c me s desk log due outputs) → MaySend c me (behind s outputs) (point_of desk f.of_desk.states f.of_desk.ran) (Sent me bytes) bytes
-    → FitsLog c me after (Sent me bytes ∷ behind s outputs) → map snapshot_of (kept_states after.low f.of_desk.states) ≡ snapshots
-    → IsReached c me after.low desk.state.number rest (Sent me bytes ∷ behind s outputs)
-    → FitsOpen c me transfer desk.state.number (Sent me bytes ∷ behind s outputs)
-    → ((k : ℕ) (root : List ℕ) → BringsRoot c (behind s outputs) (Sent me bytes) k root → k ≤ desk.state.number)
-    → taken c (behind s outputs) (Sent me bytes) ≡ None
+    (f : Fits c me s desk log due outputs) → MaySend c me (after_outputs s outputs) (point_of desk f.of_desk.states f.of_desk.ran) (Sent me bytes) bytes
+    → FitsLog c me after (Sent me bytes ∷ after_outputs s outputs) → map snapshot_of (kept_states after.low f.of_desk.states) ≡ snapshots
+    → IsReached c me after.low desk.state.number rest (Sent me bytes ∷ after_outputs s outputs)
+    → FitsOpen c me transfer desk.state.number (Sent me bytes ∷ after_outputs s outputs)
+    → ((k : ℕ) (root : List ℕ) → BringsRoot c (after_outputs s outputs) (Sent me bytes) k root → k ≤ desk.state.number)
+    → taken c (after_outputs s outputs) (Sent me bytes) ≡ None
     → Pays me s desk.state due rest outputs bytes
-    → NumbersOnce c me (behind s outputs) (Sent me bytes)
+    → NumbersOnce c me (after_outputs s outputs) (Sent me bytes)
     → Fits c me s (record desk { snapshots = snapshots; transfer = transfer }) after rest (Sent me bytes ∷ outputs)
 sent_goes c me s desk log after due rest outputs bytes snapshots transfer f may fits kept reached opened roots none pays once = record {
   of_desk = record {
@@ -127,7 +127,7 @@ sent_goes c me s desk log after due rest outputs bytes snapshots transfer f may 
 }
   where
     past : List Entry
-    past = behind s outputs
+    past = after_outputs s outputs
 
     checkpoints : (k : ℕ) → Executes k [] (Sent me bytes) ⊎ Has (λ e. Executes k [] e) outputs → k % c.period ≡ 0
         → Has (λ st. (st.number ≡ k) × IsOnItsWay me rest (Sent me bytes ∷ outputs) (Checkpoint k (root_of st))) f.of_desk.states
@@ -136,7 +136,7 @@ sent_goes c me s desk log after due rest outputs bytes snapshots transfer f may 
         has_weaker (λ st. (st.number ≡ k) × IsOnItsWay me due outputs (Checkpoint k (root_of st))) (λ st. (st.number ≡ k) × IsOnItsWay me rest (Sent me bytes ∷ outputs) (Checkpoint k (root_of st)))
         (λ st w. (w.0, on_way me due rest outputs (Sent me bytes) pays.paid (Checkpoint k (root_of st)) w.1)) f.of_desk.states (f.of_desk.checkpoints k h multiple)
 
--- the log behind it
+-- the log after it
 pub log_sent : (c : Configuration) (me : ℕ) (log after : LogData) (past : List Entry) (bytes receivers : List ℕ) (message : Message) → FitsLog c me log past → IsPosted c me message receivers bytes → KeepsView message
     → Takes c me (Some (record { sender = me; message = message })) log after → IsPlaced c me log (record { sender = me; message = message }) → FitsLog c me after (Sent me bytes ∷ past)
 log_sent c me log after past bytes receivers message f posted keeps takes place =
@@ -156,26 +156,26 @@ never_signed (ViewChange vc) keeps h = absurd keeps
 never_signed (NewView new) keeps h = absurd keeps
 never_signed _ keeps h = absurd cc
 
--- Where the marks stay and no part is asked for, nothing but the log and what is due changes.
+-- If the marks stay and no part is asked for, only the log and the due messages change.
 pub sent_fits : (c : Configuration) (me : ℕ) (s : Start) (desk : Desk) (log after : LogData) (due rest : List Message) (outputs : List Entry) (bytes receivers : List ℕ) (message : Message)
-    (f : Fits c me s desk log due outputs) → IsPosted c me message receivers bytes → IsFor c me (behind s outputs) message receivers
-    → Each (λ frame. Once (HasSeen frame) (behind s outputs)) (carried message)
-    → MaySay c me (behind s outputs) (point_of desk f.of_desk.states f.of_desk.ran) (Sent me bytes) bytes message
+    (f : Fits c me s desk log due outputs) → IsPosted c me message receivers bytes → IsFor c me (after_outputs s outputs) message receivers
+    → Each (λ frame. Once (HasSeen frame) (after_outputs s outputs)) (carried message)
+    → MaySay c me (after_outputs s outputs) (point_of desk f.of_desk.states f.of_desk.ran) (Sent me bytes) bytes message
     → KeepsView message → Takes c me (Some (record { sender = me; message = message })) log after → IsPlaced c me log (record { sender = me; message = message })
     → place_from (record { sender = me; message = message }) ≡ None
-    → ((k : ℕ) (root : List ℕ) → BringsRoot c (behind s outputs) (Sent me bytes) k root → k ≤ desk.state.number)
-    → Pays me s desk.state due rest outputs bytes → (SentInEvent bytes (behind s outputs) → ⊥)
-    → NumbersOnce c me (behind s outputs) (Sent me bytes)
+    → ((k : ℕ) (root : List ℕ) → BringsRoot c (after_outputs s outputs) (Sent me bytes) k root → k ≤ desk.state.number)
+    → Pays me s desk.state due rest outputs bytes → (SentInEvent bytes (after_outputs s outputs) → ⊥)
+    → NumbersOnce c me (after_outputs s outputs) (Sent me bytes)
     → Fits c me s desk after rest (Sent me bytes ∷ outputs)
 sent_fits c me s desk log after due rest outputs bytes receivers message f posted for seen say keeps takes place none roots pays new once =
     sent_goes c me s desk log after due rest outputs bytes desk.snapshots desk.transfer f
-    (may_send c me (behind s outputs) (point_of desk f.of_desk.states f.of_desk.ran) (Sent me bytes) bytes receivers message posted for seen say (λ signed. never_signed message keeps signed) new)
-    (log_sent c me log after (behind s outputs) bytes receivers message f.of_log posted keeps takes place)
+    (may_send c me (after_outputs s outputs) (point_of desk f.of_desk.states f.of_desk.ran) (Sent me bytes) bytes receivers message posted for seen say (λ signed. never_signed message keeps signed) new)
+    (log_sent c me log after (after_outputs s outputs) bytes receivers message f.of_log posted keeps takes place)
     (ap (λ (h : ℕ). map snapshot_of (kept_states h f.of_desk.states)) (takes.stays.low ∙ sym f.of_log.low) ∙ f.of_desk.kept)
-    (reached_sent c me desk.state.number due rest log after (behind s outputs) bytes receivers message posted keeps place takes.stays.low pays.paid f.low)
-    (open_stays c me desk.transfer desk.state.number (behind s outputs) (Sent me bytes) (asks_none bytes me message posted.says none) tt f.of_desk.opened) roots (none_taken c (behind s outputs) (Sent me bytes) (ap (option_and_then (new_view_from c)) posted.says ∙ begins_none c me message keeps)) pays once
+    (reached_sent c me desk.state.number due rest log after (after_outputs s outputs) bytes receivers message posted keeps place takes.stays.low pays.paid f.low)
+    (open_stays c me desk.transfer desk.state.number (after_outputs s outputs) (Sent me bytes) (asks_none bytes me message posted.says none) tt f.of_desk.opened) roots (none_taken c (after_outputs s outputs) (Sent me bytes) (ap (option_and_then (new_view_from c)) posted.says ∙ begins_none c me message keeps)) pays once
 
--- a prepare is placed where its number is in the marks and the replica is active, and so is a commit
+-- a prepare has a place if its number is in the marks and the replica is active, and so has a commit
 differ : (log : LogData) (v i j : ℕ) → logs.is_in_marks log i ≡ true → (v ≢ log.view) ⊎ (logs.is_in_marks log j ≡ false) → ((log.view == v) && (i == j)) ≡ false
 differ log v i j k (inl other) = rw (ne_eqb log.view v (λ same. other (sym same))) refl
 differ log v i j k (inr out) = and_false (log.view == v) (i == j) (ne_eqb i j (λ same. apart (logs.is_in_marks log j) (subst (λ (x : ℕ). logs.is_in_marks log x ≡ true) same k) out))
@@ -213,7 +213,7 @@ commit_placed c me s i digest log is k = record {
   resting = λ rests j x. never_rests log is rests;
 }
 
--- ---- what numbers no request
+-- ---- outputs that number no request
 
 abbrev IsNoProposal : Message → Type 0
 IsNoProposal message = elim message [ PrePrepare v i batch ↦ ⊥ | _ ↦ ⊤ ]
@@ -223,19 +223,19 @@ no_proposal c me past bytes message h none v i batch says free =
     let is : ◌≡◌ {A = Body} (record { sender = me; message = message }) (record { sender = me; message = PrePrepare v i batch }) = some_injective _ _ (sym h ∙ says) in
     absurd (subst IsNoProposal (ap (λ (b : Body). b.message) is) none)
 
--- ---- the own votes
+-- ---- the replica's own votes
 
 none_is : {A : Type 0} (o : Option A) → is_none o ≡ true → o ≡ None
 none_is None h = refl
 none_is (Some x) h = absurd cc
 
--- who is asked for a prepare is active, and a backup
+-- if the log asks for a prepare, the replica is active, and a backup
 backup_of : (log : LogData) (b : Bool) → (log.active && not (log.me == logs.primary log log.view) && b) ≡ true → (log.active ≡ true) × (log.me ≢ logs.primary log log.view)
 backup_of log b h =
     let p = and_parts log.active (not (log.me == logs.primary log log.view)) (and_parts (log.active && not (log.me == logs.primary log log.view)) b h).0 in
     (p.0, eqb-false log.me (logs.primary log log.view) (not-true (log.me == logs.primary log log.view) p.1))
 
--- who is asked for a vote has not voted
+-- if the log asks for a vote, the replica has not voted
 fresh_prepare : (log : LogData) (i : ℕ) → (log.active && not (log.me == logs.primary log log.view) && is_none (logs.prepare_of log i log.me)) ≡ true → logs.prepare_of log i log.me ≡ None
 fresh_prepare log i h = none_is (logs.prepare_of log i log.me) (and_parts (log.active && not (log.me == logs.primary log log.view)) (is_none (logs.prepare_of log i log.me)) h).1
 
@@ -246,12 +246,12 @@ pub prepares_fit : PreparesFit
 unfolding prepare_of
 prepares_fit c me s desk log due outputs i digest bytes vote asks sender same posted f =
     sent_fits c me s desk log (logs.with_prepare log i vote) due due outputs bytes (others c me) (Prepare log.view i digest) f posted refl tt
-    (record { is_backup = backup; active = active c me log (behind s outputs) f.of_log ∙ is_active; batch = b.batch; is_logged = f.of_log.batches i b.within ∙ b.logged; digest_is = b.digest_is })
+    (record { is_backup = backup; active = active c me log (after_outputs s outputs) f.of_log ∙ is_active; batch = b.batch; is_logged = f.of_log.batches i b.within ∙ b.logged; digest_is = b.digest_is })
     tt
     (prepare_taken c me me i digest vote log f.of_log.is_log is_active b.within (subst (λ (x : ℕ). x < logs.replicas log) f.of_log.own f.of_log.is_log.me) (ap not (ne_eqb me (primary c log.view) (λ e. backup (sym e)))) sender same)
     (prepare_placed c me me i digest log is_active b.within)
-    refl (no_root c (behind s outputs) bytes me (Prepare log.view i digest) desk.state.number posted.says refl) (pays_none c me s desk log outputs (Prepare log.view i digest) bytes posted.says due refl f) new
-    (no_proposal c me (behind s outputs) bytes (Prepare log.view i digest) posted.says tt)
+    refl (no_root c (after_outputs s outputs) bytes me (Prepare log.view i digest) desk.state.number posted.says refl) (pays_none c me s desk log outputs (Prepare log.view i digest) bytes posted.says due refl f) new
+    (no_proposal c me (after_outputs s outputs) bytes (Prepare log.view i digest) posted.says tt)
   where
     test : ((log.active && not (log.me == logs.primary log log.view) && is_none (logs.prepare_of log i log.me)) ≡ true) × (logs.logged_digest log i ≡ Some digest)
     test = passed (log.active && not (log.me == logs.primary log log.view) && is_none (logs.prepare_of log i log.me)) (logs.logged_digest log i) digest asks
@@ -265,12 +265,12 @@ prepares_fit c me s desk log due outputs i digest bytes vote asks sender same po
     backup : primary c log.view ≢ me
     backup e = (backup_of log (is_none (logs.prepare_of log i log.me)) test.0).1 (f.of_log.own ∙ sym e ∙ sym (primary_same c log log.view f.of_log.faults))
 
-    -- the own prepare would have counted
-    none : prepare_of c me (behind s outputs) log.view i me ≡ None
+    -- the replica's own prepare would have counted
+    none : prepare_of c me (after_outputs s outputs) log.view i me ≡ None
     none = f.of_log.prepares i me b.within ∙ ap (logs.prepare_of log i) (sym f.of_log.own) ∙ fresh_prepare log i test.0
 
-    new : SentInEvent bytes (behind s outputs) → ⊥
-    new = new_by (λ earlier e. vote_in c me earlier e (prepare_from c me log.view i) log.view i) bytes (λ past p. (digest, ap (option_and_then (prepare_from c me log.view i)) posted.says ∙ prepared)) (behind s outputs) none
+    new : SentInEvent bytes (after_outputs s outputs) → ⊥
+    new = new_by (λ earlier e. vote_in c me earlier e (prepare_from c me log.view i) log.view i) bytes (λ past p. (digest, ap (option_and_then (prepare_from c me log.view i)) posted.says ∙ prepared)) (after_outputs s outputs) none
       where
         prepared : prepare_from c me log.view i (record { sender = me; message = Prepare log.view i digest }) ≡ Some digest
         prepared = rw (eq-eqb me me refl, eq-eqb log.view log.view refl, eq-eqb i i refl, ne_eqb me (primary c log.view) (λ e. backup (sym e))) refl
@@ -279,12 +279,12 @@ pub commits_fit : CommitsFit
 unfolding commit_of
 commits_fit c me s desk log due outputs i digest bytes vote asks sender same posted f =
     sent_fits c me s desk log (logs.with_commit log i vote) due due outputs bytes (others c me) (Commit log.view i digest) f posted refl tt
-    (record { active = active c me log (behind s outputs) f.of_log ∙ is_active; batch = p.0; prepared = prepared_here c me log (behind s outputs) i p.0 f.of_log p.1; digest_is = digest_is })
+    (record { active = active c me log (after_outputs s outputs) f.of_log ∙ is_active; batch = p.0; prepared = prepared_here c me log (after_outputs s outputs) i p.0 f.of_log p.1; digest_is = digest_is })
     tt
     (commit_taken c me me i digest vote log f.of_log.is_log is_active b.within (subst (λ (x : ℕ). x < logs.replicas log) f.of_log.own f.of_log.is_log.me) sender same)
     (commit_placed c me me i digest log is_active b.within)
-    refl (no_root c (behind s outputs) bytes me (Commit log.view i digest) desk.state.number posted.says refl) (pays_none c me s desk log outputs (Commit log.view i digest) bytes posted.says due refl f) new
-    (no_proposal c me (behind s outputs) bytes (Commit log.view i digest) posted.says tt)
+    refl (no_root c (after_outputs s outputs) bytes me (Commit log.view i digest) desk.state.number posted.says refl) (pays_none c me s desk log outputs (Commit log.view i digest) bytes posted.says due refl f) new
+    (no_proposal c me (after_outputs s outputs) bytes (Commit log.view i digest) posted.says tt)
   where
     test : ((log.active && logs.is_prepared log i && is_none (logs.commit_of log i log.me)) ≡ true) × (logs.logged_digest log i ≡ Some digest)
     test = passed (log.active && logs.is_prepared log i && is_none (logs.commit_of log i log.me)) (logs.logged_digest log i) digest asks
@@ -306,19 +306,19 @@ commits_fit c me s desk log due outputs i digest bytes vote asks sender same pos
         let row : logs.logged_batch log i ≡ Some p.0 = batch_read log i b.within ∙ p.1.row in
         ap sha256 (some_injective p.0 b.batch (sym row ∙ b.logged)) ∙ b.digest_is
 
-    none : commit_of c me (behind s outputs) log.view i me ≡ None
+    none : commit_of c me (after_outputs s outputs) log.view i me ≡ None
     none = f.of_log.commits i me b.within ∙ ap (logs.commit_of log i) (sym f.of_log.own) ∙ fresh_commit log i test.0
 
-    -- the own commit would have counted
-    new : SentInEvent bytes (behind s outputs) → ⊥
-    new = new_by (λ earlier e. vote_in c me earlier e (commit_from me log.view i) log.view i) bytes (λ past p. (digest, ap (option_and_then (commit_from me log.view i)) posted.says ∙ committed)) (behind s outputs) none
+    -- the replica's own commit would have counted
+    new : SentInEvent bytes (after_outputs s outputs) → ⊥
+    new = new_by (λ earlier e. vote_in c me earlier e (commit_from me log.view i) log.view i) bytes (λ past p. (digest, ap (option_and_then (commit_from me log.view i)) posted.says ∙ committed)) (after_outputs s outputs) none
       where
         committed : commit_from me log.view i (record { sender = me; message = Commit log.view i digest }) ≡ Some digest
         committed = rw (eq-eqb me me refl, eq-eqb log.view log.view refl, eq-eqb i i refl) refl
 
 -- ---- a batch of the primary's own
 
--- the place that a pre-prepare is for
+-- the place of a pre-prepare
 pub placed : (c : Configuration) (me w k v i s : ℕ) (b batch : List ℕ) → batch_from c me v i (record { sender = s; message = PrePrepare w k b }) ≡ Some batch → (w ≡ v) × (k ≡ i)
 placed c me w k v i s b batch h =
     let g = then_some_gives ((w == v) && (k == i) && (s == primary c v) && are_genuine c me b) b batch h in
@@ -327,7 +327,7 @@ placed c me w k v i s b batch h =
     let r = and_parts (w == v) (k == i) q.0 in
     (eqb-true w v r.0, eqb-true k i r.1)
 
--- what is held was seen and is genuine
+-- a stored frame was seen and is authentic
 each_held : (c : Configuration) (me : ℕ) (desk : Desk) (history : List Entry) (frames : List (List ℕ)) → FitsFrames c me desk history → Each (λ frame. Has (λ x. x ≡ frame) desk.frames) frames
     → Each (λ frame. Once (HasSeen frame) history × (is_some (heard (members c) me frame) ≡ true)) frames
 each_held c me desk history frames f h = each_weaker (λ frame. Has (λ x. x ≡ frame) desk.frames) (λ frame. Once (HasSeen frame) history × (is_some (heard (members c) me frame) ≡ true)) (λ frame k. f frame k) frames h
@@ -342,10 +342,10 @@ batches_fit c me s desk log due outputs i batch bytes p posted f =
     sent_fits c me s desk log (logs.with_batch log i batch) due due outputs bytes (others c me) (PrePrepare log.view i batch) f posted refl
     (each_weaker (λ frame. Once (HasSeen frame) past × (is_some (heard (members c) me frame) ≡ true)) (λ frame. Once (HasSeen frame) past) (λ frame k. k.0) (requests_of batch) seen)
     (record { is_primary = primary_is; active = active c me log past f.of_log ∙ p.active; in_marks = marks_are c me log past i f.of_log ∙ p.within; genuine = genuine; one = one; next = λ none. p.free })
-    tt takes is_placed refl (no_root c (behind s outputs) bytes me (PrePrepare log.view i batch) desk.state.number posted.says refl) (pays_none c me s desk log outputs (PrePrepare log.view i batch) bytes posted.says due refl f) new once
+    tt takes is_placed refl (no_root c (after_outputs s outputs) bytes me (PrePrepare log.view i batch) desk.state.number posted.says refl) (pays_none c me s desk log outputs (PrePrepare log.view i batch) bytes posted.says due refl f) new once
   where
     past : List Entry
-    past = behind s outputs
+    past = after_outputs s outputs
 
     primary_is : primary c log.view ≡ me
     primary_is = sym (primary_same c log log.view f.of_log.faults) ∙ p.own ∙ f.of_log.own
@@ -374,7 +374,7 @@ batches_fit c me s desk log due outputs i batch bytes p posted f =
     proposed : batch_from c me log.view i (record { sender = me; message = PrePrepare log.view i batch }) ≡ Some batch
     proposed = rw (eq-eqb log.view log.view refl, eq-eqb i i refl, eq-eqb me (primary c log.view) (sym primary_is), genuine) refl
 
-    -- the own batch would have counted
+    -- the replica's own batch would have counted
     given : (earlier : List Entry) (q : ℕ) → (x : List ℕ) × (proposal c me earlier (Sent q bytes) log.view i ≡ Some x)
     given earlier q = or_else_given (begun_proposal c me earlier (Sent q bytes) log.view i) (entry_proposal c me earlier (Sent q bytes) log.view i) batch (ap (option_and_then (batch_from c me log.view i)) posted.says ∙ proposed)
 
@@ -403,17 +403,17 @@ batches_fit c me s desk log due outputs i batch bytes p posted f =
         view_is : log.view ≡ v
         view_is = ap (λ (x : Body). view_of x.message) is
 
--- ---- a reply that is due
+-- ---- a due reply
 
 pub replies_fit : RepliesFit
 replies_fit c me s desk log rest outputs k kept bytes posted f =
     sent_fits c me s desk log log (reply_of k kept ∷ rest) rest outputs bytes ((256 + k) ∷ []) (reply_of k kept) f posted refl tt (f.of_desk.rightly (reply_of k kept) (inl refl))
     tt
     (takes_nothing c me (Some (record { sender = me; message = reply_of k kept })) log f.of_log.is_log (λ i w h. refl) (λ i x w h. refl) (λ i x w h. refl) (λ x. refl)) (beside_placed c me log me (reply_of k kept) tt)
-    refl (no_root c (behind s outputs) bytes me (reply_of k kept) desk.state.number posted.says refl) (pays_first c me s desk log outputs (reply_of k kept) bytes posted.says rest f)
-    (first_unsent c me s desk log outputs (reply_of k kept) bytes posted.says rest refl f) (no_proposal c me (behind s outputs) bytes (reply_of k kept) posted.says tt)
+    refl (no_root c (after_outputs s outputs) bytes me (reply_of k kept) desk.state.number posted.says refl) (pays_first c me s desk log outputs (reply_of k kept) bytes posted.says rest f)
+    (first_unsent c me s desk log outputs (reply_of k kept) bytes posted.says rest refl f) (no_proposal c me (after_outputs s outputs) bytes (reply_of k kept) posted.says tt)
 
--- ---- a checkpoint that is due
+-- ---- a due checkpoint
 
 -- of the snapshots those from a later mark on stay
 pub kept_on : (low high : ℕ) (states : List State) (snapshots : List Snapshot) → low ≤ high → map snapshot_of (kept_states low states) ≡ snapshots → map snapshot_of (kept_states high states) ≡ kept_from high snapshots
@@ -447,7 +447,7 @@ checkpoints_fit c me s desk log rest outputs entry bytes prepares commits posted
     (none_taken c past (Sent me bytes) (ap (option_and_then (new_view_from c)) posted.says)) pays (no_proposal c me past bytes (Checkpoint entry.number entry.digest) posted.says tt)
   where
     past : List Entry
-    past = behind s outputs
+    past = after_outputs s outputs
 
     may : MayCheckpoint c past (point_of desk f.of_desk.states f.of_desk.ran) entry.number entry.digest × (is_number entry.number ≡ true)
     may = f.of_desk.rightly (Checkpoint entry.number entry.digest) (inl refl)

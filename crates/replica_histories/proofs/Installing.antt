@@ -1,4 +1,4 @@
--- An installation: what is held behind it fits.
+-- An installation: desk and log after it fit.
 use Rattle.std.proofs.Common.{◌≡◌, ℕ, ◌%◌, ◌≤◌, ◌<◌, ◌⊎◌, inl, inr, Bool, true, false, cond, List, [], ◌∷◌, map, refl, sym, ap, ◌∙◌, arith, Some, None}
 use Rattle.std.specs.Prelude.{nat_le}
 use Rattle.wire.specs.Messages.{MessageData as Message, CheckpointEntryData as CheckpointEntry, checkpoint as Checkpoint, fetch as Fetch}
@@ -13,7 +13,7 @@ use Rattle.protocol.proofs.Words.Elements.{has_weaker}
 use Rattle.replica_histories.specs.Desk.{Snapshot, snapshot_of, kept_from, point_of}
 use Rattle.replica_histories.specs.Logs.{FitsLog}
 use Rattle.replica_histories.specs.Transfers.{FitsOpen, installed_point}
-use Rattle.replica_histories.specs.Events.{behind, IsOnItsWay}
+use Rattle.replica_histories.specs.Events.{after_outputs, IsOnItsWay}
 use Rattle.replica_histories.specs.Outputs.{InstallationsFit}
 use Rattle.replica_histories.proofs.Cutting.{cut_low, installations_move}
 use Rattle.replica_histories.proofs.Reaching.{reached_asking}
@@ -46,7 +46,7 @@ installations_fit c me s desk log outputs t st frames may rests root_is is numbe
 }
   where
     past : List Entry
-    past = behind s outputs
+    past = after_outputs s outputs
 
     old : Point
     old = point_of desk f.of_desk.states f.of_desk.ran

@@ -1,4 +1,4 @@
--- Lists of checkpoints: one more is put in its place, three stay, and those above a mark are taken.
+-- Lists of checkpoints: one more is put in its place, three stay, and a mark selects those above it.
 use Rattle.std.proofs.Common.{◌≡◌, ℕ, zero, suc, ◌≤◌, ◌<◌, ◌⊎◌, inl, inr, Bool, true, false, cond, ◌&&◌, ◌||◌, List, [], ◌∷◌, length, take, Option, Some, None, refl, sym, ap, ◌∙◌, arith, eqb-true, eq-eqb}
 use Rattle.std.specs.Prelude.{◌==◌, nat_lt, bytes_eq, ⊤}
 use Rattle.std.proofs.lemmas.Bool.{and_parts, eqb-false, ne_eqb, ltb-true, ltb-false, le-ltb}
@@ -13,7 +13,7 @@ use Rattle.protocol.proofs.Words.Elements.{each_weaker}
 use Rattle.protocol.proofs.Agreement.States.{is_checkpoint, has_take, has_insert}
 use Rattle.replica_histories.specs.Logs.{above_mark, Descend, AreLatest}
 
--- the log puts a checkpoint where the history does
+-- the log puts a checkpoint in the same place as the history
 pub inserts_same : (x : CheckpointEntry) (xs : List CheckpointEntry) → insert_checkpoint x xs ≡ held.insert_checkpoint x xs
 inserts_same x [] = refl
 inserts_same x (m ∷ ms) = go (m.number == x.number) (nat_lt m.number x.number) (inserts_same x ms)
@@ -75,7 +75,7 @@ none_above : (low : ℕ) (xs : List CheckpointEntry) → Each (λ y. y.number �
 none_above low [] h = refl
 none_above low (m ∷ ms) h = rw (le-ltb low m.number h.0) (none_above low ms h.1)
 
--- below one that is not above the mark none is
+-- below a checkpoint that is not above the mark there is none above it
 low_behind : (low : ℕ) (m : CheckpointEntry) (ms : List CheckpointEntry) → nat_lt low m.number ≡ false → Each (λ y. y.number < m.number) ms → Each (λ y. y.number ≤ low) ms
 low_behind low m ms e h = let l = ltb-false low m.number e in each_weaker (λ y. y.number < m.number) (λ y. y.number ≤ low) (λ y k. omega arith) ms h
 
@@ -90,7 +90,7 @@ above_take low (suc n) (m ∷ ms) h = go (nat_lt low m.number) refl (above_take 
         let behind = low_behind low m ms e h.0 in
         none_above low (take n ms) (each_take (λ y. y.number ≤ low) n ms behind) ∙ sym (ap (take (suc n)) (none_above low ms behind))
 
--- one above the mark is put among those above it
+-- a checkpoint above the mark is put among those above it
 above_insert : (low : ℕ) (x : CheckpointEntry) (xs : List CheckpointEntry) → Descend xs → nat_lt low x.number ≡ true → above_mark low (insert_checkpoint x xs) ≡ insert_checkpoint x (above_mark low xs)
 above_insert low x [] h a = rw a refl
 above_insert low x (m ∷ ms) h a = go (m.number == x.number) (nat_lt m.number x.number) (nat_lt low m.number) refl refl refl (above_insert low x ms h.1 a)
@@ -107,7 +107,7 @@ above_insert low x (m ∷ ms) h a = go (m.number == x.number) (nat_lt m.number x
     go false false true e f g below = rw (g, e, f) (ap (λ (ys : List CheckpointEntry). m ∷ ys) below)
     go false false false e f g below = let o = over in let k = ltb-false m.number x.number f in let l = ltb-false low m.number g in absurd (omega arith)
 
--- one that is not above it changes nothing above it
+-- a checkpoint that is not above the mark changes nothing above it
 above_not : (low : ℕ) (x : CheckpointEntry) (xs : List CheckpointEntry) → nat_lt low x.number ≡ false → above_mark low (insert_checkpoint x xs) ≡ above_mark low xs
 above_not low x [] a = rw a refl
 above_not low x (m ∷ ms) a = go (m.number == x.number) (nat_lt m.number x.number) (above_not low x ms a)
@@ -125,7 +125,7 @@ length_above low (m ∷ ms) = go (nat_lt low m.number) (length_above low ms)
     go true l = omega arith
     go false l = omega arith
 
--- so what is above the mark behind one more depends on no more than what was above it
+-- so the checkpoints above the mark after one more depend only on those above it before
 pub above_with : (low : ℕ) (x : CheckpointEntry) (xs : List CheckpointEntry) → AreLatest xs
     → above_mark low (take 3 (insert_checkpoint x xs)) ≡ cond (nat_lt low x.number) (take 3 (insert_checkpoint x (above_mark low xs))) (above_mark low xs)
 above_with low x xs h = above_take low 3 (insert_checkpoint x xs) (insert_descends x xs h.descend) ∙ go (nat_lt low x.number) refl
@@ -134,7 +134,7 @@ above_with low x xs h = above_take low 3 (insert_checkpoint x xs) (insert_descen
     go true e = ap (take 3) (above_insert low x xs h.descend e)
     go false e = ap (take 3) (above_not low x xs e) ∙ take_all 3 (above_mark low xs) (let a = length_above low xs in let b = h.few in omega arith)
 
--- what is above a higher mark is above the lower one
+-- a checkpoint above a higher mark is above the lower one
 pub above_higher : (low high : ℕ) (xs : List CheckpointEntry) → low ≤ high → above_mark high (above_mark low xs) ≡ above_mark high xs
 above_higher low high [] l = refl
 above_higher low high (m ∷ ms) l = go (nat_lt low m.number) (nat_lt high m.number) refl refl (above_higher low high ms l)
@@ -145,7 +145,7 @@ above_higher low high (m ∷ ms) l = go (nat_lt low m.number) (nat_lt high m.num
     go false false e f same = same
     go false true e f same = let a = ltb-false low m.number e in let b = ltb-true high m.number f in absurd (omega arith)
 
--- ---- what they say
+-- ---- whether a list has a checkpoint
 
 -- of a number above the mark
 pub says_above : (low : ℕ) (x : CheckpointEntry) (xs : List CheckpointEntry) → low < x.number → says_checkpoint x (above_mark low xs) ≡ says_checkpoint x xs
@@ -156,7 +156,7 @@ says_above low x (m ∷ ms) l = go (nat_lt low m.number) refl (says_above low x 
     go true e same = ap (λ (b : Bool). ((m.number == x.number) && bytes_eq m.digest x.digest) || b) same
     go false e same = let k = ltb-false low m.number e in let other = ne_eqb m.number x.number (λ is. absurd (omega arith)) in rw other same
 
--- so of one of that number
+-- the same for its number alone
 pub number_above : (low k : ℕ) (xs : List CheckpointEntry) → low < k → has_number k (above_mark low xs) ≡ has_number k xs
 number_above low k [] l = refl
 number_above low k (m ∷ ms) l = go (nat_lt low m.number) refl (number_above low k ms l)
@@ -165,7 +165,7 @@ number_above low k (m ∷ ms) l = go (nat_lt low m.number) refl (number_above lo
     go true e same = ap (λ (b : Bool). (m.number == k) || b) same
     go false e same = let a = ltb-false low m.number e in let other = ne_eqb m.number k (λ is. absurd (omega arith)) in rw other same
 
--- what says a checkpoint has its number
+-- a list with a checkpoint has its number
 pub says_number : (x : CheckpointEntry) (xs : List CheckpointEntry) → says_checkpoint x xs ≡ true → has_number x.number xs ≡ true
 says_number x [] h = h
 says_number x (m ∷ ms) h = go (m.number == x.number) (bytes_eq m.digest x.digest) (says_number x ms) h
@@ -174,9 +174,9 @@ says_number x (m ∷ ms) h = go (m.number == x.number) (bytes_eq m.digest x.dige
     go true b below k = refl
     go false b below k = below k
 
--- ---- what adds nothing
+-- ---- checkpoints that add nothing
 
--- in a list that has room for n, one of this number is there, or has no place
+-- in a list with room for n, one of this number is there, or has no place
 abbrev pub IsPassed : ℕ → ℕ → List CheckpointEntry → Type 0
 IsPassed zero k xs = ⊤
 IsPassed (suc n) k [] = ⊥
@@ -204,7 +204,7 @@ passed_adds_nothing (suc n) x (m ∷ ms) l (inr h) =
     let above = h.0 in
     rw (ne_eqb m.number x.number (λ same. absurd (omega arith)), le-ltb m.number x.number (omega arith)) (ap (λ (ys : List CheckpointEntry). m ∷ ys) (passed_adds_nothing n x ms (omega arith) h.1))
 
--- where one of its number is there it is passed
+-- a listed number is passed
 pub listed_passed : (n k : ℕ) (xs : List CheckpointEntry) → length xs ≤ n → Descend xs → has_number k xs ≡ true → IsPassed n k xs
 listed_passed n k [] l d h = absurd cc
 listed_passed zero k (m ∷ ms) l d h = absurd (omega arith)
@@ -222,7 +222,7 @@ listed_passed (suc n) k (m ∷ ms) l d h = go (m.number == k) refl h (listed_pas
     go true is h later = inl (eqb-true m.number k is)
     go false is h later = inr (below ms d.0 h, later h)
 
--- behind itself it is passed
+-- after itself it is passed
 pub passed_behind : (n : ℕ) (x : CheckpointEntry) (xs : List CheckpointEntry) → IsPassed n x.number (take n (insert_checkpoint x xs))
 passed_behind zero x xs = tt
 passed_behind (suc n) x [] = inl refl
@@ -254,7 +254,7 @@ passed_stays (suc n) k x (m ∷ ms) h = go (m.number == x.number) (nat_lt m.numb
 says_itself : (x : CheckpointEntry) (ys : List CheckpointEntry) → says_checkpoint x (x ∷ ys) ≡ true
 says_itself x ys = rw (eq-eqb x.number x.number refl, (bytes_eq-Decides x.digest x.digest).1 refl) refl
 
--- what is put in finds room, or adds nothing
+-- a checkpoint that is put in finds room, or adds nothing
 pub put_or_passed : (n : ℕ) (x : CheckpointEntry) (xs : List CheckpointEntry) → length xs ≤ n → (says_checkpoint x (take n (insert_checkpoint x xs)) ≡ true) ⊎ (take n (insert_checkpoint x xs) ≡ xs)
 put_or_passed zero x [] l = inr refl
 put_or_passed zero x (m ∷ ms) l = absurd (omega arith)
@@ -273,7 +273,7 @@ put_or_passed (suc n) x (m ∷ ms) l = go (m.number == x.number) (nat_lt m.numbe
     go false false (inl k) = inl (rw k (later ((m.number == x.number) && bytes_eq m.digest x.digest)))
     go false false (inr k) = inr (ap (λ (ys : List CheckpointEntry). m ∷ ys) k)
 
--- ---- a sender's list behind one more
+-- ---- a sender's list after one more
 
 pub behind_latest : (s : ℕ) (o : Option (ℕ × CheckpointEntry)) (xs : List CheckpointEntry) → AreLatest xs → AreLatest (with_checkpoint s o xs)
 behind_latest s None xs h = h
@@ -283,7 +283,7 @@ behind_latest s (Some x) xs h = go (x.0 == s)
     go true = with_latest x.1 xs h
     go false = h
 
--- what is above the mark behind one more depends on no more than what was above it
+-- the checkpoints above the mark after one more depend only on those above it before
 pub behind_above : (low s : ℕ) (o : Option (ℕ × CheckpointEntry)) (xs ys : List CheckpointEntry) → AreLatest xs → AreLatest ys → above_mark low xs ≡ above_mark low ys
     → above_mark low (with_checkpoint s o xs) ≡ above_mark low (with_checkpoint s o ys)
 behind_above low s None xs ys h k same = same
@@ -301,7 +301,7 @@ same_entry m x h =
     let ed : x.digest ≡ m.digest = (bytes_eq-Decides x.digest m.digest).0 p.1 in
     ap (λ (t : ℕ). let y : CheckpointEntry = record { number = t; digest = x.digest } in y) en ∙ ap (λ (t : List ℕ). let y : CheckpointEntry = record { number = m.number; digest = t } in y) ed
 
--- one that says this was there, or is the one more
+-- a checkpoint in the list was there, or is the one more
 pub behind_says : (m : CheckpointEntry) (s : ℕ) (o : Option (ℕ × CheckpointEntry)) (xs : List CheckpointEntry) → says_checkpoint m (with_checkpoint s o xs) ≡ true
     → (says_checkpoint m xs ≡ true) ⊎ (o ≡ Some (s, m))
 behind_says m s None xs h = inl h

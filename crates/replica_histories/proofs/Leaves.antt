@@ -24,7 +24,7 @@ pub leaves_spent : (old new : ℕ) (past : List Entry) (e : Entry) → SpendsLea
 leaves_spent old new past e spends below sent leaf is (inl now) = spends.1 sent leaf is now
 leaves_spent old new past e spends below sent leaf is (inr before) = let less = below sent leaf is before in let more = spends.0 in omega arith
 
--- what isn't signed has no leaf
+-- an unsigned frame has no leaf
 pub unsigned_sends_none : (c : Configuration) (past : List Entry) (e : Entry) (body : Body) → brought c e ≡ Some body → is_signed body.message ≡ false → (sent : List ℕ) (leaf : ℕ) → leaf_of sent ≡ Some leaf → SendsBytes sent past e → SentBefore sent past
 unsigned_sends_none c past (Sent p bytes) body says unsigned sent leaf is now =
     let none : leaf_of bytes ≡ None = unsigned_no_leaf bytes body says unsigned in

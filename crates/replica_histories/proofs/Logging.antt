@@ -1,4 +1,4 @@
--- What an entry that takes no new view and leaves the marks does to the log.
+-- How an entry that takes no new view and leaves the marks changes the log.
 use Rattle.std.proofs.Common.{◌≡◌, ◌≢◌, ℕ, ◌+◌, ◌^◌, ◌≤◌, ◌<◌, ◌⊎◌, inl, inr, Bool, true, false, cond, ◌&&◌, List, [], ◌∷◌, slice_index_or, refl, sym, ap, ◌∙◌, subst, arith, Option, Some, None, eqb-true}
 use Rattle.std.specs.Prelude.{◌==◌, nat_le, nat_lt, option_and_then, ⊤}
 use Rattle.std.specs.Bool.{then_some}
@@ -60,7 +60,7 @@ sent_quiet c me past bytes sender message says keeps = record {
   not_installed = refl;
 }
 
--- ---- what it leaves
+-- ---- what the entry leaves
 
 after_none : (v t : ℕ) (o : Option NewViewData) → option_and_then (λ (new : NewViewData). then_some (is_later v t new) new) o ≡ None → view_after v t o ≡ v
 after_none v t None h = refl
@@ -74,7 +74,7 @@ pub view_quiet : (c : Configuration) (past : List Entry) (e : Entry) → taken c
 unfolding view
 view_quiet c past e none = after_none (view c past) (target past) (new_view_in c e) none
 
--- above the mark it adds no checkpoint that the log doesn't have
+-- above the mark it adds no checkpoint that the log lacks
 checks_quiet : (c : Configuration) (me : ℕ) (log new : LogData) (past : List Entry) (e : Entry) → FitsLog c me log past → Takes c me (brought c e) log new → (s : ℕ)
     → above_mark log.low (checkpoints_of c (e ∷ past) s) ≡ above_mark log.low (logs.checkpoints_of log s)
 unfolding checkpoints_of
@@ -106,13 +106,13 @@ low_goes c me log new past e f q t =
         pick true k = was x.1 k
         pick false k = omega arith
 
--- what it logs is what its own message gives
+-- its own message decides what it logs
 pub proposal_quiet : (c : Configuration) (me : ℕ) (past : List Entry) (e : Entry) (v i : ℕ) → taken c past e ≡ None → proposal c me past e v i ≡ entry_proposal c me past e v i
 proposal_quiet c me past e v i none =
     or_else_second (begun_proposal c me past e v i) (entry_proposal c me past e v i)
     (gated (is_in_marks c (low c me (e ∷ past)) i) (option_and_then (batch_begun v i) (taken c past e)) (ap (option_and_then (batch_begun v i)) none))
 
--- so no later view is begun
+-- so no later view begins
 pub begun_quiet : (c : Configuration) (past : List Entry) (e : Entry) (most : ℕ) → taken c past e ≡ None → ((v : ℕ) (batch : List ℕ) → Once (BeginsViewWith c v batch) past → v ≤ most) → (v : ℕ) (batch : List ℕ)
     → Once (BeginsViewWith c v batch) (e ∷ past) → v ≤ most
 begun_quiet c past e most none before v batch (inl h) = let bad : None ≡ Some h.0 = sym none ∙ h.1 in absurd cc
@@ -126,8 +126,8 @@ active_goes past e log new none ev ea was =
 
 -- ---- the log
 
--- How an entry is read: within the marks by what it brings, while the replica is active in the view of the log; and
--- elsewhere it logs nothing and casts no vote.
+-- How an entry is read: within the marks by its message, while the replica is active in the view of the log. Elsewhere
+-- it logs nothing and casts no vote.
 pub record Read (c : Configuration) (me : ℕ) (log : LogData) (past : List Entry) (e : Entry) : Type 0 where
   pub quiet : Quiet c past e
   pub batch : (i : ℕ) → logs.is_in_marks log i ≡ true → entry_proposal c me past e log.view i ≡ while_active log (option_and_then (batch_from c me log.view i) (brought c e))
@@ -175,7 +175,7 @@ same_elsewhere c me log past e v i r other = record {
     nothing None h = refl
     nothing (Some batch) h = absurd (clash (r.place v i batch (sym (proposal_quiet c me past e v i r.quiet.no_view) ∙ h)) other)
 
--- All of them, where the replica is active no more.
+-- All of them, if the replica is inactive.
 pub same_resting : (c : Configuration) (me : ℕ) (log : LogData) (past : List Entry) (e : Entry) (v i : ℕ) → Read c me log past e → log.active ≡ false → Same c me (e ∷ past) past v i
 unfolding logged prepare_of commit_of
 same_resting c me log past e v i r resting = at_view (v == log.view) refl
@@ -198,9 +198,9 @@ same_resting c me log past e v i r resting = at_view (v == log.view) refl
     at_view true h = subst (λ (x : ℕ). Same c me (e ∷ past) past x i) (sym (eqb-true v log.view h)) (within (logs.is_in_marks log i) refl)
     at_view false h = same_elsewhere c me log past e v i r (inl (eqb-false v log.view h))
 
--- what the log has of other views stays
+-- the log keeps what it has of other views
 module _ (c : Configuration) (me : ℕ) (log new : LogData) (past : List Entry) (e : Entry) (f : FitsLog c me log past) (r : Read c me log past e) (t : Takes c me (brought c e) log new) where
-  -- a view below the own one, or any where the replica is active no more
+  -- a view below the current one, or any if the replica is inactive
   same_earlier : (v i : ℕ) → (v < log.view) ⊎ (log.active ≡ false) → Same c me (e ∷ past) past v i
   same_earlier v i (inl below) = same_elsewhere c me log past e v i r (inl (λ same. absurd (omega arith)))
   same_earlier v i (inr resting) = same_resting c me log past e v i r resting
@@ -298,7 +298,7 @@ log_goes c me log new past e f r t = record {
 
 -- ---- how entries are read
 
--- what is got is read while active in the view
+-- received bytes are read while active in the view
 pub got_reads : (c : Configuration) (me : ℕ) (log : LogData) (past : List Entry) (bytes : List ℕ) (i : ℕ) (vote : Body → Option (List ℕ)) → FitsLog c me log past → logs.is_in_marks log i ≡ true
     → vote_in c me past (Got me bytes) vote log.view i ≡ while_active log (option_and_then vote (heard (members c) me bytes))
 got_reads c me log past bytes i vote f k = go log.active (active c me log past f)
@@ -335,7 +335,7 @@ got_read c me log past bytes f none = record {
     place v i batch false e h = absurd cc
     place v i batch true e h = at v i e
 
--- what is neither got nor sent
+-- entries that neither receive nor send
 pub silent_read : (c : Configuration) (me : ℕ) (log : LogData) (past : List Entry) (e : Entry) → Plain c past e → brought c e ≡ None → Read c me log past e
 silent_read c me log past e q none = record {
   quiet = plain_quiet c past e q;
@@ -350,8 +350,8 @@ silent_read c me log past e q none = record {
     nothing true vote = ap (option_and_then vote) none
     nothing false vote = refl
 
--- An own message: what it proposes is in the view and marks, and so is what it votes for; and where the replica is active
--- no more it does neither.
+-- The replica's own message: its proposal is in the view and marks, and so is its vote. If the replica is inactive, it
+-- makes neither.
 pub record IsPlaced (c : Configuration) (me : ℕ) (log : LogData) (body : Body) : Type 0 where
   pub batch : (v i : ℕ) (batch : List ℕ) → batch_from c me v i body ≡ Some batch → (v ≡ log.view) × (logs.is_in_marks log i ≡ true)
   pub votes : (v i s : ℕ) → (v ≢ log.view) ⊎ (logs.is_in_marks log i ≡ false) → (prepare_from c s v i body ≡ None) × (commit_from s v i body ≡ None)
@@ -367,7 +367,7 @@ beside_placed c me log sender (Prepare v i digest) h = absurd h
 beside_placed c me log sender (Commit v i digest) h = absurd h
 beside_placed c me log sender _ h = record { batch = λ v i batch h. absurd cc; votes = λ v i s other. (refl, refl); resting = λ rests i s. (refl, refl, refl) }
 
--- what is sent and changes no view
+-- a sent message that changes no view
 pub sent_read : (c : Configuration) (me : ℕ) (log : LogData) (past : List Entry) (bytes : List ℕ) (sender : ℕ) (message : Message) → said bytes ≡ Some (record { sender = sender; message = message }) → KeepsView message
     → IsPlaced c me log (record { sender = sender; message = message }) → Read c me log past (Sent me bytes)
 sent_read c me log past bytes sender message says keeps p = record {

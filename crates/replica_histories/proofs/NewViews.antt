@@ -1,4 +1,4 @@
--- A new view begins: what is held behind it fits.
+-- A new view begins: desk and log after it fit.
 use Rattle.std.proofs.Common.{◌≡◌, ℕ, suc, ◌+◌, ◌≤◌, ◌<◌, ◌%◌, ◌⊎◌, inl, inr, Bool, true, false, cond, List, [], ◌∷◌, max, map, Option, Some, None, refl, sym, ap, ◌∙◌, subst, arith}
 use Rattle.std.specs.Prelude.{nat_le, nat_lt, option_and_then, ⊤}
 use Rattle.std.specs.Bool.{then_some}
@@ -16,7 +16,7 @@ use Rattle.protocol.specs.System.Trace.{Entry, Has}
 use Rattle.protocol.specs.System.Trace.Entry.{Got, Sent}
 use Rattle.protocol.specs.Replica.Certificates.{view, target, taken, is_later, new_view_in, change_sent, change_from, checkpoint_in, commit_of, Committed}
 use Rattle.protocol.specs.Replica.State.{State, call_in, last_time, root_of}
-use Rattle.protocol.specs.Replica.Owed.{IsSaying, Gives, StartsAhead}
+use Rattle.protocol.specs.Replica.Owed.{IsSaying, SendsMessage, StartsAhead}
 use Rattle.protocol.specs.Replica.RightReplica.{Point, MaySend, Executes, kept_states, reply_of, with_waiting, waiting_after, StartsAt, IsRootWanted}
 use Rattle.protocol.proofs.Words.Options.{some_injective, and_then_some, then_some_gives}
 use Rattle.protocol.proofs.Words.Elements.{has_weaker}
@@ -26,7 +26,7 @@ use Rattle.protocol.proofs.Words.Reacting.{proceeds_leaves}
 use Rattle.replica_histories.specs.Desk.{Desk, snapshot_of, point_of}
 use Rattle.replica_histories.specs.Logs.{FitsLog}
 use Rattle.replica_histories.specs.Transfers.{FitsOpen, MayAsk, AsksNext, transfer_to, open_number}
-use Rattle.replica_histories.specs.Events.{behind, IsOnItsWay, IsAsked, MaySayDue, IsReached, IsFetched}
+use Rattle.replica_histories.specs.Events.{after_outputs, IsOnItsWay, IsAsked, MaySayDue, IsReached, IsFetched}
 use Rattle.replica_histories.specs.Views.{begun_log, start_due, NewViewsEnter, NewViewsFit, StartsMayAsk}
 use Rattle.replica_histories.proofs.Words.{given_not}
 use Rattle.replica_histories.proofs.Certified.{committed_there}
@@ -40,17 +40,17 @@ use Rattle.replica_histories.proofs.TransfersQuorums.{quorums_begin, quorums_go_
 use Rattle.replica_histories.proofs.Batches.{begun_low}
 use Rattle.replica_histories.proofs.Beginning.{Still, still_brings, still_commit, still_committed, new_above, new_small, begun_high, logged_before, begun_fits}
 
--- what is taken is not below the target
+-- a new view that the replica takes is not below the target
 targets_at_most : (c : Configuration) (past : List Entry) (e : Entry) (new : NewViewData) → taken c past e ≡ Some new → target past ≤ new.view
 targets_at_most c past e new t =
     let r = and_then_some (λ (x : NewViewData). then_some (is_later (view c past) (target past) x) x) (new_view_in c e) new t in
     let g = then_some_gives (is_later (view c past) (target past) r.0) r.0 new r.2 in
     subst (λ (x : NewViewData). target past ≤ x.view) g.1 (leb-true (target past) r.0.view (and_parts (nat_lt (view c past) r.0.view) (nat_le (target past) r.0.view) g.0).1)
 
--- ---- what is committed, fetched and due
+-- ---- committed batches, fetches and due messages
 
 module _ (c : Configuration) (me : ℕ) (log : LogData) (past : List Entry) (e : Entry) (new : NewViewData) (f : FitsLog c me log past) (q : Still c me past e) (t : taken c past e ≡ Some new) where
-  -- what is committed behind it was so before
+  -- a batch that is committed after it was so before
   committed_before : (v i : ℕ) (batch : List ℕ) → Committed c me (e ∷ past) v i batch → Committed c me past v i batch
   committed_before v i batch k = go (nat_lt log.view v) refl
     where
@@ -65,7 +65,7 @@ module _ (c : Configuration) (me : ℕ) (log : LogData) (past : List Entry) (e :
     is_ahead : Bool
     is_ahead = nat_lt (open_number desk.state.number desk.transfer) new.start
 
-    -- a start above the executed number is fetched, or due
+    -- a start above the executed number is fetched, or its fetch is due
     start_fetched : desk.state.number < new.start → IsFetched new.start (start_due desk new) (e ∷ past)
     start_fetched above = go (nat_lt (open_number desk.state.number desk.transfer) new.start) refl
       where
@@ -75,7 +75,7 @@ module _ (c : Configuration) (me : ℕ) (log : LogData) (past : List Entry) (e :
             let least = lower_are_fetched c me desk.transfer desk.state.number new.start past above (ltb-false (open_number desk.state.number desk.transfer) new.start l) opened in
             inl (omega arith)
 
-    -- one that is above what was fetched is due
+    -- if it is above all that was fetched, its fetch is due
     start_due_then : (k : ℕ) → StartsAhead c k past e → desk.state.number < k → Has (λ x. x ≡ Fetch k levels.Root 0) (start_due desk new)
     start_due_then k h above = subst (λ (n : ℕ). Has (λ x. x ≡ Fetch n levels.Root 0) (start_due desk new)) same (go (nat_lt (open_number desk.state.number desk.transfer) new.start) refl)
       where
@@ -89,7 +89,7 @@ module _ (c : Configuration) (me : ℕ) (log : LogData) (past : List Entry) (e :
             let newer = h.3 in
             absurd (omega (arith, least, newer, same))
 
-    -- the low mark is reached where it was, and nothing is committed for the next number
+    -- the low mark is reached if it was, and no batch is committed for the next number
     begun_reached : IsReached c me log.low desk.state.number [] past → (log.low ≤ desk.state.number → (v : ℕ) (batch : List ℕ) → Committed c me past v (suc desk.state.number) batch → ⊥)
         → IsReached c me (begun_log log new).low desk.state.number (start_due desk new) (e ∷ past)
     begun_reached was next = go (nat_le (begun_log log new).low desk.state.number) refl
@@ -125,7 +125,7 @@ module _ (c : Configuration) (me : ℕ) (log : LogData) (past : List Entry) (e :
         go true l = inl (leb-true (begun_log log new).low desk.state.number l)
         go false l = inr (fetched (leb-false (begun_log log new).low desk.state.number l) (nat_lt log.low new.start) refl, none was)
 
-    -- the fetch that is due may be said
+    -- the due fetch may be sent
     start_rightly : (states : List State) (point : Point) → point.state ≡ desk.state → (message : Message) → Has (λ x. x ≡ message) (start_due desk new) → MaySayDue c me (e ∷ past) point message
     start_rightly states point same message h = go (nat_lt (open_number desk.state.number desk.transfer) new.start) refl h
       where
@@ -138,7 +138,7 @@ module _ (c : Configuration) (me : ℕ) (log : LogData) (past : List Entry) (e :
             let number = ap (λ (st : State). st.number) same in
             subst (λ (x : Message). MaySayDue c me (e ∷ past) point x) k (new.root, (omega arith, inr (inl (new, t, refl, refl))))
 
--- ---- a new view is got
+-- ---- a new view arrives
 
 abbrev IsNewView : Message → Type 0
 IsNewView message = elim message [ NewView new ↦ ⊤ | _ ↦ ⊥ ]
@@ -197,13 +197,13 @@ new_views_enter c me desk log past s new bytes held h t = record {
         let same : ◌≡◌ {A = Body} (record { sender = s; message = NewView new }) (record { sender = 256 + k; message = Request a.0 modes.Ordered a.1 }) = some_injective _ _ (sym h ∙ hears) in
         subst IsNewView (ap (λ (b : Body). b.message) same) tt
 
-    -- the last event left nothing that is committed next
+    -- the last event left no committed batch for the next number
     next : (v : ℕ) (batch : List ℕ) → Committed c me past v (suc desk.state.number) batch → ⊥
     next v batch k =
         (rests c me past held.of_desk.point held.of_desk.proceeds).executes v batch
         (subst (λ (st : State). Committed c me past v (suc st.number) batch) (sym (ap (λ (p : Point). p.state) held.of_desk.is)) k)
 
--- ---- a new view is sent
+-- ---- the replica sends a new view
 
 pub new_views_fit : NewViewsFit
 new_views_fit c me s desk log outputs new bytes none_due none_next primary_is t seen posted leaf f = record {
@@ -231,7 +231,7 @@ new_views_fit c me s desk log outputs new bytes none_due none_next primary_is t 
 }
   where
     past : List Entry
-    past = behind s outputs
+    past = after_outputs s outputs
 
     e : Entry
     e = Sent me bytes
@@ -256,7 +256,7 @@ new_views_fit c me s desk log outputs new bytes none_due none_next primary_is t 
         let known = committed_there c me log past v (suc desk.state.number) batch f.of_log (omega arith) k in
         given_not (logs.committed_batch log (suc desk.state.number)) known.0 known.1 none_next
 
-    older : (k : ℕ) (kept : Kept) → IsSaying me (reply_of k kept) e ⊎ Gives me (reply_of k kept) outputs → kept.timestamp ≤ last_time desk.state k
+    older : (k : ℕ) (kept : Kept) → IsSaying me (reply_of k kept) e ⊎ SendsMessage me (reply_of k kept) outputs → kept.timestamp ≤ last_time desk.state k
     older k kept (inr given) = f.says.replies k kept (inr given)
     older k kept (inl now) = absurd (no_reply (NewView new) k kept refl (saying me (NewView new) (reply_of k kept) bytes posted.says now))
 
@@ -267,13 +267,13 @@ new_views_fit c me s desk log outputs new bytes none_due none_next primary_is t 
         has_weaker (λ st. (st.number ≡ k) × IsOnItsWay me [] outputs (Checkpoint k (root_of st))) (λ st. (st.number ≡ k) × IsOnItsWay me (start_due desk new) (e ∷ outputs) (Checkpoint k (root_of st)))
         (λ st w. (w.0, on_way me [] (start_due desk new) outputs e (λ x d. absurd d) (Checkpoint k (root_of st)) w.1)) f.of_desk.states (f.of_desk.checkpoints k h multiple)
 
--- ---- the start's state is fetched
+-- ---- the replica fetches the state at the start
 
 pub starts_may_ask : StartsMayAsk
 starts_may_ask c me s desk log due outputs new pages once above f = go desk.transfer above f.of_desk.opened
   where
     history : List Entry
-    history = behind s outputs
+    history = after_outputs s outputs
 
     wanted : IsRootWanted c history new.start new.root
     wanted = inr (once_weaker (λ past e. taken c past e ≡ Some new) (StartsAt c new.start new.root) (λ past e h. (new, h, refl, refl)) history once)

@@ -1,4 +1,4 @@
--- Where a history begins, and where nothing is left without a number.
+-- A history before its first entry, and one in which no request is left without a number.
 use Rattle.std.proofs.Common.{◌≡◌, ℕ, ◌+◌, ◌^◌, ◌≤◌, ◌<◌, inl, inr, Bool, true, false, ◌&&◌, List, [], length, nat_lt, nat_le, refl, sym, ap, ◌∙◌, subst, arith, is_some}
 use Rattle.std.proofs.lemmas.Bool.{and_parts, and_from, lt-ltb, ltb-true, ltb-false, le-leb, leb-true}
 use Rattle.std.proofs.lemmas.List.{length-drop}
@@ -13,7 +13,7 @@ use Rattle.protocol.proofs.Words.Elements.{each_has, each_mapped}
 use Rattle.replica_histories.specs.Numbers.{unnumbered, HasNumber, HasNone, FirstNumbersFit, next_number, IsNextFree, NextIsFree, NumbersAreGiven, NumbersLeaveFewer}
 use Rattle.replica_histories.proofs.NumbersFlags.{left_unnumbered, all_numbered}
 
--- ---- where it begins
+-- ---- before the first entry
 
 nothing_numbered : (c : Configuration) (me v client timestamp : ℕ) → IsNumbered c me [] v client timestamp → ⊥
 unfolding logged
@@ -50,7 +50,7 @@ above_low c h j e =
     let p = and_parts (nat_lt h j && nat_le j (h + span c)) (nat_lt j (2 ^ 48)) e in
     ltb-true h j (and_parts (nat_lt h j) (nat_le j (h + span c)) p.0).0
 
--- where a number is free, all that were used are below it
+-- if a number is free, all used ones are below it
 used_below : (c : Configuration) (me v used : ℕ) (st : State) (history : List Entry) (i : ℕ) → ((j : ℕ) → low c me history < j → j ≤ used → is_some (logged c me history v j) ≡ true) → IsFree c me history st.number v i → used < i
 used_below c me v used st history i full free = go (nat_lt used i) refl
   where
@@ -76,7 +76,7 @@ next_is_free c me v used begun entries st waiting history f next = record {
   unused = λ j above. f.free j (omega (arith, above));
 }
 
--- ---- all that waits has a number
+-- ---- all waiting requests have a number
 
 pub numbers_are_given : NumbersAreGiven
 numbers_are_given c me v used begun entries st waiting history f all i call has free =

@@ -19,7 +19,7 @@ use Rattle.replica_histories.proofs.Words.{passed, gated, apart, given_not}
 use Rattle.replica_histories.proofs.NumbersLists.{each_where, IsAt, Spells}
 use Rattle.replica_histories.proofs.NumbersFlags.{begun_is, is_begun_where}
 
--- ---- views above the own one
+-- ---- views above the current one
 
 pub logs_are_of_no_later_view : LogsAreOfNoLaterView
 logs_are_of_no_later_view c me log history f = record {
@@ -81,7 +81,7 @@ module _ (c : Configuration) (client timestamp : ℕ) where
   abbrev IsIt : BegunCall → Type 0
   IsIt = λ b. (b.client ≡ client) × (b.timestamp ≡ timestamp)
 
-  -- a call is begun where some batch has its request
+  -- the new view has a call if some batch has its request
   in_batches : (batches : List (List ℕ)) → IsBegun (begun_in c batches) client timestamp → Has (HasRequest c client timestamp) batches
   in_batches batches h =
       let calls = has_map IsIt begun_by (filter_map (call_of c) (flat_map requests_of batches)) h in
@@ -97,7 +97,7 @@ module _ (c : Configuration) (client timestamp : ℕ) where
       (has_weaker (HasRequest c client timestamp) (λ batch. Has IsGiven (requests_of batch))
       (λ batch. has_weaker (Spells c client timestamp) IsGiven (λ frame x. (x.0, x.1, (x.2, x.3))) (requests_of batch)) batches h)))
 
--- ---- what is logged
+-- ---- logged batches
 
 given_at : (xs : List (List ℕ)) (k : ℕ) → k < length xs → (x : List ℕ) × (slice_get xs k ≡ Some x)
 given_at [] k l = absurd (omega (arith, l))
@@ -130,7 +130,7 @@ module _ (c : Configuration) (me : ℕ) (past : List Entry) (e : Entry) (new : N
       gated (counts_at c me past e new.view i) (option_and_then (batch_from c me new.view i) (brought c e))
       (ap (option_and_then (batch_from c me new.view i)) r.1 ∙ ap (λ (m : Message). batch_from c me new.view i (record { sender = r.0.sender; message = m })) message)
 
-  -- and nothing was logged before
+  -- and no batch was logged before
   nothing_logged : (i : ℕ) → logged c me past new.view i ≡ None
   nothing_logged i = go (logged c me past new.view i) refl
     where
@@ -179,7 +179,7 @@ module _ (c : Configuration) (me : ℕ) (past : List Entry) (e : Entry) (new : N
       few : (length new.batches ≤ span c) × ((i : ℕ) → new.start < i → i - new.start - 1 < length new.batches → i < 2 ^ 48)
       few = few_batches c new (selected_in c e new (takes c me past e new enters).brought)
 
-  -- ---- what has a number
+  -- ---- which requests have a number
 
   begun_has : (i : ℕ) (batch : List ℕ) → batch_begun new.view i new ≡ Some batch → Has (λ x. x ≡ batch) new.batches
   begun_has i batch h = get_has batch new.batches (i - new.start - 1) (passed ((new.view == new.view) && nat_lt new.start i) (slice_get new.batches (i - new.start - 1)) batch h).1

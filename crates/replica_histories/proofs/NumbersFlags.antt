@@ -1,4 +1,4 @@
--- Requests that wait, with the flags that say which of them have numbers.
+-- Waiting requests, with the flags that say which of them have numbers.
 use Rattle.std.proofs.Common.{◌≡◌, ℕ, zero, suc, ◌≤◌, inl, inr, Bool, true, false, cond, not, List, [], ◌∷◌, length, take, drop, filter, refl, sym, ap, ◌∙◌, subst, arith, eqb-true, eq-eqb}
 use Rattle.std.specs.Prelude.{◌==◌, ◌&&◌}
 use Rattle.std.proofs.lemmas.Bool.{and_parts, and_from, not-true}
@@ -16,7 +16,7 @@ pub either_weaker : {A B C D : Type 0} (b : Bool) → (A → C) → (B → D) �
 either_weaker true f g h = f h
 either_weaker false f g h = g h
 
--- a request that waits has a number where its flag says so, and none where it doesn't
+-- a waiting request has a number if its flag says so, and none if it doesn't
 module _ (c : Configuration) (me v : ℕ) (history : List Entry) (w : Waiting) where
   abbrev IsSo : Bool → Type 0
   IsSo = λ b. either b (HasNumber c me v history w.call) (HasNone c me v history w.call)
@@ -63,7 +63,7 @@ left_unnumbered (suc n) (w ∷ ws) = go w.numbered refl (left_unnumbered (suc n)
     go false e h k = k
 
 module _ (F G : Waiting → Type 0) (old : (w : Waiting) → w.numbered ≡ true → F w → G w) where
-  -- where none gets one
+  -- if none gets one
   each_left : (ws : List Waiting) → ((w : Waiting) → w.numbered ≡ false → Has (λ x. x ≡ w) (unnumbered ws) → F w → G w) → Each F ws → Each G ws
   each_left [] none e = tt
   each_left (w ∷ ws) none e = (first w.numbered refl none, each_left ws (rest w.numbered none) e.1)
@@ -77,7 +77,7 @@ module _ (F G : Waiting → Type 0) (old : (w : Waiting) → w.numbered ≡ true
       rest true none x at has = none x at has
       rest false none x at has = none x at (inr has)
 
-  -- what is said of each then
+  -- the property of each then
   pub each_numbered : (n : ℕ) (ws : List Waiting) → ((w : Waiting) → Has (λ x. x ≡ w) (take n (unnumbered ws)) → G (record w { numbered = true }))
       → ((w : Waiting) → w.numbered ≡ false → Has (λ x. x ≡ w) (drop n (unnumbered ws)) → F w → G w) → Each F ws → Each G (with_numbered n ws)
   each_numbered n [] new none e = tt
@@ -95,9 +95,9 @@ module _ (F G : Waiting → Type 0) (old : (w : Waiting) → w.numbered ≡ true
       go true at new none as_many fewer = (old w at e.0, as_many new none)
       go false at new none as_many fewer = (new w (inl refl), fewer (λ x has. new x (inr has)) none)
 
--- ---- how many have none
+-- ---- how many have no number
 
--- where none is without one, all have one
+-- if none is without one, all have one
 pub all_numbered : (P N : Call → Type 0) (ws : List Waiting) → count_unnumbered ws ≡ 0 → Each (λ w. either w.numbered (P w.call) (N w.call)) ws → Each (λ w. P w.call) ws
 all_numbered P N [] none e = tt
 all_numbered P N (w ∷ ws) none e = go w.numbered none e.0 (λ k. all_numbered P N ws k e.1)
@@ -107,7 +107,7 @@ all_numbered P N (w ∷ ws) none e = go w.numbered none e.0 (λ k. all_numbered 
     go true k h below = (h, below k)
     go false k h below = absurd (omega (arith, k))
 
--- some of them have no more
+-- no more of some of them are without one
 pub fewer_unnumbered : (test : Waiting → Bool) (ws : List Waiting) → count_unnumbered (filter test ws) ≤ count_unnumbered ws
 fewer_unnumbered test [] = omega arith
 fewer_unnumbered test (w ∷ ws) = go (test w) (fewer_unnumbered test ws)
@@ -126,9 +126,9 @@ fewer_unnumbered test (w ∷ ws) = go (test w) (fewer_unnumbered test ws)
     go true h = kept (not w.numbered) h
     go false h = dropped (not w.numbered) h
 
--- ---- what a new view began
+-- ---- the calls of a new view
 
--- the call is begun exactly where one of these is it
+-- the new view has the call exactly if one of these is that call
 pub begun_is : (begun : List BegunCall) (call : Call) → is_begun begun call ≡ true → IsBegun begun call.client call.timestamp
 begun_is begun call h = has_of_any (λ b. (b.client ≡ call.client) × (b.timestamp ≡ call.timestamp)) (λ b. (b.client == call.client) && (b.timestamp == call.timestamp)) of begun h
   where

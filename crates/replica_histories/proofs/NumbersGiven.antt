@@ -22,7 +22,7 @@ use Rattle.replica_histories.proofs.NumbersFlags.{flag_has, has_flag, lacks_flag
 use Rattle.replica_histories.proofs.NumbersLists.{each_front, each_back, has_taken, Pairs, pairs_of, all_pairs, pairs_kept, pairs_mapped, pairs_unmapped, pairs_front, pairs_across, IsAt, Covers, spelled_at, call_spelled, Differ, frames_differ}
 use Rattle.replica_histories.proofs.NumbersKept.{numbered_stays, same_proposal, proposal_takes_none, logged_elsewhere}
 
--- what the own pre-prepare logs for a number that is free
+-- the batch that the primary's own pre-prepare logs for a free number
 logged_here : (c : Configuration) (me v i : ℕ) (batch bytes : List ℕ) (past : List Entry) → primary c v ≡ me → are_genuine c me batch ≡ true
     → said bytes ≡ Some (record { sender = me; message = PrePrepare v i batch }) → logged c me past v i ≡ None → logged c me (Sent me bytes ∷ past) v i ≡ Some batch
 unfolding logged
@@ -77,7 +77,7 @@ module _ (c : Configuration) (me v used i most : ℕ) (begun : List BegunCall) (
   elsewhere : (j : ℕ) → j ≢ i → logged c me now v j ≡ logged c me past v j
   elsewhere j ne = logged_elsewhere c me v i j batch bytes past says (λ free. ne)
 
-  -- what has a number now is one of these, or had one
+  -- a request that has a number now is one of these, or had one
   numbered_back : (client timestamp : ℕ) → IsNumbered c me now v client timestamp → Has (IsAt client timestamp) calls ⊎ IsNumbered c me past v client timestamp
   numbered_back client timestamp (b, inl (j, at), has) = go (j == i) refl
     where
@@ -142,7 +142,7 @@ module _ (c : Configuration) (me v used i most : ℕ) (begun : List BegunCall) (
       (has_weaker (λ (w : Waiting). IsAt client timestamp w.call) (λ w. Covers client timestamp w.call) (λ w at. (at.0, let same = at.1 in omega (arith, same))) oldest
       (has_map (IsAt client timestamp) (λ (w : Waiting). w.call) oldest new)))))))
 
-  -- no number is left out
+  -- no number is skipped
   full : (j : ℕ) → low c me now < j → j ≤ i → is_some (logged c me now v j) ≡ true
   full j over upto = go (j == i) refl
     where

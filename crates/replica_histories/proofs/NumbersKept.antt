@@ -1,4 +1,4 @@
--- Entries that give no number.
+-- Entries that assign no number.
 use Rattle.std.proofs.Common.{◌≡◌, ◌≢◌, ℕ, inl, inr, true, false, ◌&&◌, List, [], ◌∷◌, refl, sym, arith, ap, ◌∙◌, subst, Option, Some, None, is_some, eqb-true}
 use Rattle.std.specs.Prelude.{◌==◌, option_and_then}
 use Rattle.std.specs.Option.{option_map_or}
@@ -21,7 +21,7 @@ use Rattle.replica_histories.proofs.Words.{passed, gated, given_not}
 use Rattle.replica_histories.proofs.Speaking.{heard_other}
 use Rattle.replica_histories.proofs.NumbersFlags.{either_weaker}
 
--- ---- what an entry logs
+-- ---- which batches an entry logs
 
 -- a batch is proposed by a pre-prepare of the view's primary
 pub batch_said : (c : Configuration) (me v i : ℕ) (batch : List ℕ) (sender : ℕ) (message : Message) → batch_from c me v i (record { sender = sender; message = message }) ≡ Some batch
@@ -36,7 +36,7 @@ batch_said c me v i batch sender (PrePrepare w k b) h =
     (rw (ev, ei, g.1) refl, eqb-true sender (primary c v) q.1)
 batch_said c me v i batch sender _ h = absurd cc
 
--- where no new view is taken, what is logged comes from such a message
+-- if no new view is taken, a logged batch comes from such a message
 pub proposal_said : (c : Configuration) (me v i : ℕ) (batch : List ℕ) (past : List Entry) (e : Entry) → taken c past e ≡ None → proposal c me past e v i ≡ Some batch
     → (body : Body) × (brought c e ≡ Some body) × (body.message ≡ PrePrepare v i batch) × (body.sender ≡ primary c v)
 proposal_said c me v i batch past e none h =
@@ -47,7 +47,7 @@ proposal_said c me v i batch past e none h =
     let s = batch_said c me v i batch b.0.sender b.0.message b.2 in
     (b.0, b.1, s.0, s.1)
 
--- what proposes nothing for a number that is free logs nothing
+-- an entry that proposes nothing for a free number logs nothing there
 pub logged_same : (c : Configuration) (me v i : ℕ) (past : List Entry) (e : Entry) → ((batch : List ℕ) → proposal c me past e v i ≡ Some batch → logged c me past v i ≡ None → ⊥)
     → logged c me (e ∷ past) v i ≡ logged c me past v i
 unfolding logged
@@ -58,7 +58,7 @@ logged_same c me v i past e none = go (logged c me past v i) (proposal c me past
     go None None f = refl
     go None (Some batch) f = absurd (f batch refl refl)
 
--- ---- what has a number
+-- ---- which requests have a number
 
 -- a number stays
 pub numbered_stays : (c : Configuration) (me v client timestamp : ℕ) (past : List Entry) (e : Entry) → IsNumbered c me past v client timestamp → IsNumbered c me (e ∷ past) v client timestamp
@@ -85,9 +85,9 @@ numbers_stay c me v used begun entries st waiting past e k f = record {
   differ = f.differ;
 }
 
--- ---- what is no pre-prepare that is sent
+-- ---- entries that send no pre-prepare
 
--- what is brought is heard of another, or is said
+-- a message that an entry brings is received from another, or sent
 proposed_by_other : (c : Configuration) (me v i : ℕ) (batch : List ℕ) (e : Entry) → primary c v ≡ me → party_of e ≡ me → sends_pre_prepare e ≡ false
     → (body : Body) → brought c e ≡ Some body → body.message ≡ PrePrepare v i batch → body.sender ≡ primary c v → ⊥
 proposed_by_other c me v i batch (Got p bytes) own here none body brings message sender = heard_other c p bytes body brings (sender ∙ own ∙ sym here)

@@ -1,4 +1,4 @@
--- Laws of lists that numbering stands on: parts of a list, what is kept of them, and frames beside their calls.
+-- Laws of lists on which numbering stands: parts of a list, filters, and frames beside their calls.
 use Rattle.std.proofs.Common.{◌≡◌, ◌≢◌, ℕ, zero, suc, ◌≤◌, inl, inr, Bool, true, false, cond, List, [], ◌∷◌, ◌++◌, map, take, drop, filter, Some, refl, sym, ap, ◌∙◌, arith, All, AllPairs}
 use Rattle.std.proofs.lemmas.List.Kept.{AllPairs-cons, AllPairs-filter}
 use Rattle.wire.specs.Lists.{Each}
@@ -35,7 +35,7 @@ has_dropped P zero xs h = h
 has_dropped P (suc n) [] h = absurd h
 has_dropped P (suc n) (x ∷ xs) h = inr (has_dropped P n xs h)
 
--- ---- what is kept of a list, and what is said of its elements
+-- ---- a filtered list, and properties of its elements
 
 pub mapped_kept : {A B : Type 0} (f : A → B) (test : B → Bool) (xs : List A) → map f (filter (λ x. test (f x)) xs) ≡ filter test (map f xs)
 mapped_kept f test [] = refl

@@ -1,4 +1,4 @@
--- What waits changes: a newer request comes, or a state that has run some.
+-- The waiting requests change: a newer one arrives, or a state that has run some.
 use Rattle.std.proofs.Common.{◌≡◌, ◌≢◌, ℕ, suc, ◌≤◌, ◌<◌, ◌⊎◌, inl, inr, Bool, true, false, cond, not, ◌&&◌, ◌||◌, ◌==◌, List, [], ◌∷◌, ◌++◌, filter, fold, refl, sym, ap, ◌∙◌, subst, arith, Option, Some, None, eqb-true, eq-eqb}
 use Rattle.std.specs.Prelude.{nat_lt, option_and_then}
 use Rattle.std.specs.List.{list_all}
@@ -20,7 +20,7 @@ use Rattle.replica_histories.proofs.Words.{apart}
 use Rattle.replica_histories.proofs.NumbersFlags.{begun_is, is_begun_where, begun_numbered, fewer_unnumbered}
 use Rattle.replica_histories.proofs.NumbersLists.{mapped_kept, each_where, pairs_of, all_pairs, pairs_with, Differ, Covers}
 
--- what is known otherwise stays known where this does
+-- if one reason implies another, a call known for either stays known
 either_known : {A B C : Type 0} → A ⊎ C → (A → B) → B ⊎ C
 either_known (inl h) f = inl (f h)
 either_known (inr h) f = inr h
@@ -36,7 +36,7 @@ module _ (c : Configuration) (me v used : ℕ) (begun : List BegunCall) (entries
   abbrev is_other : Call → Bool
   is_other = λ other. not (other.client == call.client)
 
-  -- a request of its client that waits is older
+  -- a waiting request of its client is older
   older : (other : Call) → Has (λ x. x ≡ other) all_calls → other.client ≡ call.client → other.timestamp < call.timestamp
   older other has same = each_has (λ (x : Call). x.client ≡ call.client → x.timestamp < call.timestamp) all_calls other
       (each_of_all (λ (x : Call). x.client ≡ call.client → x.timestamp < call.timestamp) (is_newer call) below all_calls newer) has same
@@ -46,7 +46,7 @@ module _ (c : Configuration) (me v used : ℕ) (begun : List BegunCall) (entries
           let tests : (not true || nat_lt x.timestamp call.timestamp) ≡ true = ap (λ (b : Bool). not b || nat_lt x.timestamp call.timestamp) (sym (eq-eqb x.client call.client of_client)) ∙ e in
           ltb-true x.timestamp call.timestamp tests
 
-  -- so it has a number only where a new view gave it
+  -- so it has a number only if a new view assigned it
   unknown : IsKnown st all_calls call.client call.timestamp → ⊥
   unknown (inl ran) = omega (arith, unseen, ran)
   unknown (inr waits) =
@@ -69,7 +69,7 @@ module _ (c : Configuration) (me v used : ℕ) (begun : List BegunCall) (entries
       go true e = begun_numbered c me v call.client call.timestamp history begun f.numbered (begun_is begun call e)
       go false e = λ h. apart (is_begun begun call) (fresh h) e
 
-  -- what is known stays so
+  -- known calls stay known
   known_on : (client timestamp : ℕ) → IsKnown st all_calls client timestamp → IsKnown st (filter is_other all_calls ++ call ∷ []) client timestamp
   known_on client timestamp (inl ran) = inl ran
   known_on client timestamp (inr waits) = inr (go (client == call.client) refl)
@@ -101,7 +101,7 @@ module _ (c : Configuration) (me v used : ℕ) (begun : List BegunCall) (entries
         (λ x e h. eqb-false x.client call.client (not-true (x.client == call.client) e)) all_calls (each_where (λ (x : Call). x ≡ x) all_calls (λ x has. refl))));
   }
 
--- where the calls stand for what waits
+-- if the calls are those of the waiting requests
 arrives : (c : Configuration) (me v used : ℕ) (begun : List BegunCall) (entries : List Waiting) (st : State) (history : List Entry) (call : Call)
     → FitsNumbers c me v used begun entries st (calls_of entries) history
     → FitsNumbers c me v used begun (entries_with begun st entries call) st (with_waiting st (calls_of entries) call) history

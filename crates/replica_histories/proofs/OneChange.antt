@@ -1,4 +1,4 @@
--- The view change of a replica that has to move is one: what its history says, in one order.
+-- A replica that has to move has one view change: that of its history, in one order.
 use Rattle.std.proofs.Common.{◌≡◌, ℕ, ◌≤◌, ◌<◌, ◌⊎◌, inl, inr, Bool, true, false, ◌&&◌, List, [], ◌∷◌, map, reverse, Some, refl, sym, ap, ap₂, ◌∙◌, subst, arith, eq-eqb, eqb-true}
 use Rattle.std.specs.Prelude.{◌==◌, nat_lt}
 use Rattle.std.proofs.lemmas.Bool.{and_from, and_parts, or_cases, or_left, or_right, ltb-true, ltb-false, lt-ltb}
@@ -27,7 +27,7 @@ record IsStrict (before : Claim → Claim → Bool) : Type 0 where
   trans : (a b d : Claim) → before a b ≡ true → before b d ≡ true → before a d ≡ true
   never : (a : Claim) → before a a ≡ true → ⊥
 
--- each before all that stand behind it, where each is before the next
+-- each is before all after it, if each is before the next
 all_ascend : (before : Claim → Claim → Bool) → IsStrict before → (xs : List Claim) → ascends before xs ≡ true → Ascends before xs
 all_ascend before strict [] h = tt
 all_ascend before strict (x ∷ xs) h = let p = and_parts (leads before x xs) (ascends before xs) h in let rest = all_ascend before strict xs p.1 in (first xs p.0 rest, rest)
@@ -109,7 +109,7 @@ by_names = record {
   never = λ a h. named_apart a a (named a a h) refl refl;
 }
 
--- ---- both say the same
+-- ---- both lists say the same
 
 claim_is : (a b : Claim) → a.number ≡ b.number → a.digest ≡ b.digest → a.view ≡ b.view → a ≡ b
 claim_is a b n d v =
@@ -118,7 +118,7 @@ claim_is a b n d v =
     ∙ ap (λ (k : ℕ). let z : Claim = record { number = b.number; digest = b.digest; view = k } in z) v
 
 module _ (c : Configuration) (me : ℕ) (history : List Entry) where
-  -- what one list says to be prepared, the other does
+  -- a batch that one list says to be prepared, the other does
   same_prepared : (xs ys : List Claim) → IsPreparedList c me history xs → IsPreparedList c me history ys → (z : Claim) → Has (λ x. x ≡ z) xs → Has (λ y. y ≡ z) ys
   same_prepared xs ys p q z has = go (has_some (λ y. y.number ≡ z.number) ys (q.all z.view z.number here.0.0 here.1 here.0.1))
     where
@@ -154,7 +154,7 @@ module _ (c : Configuration) (me : ℕ) (history : List Entry) where
               ap₂ (λ (v n : ℕ). logged c me history v n) (sym view) (sym number) ∙ it.0.1.logged in
               sym it.0.2 ∙ ap sha256 (some_injective it.0.0 here.0.0 (sym batch ∙ here.0.1.logged)) ∙ here.0.2
 
-  -- and what one list says to be pre-prepared
+  -- and a batch that one list says to be pre-prepared
   record NamedThere (ys : List Claim) (i : ℕ) (digest : List ℕ) (v : ℕ) : Type 0 where
     claim : Claim
     there : Has (λ y. y ≡ claim) ys
@@ -191,7 +191,7 @@ module _ (c : Configuration) (me : ℕ) (history : List Entry) where
 
 -- ---- the view change
 
--- what a frame says may be said
+-- a message in a frame may be sent
 pub said_valid : (bytes : List ℕ) (body : Body) → said bytes ≡ Some body → IsMessage body.message
 said_valid bytes body h = let w = (says_what_is_spelled bytes body).0 h in subst (λ (b : Body). IsMessage b.message) w.2 w.1.valid.message
 

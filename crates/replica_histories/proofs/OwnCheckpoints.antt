@@ -21,13 +21,13 @@ use Rattle.replica_histories.proofs.Speaking.{heard_other}
 use Rattle.replica_histories.proofs.Checking.{own_said, said_may, said_listed}
 use Rattle.replica_histories.proofs.TransfersAnswering.{Distinct, distinct}
 
--- ---- what leaves it
+-- ---- entries that leave it
 
 pub none_first : (c : Configuration) (me : ℕ) → latest_checkpoint c me [] ≡ None
 unfolding checkpoints_of
 none_first c me = refl
 
--- what brings no checkpoint
+-- an entry without a checkpoint
 pub none_later : (c : Configuration) (me : ℕ) (past : List Entry) (e : Entry) → checkpoint_in c e ≡ None → latest_checkpoint c me (e ∷ past) ≡ latest_checkpoint c me past
 unfolding checkpoints_of
 none_later c me past e none = ap (λ (o : Option (ℕ × CheckpointEntry)). slice_get (with_checkpoint me o (checkpoints_of c past me)) 0) none
@@ -41,7 +41,7 @@ of_other me sender (Checkpoint number root) checkpoints other = go (is_number nu
     go false = refl
 of_other me sender _ checkpoints other = refl
 
--- what is got
+-- received bytes
 pub got_later : (c : Configuration) (me : ℕ) (past : List Entry) (bytes : List ℕ) → latest_checkpoint c me (Got me bytes ∷ past) ≡ latest_checkpoint c me past
 unfolding checkpoints_of
 got_later c me past bytes = go (heard (members c) me bytes) refl
@@ -58,7 +58,7 @@ first_stays entry (m ∷ ms) is =
     let same : m ≡ entry = some_injective m entry is in
     rw (eq-eqb m.number entry.number (ap (λ (x : CheckpointEntry). x.number) same)) refl
 
--- whether what is sent is no checkpoint, or the latest
+-- whether a sent message is no checkpoint, or the latest one
 abbrev pub IsNoLater : Configuration → ℕ → List Entry → Message → Type 0
 IsNoLater c me past message =
     (k : ℕ) (root : List ℕ) → message ≡ Checkpoint k root → latest_checkpoint c me past ≡ Some (record { number = k; digest = root })
@@ -77,7 +77,7 @@ sent_later c me past bytes message says news =
         go false = refl
     of _ is = refl
 
--- ---- what becomes it
+-- ---- the new one becomes it
 
 -- none is above the entry, and one of its number is alike
 abbrev AreBelow : CheckpointEntry → List CheckpointEntry → Type 0

@@ -1,4 +1,4 @@
--- What is owed to a part that comes.
+-- What the replica owes to a part that arrives.
 use Rattle.std.proofs.Common.{◌≡◌, ℕ, ◌≤◌, ◌<◌, inl, inr, true, List, [], ◌∷◌, length, map, get_or, refl, sym, ap, ◌∙◌, subst, arith, Option, Some, None}
 use Rattle.std.specs.List.{range_with_len}
 use Rattle.std.specs.Option.{ForSome}
@@ -26,7 +26,7 @@ use Rattle.replica_histories.specs.Desk.{Desk}
 use Rattle.replica_histories.specs.Events.{Holds}
 use Rattle.replica_histories.specs.Fetching.{IsOther, OtherDigestsOweNone, OtherPagesOweNone, FetchesSuffice, FetchedSuffice}
 use Rattle.replica_histories.specs.Questions.{is_part, AnswersInput, AnswersReads, AnswersWaiting, MovesOn}
-use Rattle.replica_histories.specs.Transfers.{FitsTransfer, FitsOpen, RestsOn}
+use Rattle.replica_histories.specs.Transfers.{FitsTransfer, FitsOpen, RestsOnState}
 use Rattle.replica_histories.specs.TransfersAnswers.{AnswersFetches}
 use Rattle.replica_histories.proofs.Questions.{parts_ask_nothing}
 use Rattle.replica_histories.proofs.Transfers.{wanted_by_history}
@@ -47,10 +47,10 @@ all_held pages held long same =
     ext_get_or [] (map pages (range_with_len 0 1024)) held (length-map-range_with_len pages 0 1024 ∙ sym long)
     (λ i l. let within : i < 1024 = subst (λ (n : ℕ). i < n) (length-map-range_with_len pages 0 1024) l in page_at pages 1024 i within ∙ sym (same i within))
 
--- ---- a part that is heard
+-- ---- a received part
 
 module _ (c : Configuration) (me : ℕ) (past : List Entry) (bytes : List ℕ) (point : Point) (outputs : List Entry) (executed : ℕ) where
-  -- the body is a part that is awaited, and its number
+  -- the body is an awaited part
   abbrev Awaits : Body → Type 0
   Awaits body = elim body.message [
     | Meta k level index digests ↦ IsAwaitedAlone c me past point k level index (digest_of_children digests)
@@ -82,7 +82,7 @@ module _ (c : Configuration) (me : ℕ) (past : List Entry) (bytes : List ℕ) (
           let same : body ≡ other = some_injective body other (sym h ∙ hears) in
           subst (λ (b : Body). GoesOnFor (number_in b)) same (goes (subst Awaits (sym same) awaited))
 
-  -- what is awaited was asked for
+  -- an awaited part was asked for
   asked_in : (body : Body) → Awaits body → (place : Level × ℕ) × (asked_last past ≡ Some (number_in body, place))
   asked_in body a = go body.message a
     where
@@ -91,7 +91,7 @@ module _ (c : Configuration) (me : ℕ) (past : List Entry) (bytes : List ℕ) (
       go (Page k index text) h = ((levels.Page, index), h.0.0)
       go _ h = absurd h
 
--- ---- with what is held
+-- ---- with the data of the desk
 
 module _ (c : Configuration) (me : ℕ) (desk : Desk) (log : LogData) (past : List Entry) (held : Holds c me desk log past) where
   abbrev point : Point
@@ -103,7 +103,7 @@ module _ (c : Configuration) (me : ℕ) (desk : Desk) (log : LogData) (past : Li
   opened : (t : TransferData) → desk.transfer ≡ Some t → FitsTransfer c me t past
   opened t there = (subst (λ (o : Option TransferData). FitsOpen c me o desk.state.number past) there held.of_desk.opened).0
 
-  -- where nothing is open, nothing above the executed number was asked for
+  -- if no transfer is open, nothing above the executed number was asked for
   none_open : desk.transfer ≡ None → (n : ℕ) (place : Level × ℕ) → asked_last past ≡ Some (n, place) → point.state.number < n → ⊥
   none_open none n place asked above =
       let most = (subst (λ (o : Option TransferData). FitsOpen c me o desk.state.number past) none held.of_desk.opened).0 in
@@ -125,7 +125,7 @@ module _ (c : Configuration) (me : ℕ) (desk : Desk) (log : LogData) (past : Li
           x.2 (ap (λ (y : ℕ × (Level × ℕ)). y.0) same) (ap (λ (y : ℕ × (Level × ℕ)). let p : Place = record { level = y.1.0; index = y.1.1 } in p) same)
           (a.1 x.0 (subst (λ (y : ℕ × (Level × ℕ)). IsWanted c me past y.0 y.1.0 y.1.1 x.0) same (wanted_by_history c me t past t.asked.level t.asked.index x.0 (opened t e).aims x.1)))
 
-  -- a part that is awaited is of the open transfer's number
+  -- an awaited part is of the open transfer's number
   same_number : (t : TransferData) (body : Body) → desk.transfer ≡ Some t → Awaits c me past [] point [] 0 body → t.number ≡ number_in c me past [] point [] 0 body
   same_number t body there a =
       let asked = asked_in c me past [] point [] 0 body a in
@@ -157,7 +157,7 @@ fetched_suffice c me desk log past t new body bytes outputs executed held there 
 
     in_place_held : all_pages (in_place c me new.number now held.of_desk.point.state) ≡ new.held
     in_place_held = all_held (in_place c me new.number now held.of_desk.point.state) new.held long
-        (held_in_place c me new now held.of_desk.point.state may.taken (subst (λ (st : State). RestsOn new st) (sym (state_is c me desk log past held)) rests))
+        (held_in_place c me new now held.of_desk.point.state may.taken (subst (λ (st : State). RestsOnState new st) (sym (state_is c me desk log past held)) rests))
 
     reached : CanInstall c me now held.of_desk.point new.number new.root → new.number ≤ executed
     reached can =

@@ -1,4 +1,4 @@
--- A primary that selects nothing by what it holds has no new view to send by its history.
+-- A primary that selects nothing over its data has no new view to send by its history.
 use Rattle.std.proofs.Common.{◌≡◌, ℕ, zero, suc, ◌≤◌, ◌<◌, ◌⊎◌, inl, inr, Bool, true, false, cond, ◌&&◌, List, [], ◌∷◌, length, map, Option, Some, None, refl, sym, ap, ap₂, ◌∙◌, subst, arith, eqb-true, eq-eqb}
 use Rattle.std.specs.Prelude.{◌==◌, nat_le}
 use Rattle.std.specs.Option.{option_map_or}
@@ -33,7 +33,7 @@ use Rattle.replica_histories.proofs.Words.{primary_same}
 -- ---- one batch of each digest is enough
 
 module _ (c : Configuration) (view : ℕ) (claims : ClaimsData) (named : map sha256 claims.texts ≡ digests_of claims.logged) where
-  -- there is a text of each digest that is claimed
+  -- there is a text of each claimed digest
   text_of : (digest : List ℕ) → Has (λ claim. claim.digest ≡ digest) claims.logged → (text : List ℕ) × Has (λ x. x ≡ text) claims.texts × (sha256 text ≡ digest)
   text_of digest has =
       has_some (λ x. sha256 x ≡ digest) claims.texts
@@ -43,7 +43,7 @@ module _ (c : Configuration) (view : ℕ) (claims : ClaimsData) (named : map sha
   abbrev Stands : List (ℕ × ViewChangeData) → ℕ → List ℕ → Type 0
   Stands set number batch = may_stand c view set number batch ≡ true
 
-  -- it stands wherever the batch may
+  -- it may stand wherever the batch may
   record Other (batch : List ℕ) : Type 0 where
     text : List ℕ
     from : IsFrom claims.texts text
@@ -118,7 +118,7 @@ fewer_select_nothing c view held old new fewer nothing part start root batches i
         let it = has_some (λ claim. claim.digest ≡ sha256 batch) new.logged k in
         inr (has_weaker (λ x. x ≡ it.0) (λ claim. claim.digest ≡ sha256 batch) (λ x same. ap (λ (claim : Claim). claim.digest) same ∙ it.2) old.logged (fewer it.0 it.1))
 
--- ---- the own view change is one
+-- ---- the replica has one view change of its own
 
 abbrev Says : ℕ → ViewChangeData → List Entry → Entry → Type 0
 Says me vc past e = IsSaying me (ViewChange vc) e
@@ -150,7 +150,7 @@ same_said me a b past (Executed x y z) h k = absurd h
 same_said me a b past (Installed x y z) h k = absurd h
 same_said me a b past (Accepted x y z) h k = absurd h
 
--- it is for a later view than all before, or was said before
+-- it is for a later view than all before, or was sent before
 new_or_again : (c : Configuration) (me : ℕ) (vc : ViewChangeData) (past : List Entry) (e : Entry) (old new : Point) → IsStep c me past old e new → Says me vc past e
     → (target past < vc.view) ⊎ ((vc.view ≡ target past) × Once (Says me vc) past)
 new_or_again c me vc past (Sent p bytes) old new step h = go (subst (λ (m : Message). MaySay c me past old (Sent p bytes) bytes m) (ap (λ (b : Body). b.message) same) may.say)
@@ -192,7 +192,7 @@ one_change c me a b (e ∷ past) point leaves (inr h) (inl k) first second =
     sym (earlier_change me b a e past (said_below me a past h) second first (new_or_again c me b past e leaves.0 point leaves.2 k)
     (λ again at also. sym (one_change c me a b past leaves.0 leaves.1 h again also at)))
 
--- ---- what is held for a view
+-- ---- the stored view changes for a view
 
 put_ahead : (v : ℕ) (o : Option HeldData) (held : List (Option HeldData)) (pair : ℕ × ViewChangeData) → Has (λ z. z ≡ pair) (pairs_for v held) → Has (λ z. z ≡ pair) (pairs_for v (o ∷ held))
 put_ahead v None held pair h = h
@@ -215,7 +215,7 @@ held_pair v (o ∷ held) zero h is same =
     here true t = inl refl
     here false t = absurd cc
 
--- ---- none is left
+-- ---- no new view is left
 
 module _ (c : Configuration) (me : ℕ) (log : LogData) (x : Changes) (history : List Entry) (point : Point) (leaves : Leaves c me history point) (fits : FitsLog c me log history) (f : FitsChanges c me log x history)
     (new : NewViewData) (can : CanBeginView c me history new) where
@@ -235,7 +235,7 @@ module _ (c : Configuration) (me : ℕ) (log : LogData) (x : Changes) (history :
   rules : (is_set_for c new.view (changes_of c new) ≡ true) × (meets c new.view (changes_of c new) new.start new.root new.batches ≡ true)
   rules = let r = (selects_by_set c new).0 can.selected in (r.1, r.2)
 
-  -- what it carries is held
+  -- the view changes that it carries are stored
   held_there : (y : ℕ × ViewChangeData) → HasLatestChange c me history y → y.1.view ≡ new.view → Has (λ z. z ≡ y) (pairs_for x.target x.held)
   held_there y (inl (other, once, latest)) for_view =
       let h = f.received.taken y other once latest in
@@ -264,7 +264,7 @@ module _ (c : Configuration) (me : ℕ) (log : LogData) (x : Changes) (history :
       (and_parts (is_quorum c (count_in c (λ vc. true) (changes_of c new))) (ascending (changes_of c new))
       (and_parts (is_quorum c (count_in c (λ vc. true) (changes_of c new)) && ascending (changes_of c new)) (are_for new.view (changes_of c new) c) rules.0).0).1
 
-  -- the batches that it has are claimed
+  -- its batches are claimed
   claimed : Each (IsClaimed x.claims) new.batches
   claimed = each_weaker (HasBatch c me history) (IsClaimed x.claims) one new.batches can.batches
     where

@@ -1,4 +1,4 @@
--- What an input asks: a part, a read, what was sent for a request that waits, or whether the replica has to move.
+-- What an input asks: a part, a read, what the replica sent for a waiting request, or whether it has to move.
 use Rattle.std.proofs.Common.{◌≡◌, ℕ, ◌+◌, ◌-◌, inl, inr, Bool, true, false, List, Option, None, Some, refl, sym, ap, ◌∙◌, subst, arith}
 use Rattle.tuple_codec.specs.Operations.{Operation}
 use Rattle.terms.specs.declared.order.Mode.TheVariants as modes
@@ -19,7 +19,7 @@ use Rattle.replica_histories.specs.Questions.{is_question, is_part, has_question
 use Rattle.replica_histories.specs.TransfersAnswers.{AnswersFetches}
 use Rattle.replica_histories.proofs.TransfersAnswering.{hears_one}
 
--- what is heard of an input tells whether it asks
+-- the body of an input tells whether it asks
 asks_so : (c : Configuration) (me : ℕ) (body : Body) (before : List Entry) (input : Entry) → Hears c me body before input → brings_question c me input ≡ is_question body
 asks_so c me body before (Got p bytes) h = ap has_question h
 asks_so c me body before (Invoke x y z) h = absurd h
@@ -52,7 +52,7 @@ others_owe_no_part c me before input outputs old executed none = (
   λ waits. absurd (let bad : false ≡ true = sym none ∙ part_so c me (ordered_from waits.0) before input waits.2 in cc),
 )
 
--- Bytes that are heard to ask nothing give no reason to move.
+-- Received bytes that ask nothing give no reason to move.
 no_question : (c : Configuration) (me p : ℕ) (before : List Entry) (bytes : List ℕ) (waiting : List Call) (v : ℕ) → has_question (heard (members c) me bytes) ≡ false → HasToMove c me before (Got p bytes) waiting v → ⊥
 no_question c me p before bytes waiting v none (inl t) = no_time c me p before bytes waiting v t
 no_question c me p before bytes waiting v none (inr (taken, joins)) = absurd (let bad : false ≡ true = sym none ∙ ap has_question taken.2 in cc)
@@ -66,7 +66,7 @@ no_move_owed c me before (Installed x y z) outputs old none = absurd cc
 no_move_owed c me before (Sent x y) outputs old none = absurd cc
 no_move_owed c me before (Accepted x y z) outputs old none = absurd cc
 
--- what asks nothing asks for no part
+-- an input that asks nothing asks for no part
 part_of : (sender : ℕ) (message : Message) → is_question (record { sender = sender; message = message }) ≡ false → asks_part (record { sender = sender; message = message }) ≡ false
 part_of sender (Request t mode op) h = h
 part_of sender (Fetch k level index) h = h
@@ -86,7 +86,7 @@ pub others_owe_none : OthersOweNone
 others_owe_none c me before input outputs old executed none =
     let parts = others_owe_no_part c me before input outputs old executed (no_part c me input none) in (parts.0, parts.1, parts.2, parts.3, parts.4, no_move_owed c me before input outputs old none)
 
--- Where a part or a read is asked for, no move is.
+-- An input that asks for a part or a read asks for no move.
 no_change_heard : (c : Configuration) (me p : ℕ) (body : Body) (before : List Entry) (bytes : List ℕ) (waiting : List Call) (v : ℕ) → heard (members c) me bytes ≡ Some body → is_change body ≡ false
     → HasToMove c me before (Got p bytes) waiting v → ⊥
 no_change_heard c me p body before bytes waiting v hears none (inl t) = no_time c me p before bytes waiting v t
@@ -98,10 +98,10 @@ pub hears_no_move : (c : Configuration) (me : ℕ) (body : Body) (before : List 
 hears_no_move c me body before (Got p bytes) outputs old hears none = λ vc other reason may within says. absurd (no_change_heard c me p body before bytes old.waiting vc.view hears none reason)
 hears_no_move c me body before _ outputs old hears none = absurd hears
 
--- ---- what is no part owes nothing to a transfer
+-- ---- the replica owes nothing to a transfer if the input is no part
 
 module _ (c : Configuration) (me : ℕ) (body : Body) (before : List Entry) (input : Entry) (hears : Hears c me body before input) where
-  -- what else the input brings is a part or none as that is
+  -- all bodies of the input are parts, or none is
   same_kind : (other : Body) → Hears c me other before input → is_part body ≡ is_part other
   same_kind other h = ap is_part (hears_one c me body other before input hears h)
 

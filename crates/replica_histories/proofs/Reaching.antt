@@ -17,7 +17,7 @@ use Rattle.replica_histories.proofs.Logging.{Read, same_elsewhere}
 use Rattle.replica_histories.proofs.Transfers.{open_above, fetched_most}
 use Rattle.replica_histories.proofs.TransfersQuorums.{says_number}
 
--- what is fetched stays so, and what is due is said
+-- a fetched state stays fetched, and a due fetch is sent
 pub fetched_goes : (me k : ℕ) (due rest : List Message) (past : List Entry) (e : Entry) → ((x : Message) → Has (λ y. y ≡ x) due → Has (λ y. y ≡ x) rest ⊎ IsSaying me x e) → IsFetched k due past → IsFetched k rest (e ∷ past)
 fetched_goes me k due rest past e paid (inl l) = inl (omega arith)
 fetched_goes me k due rest past e paid (inr h) = go (paid (Fetch k levels.Root 0) h)
@@ -26,7 +26,7 @@ fetched_goes me k due rest past e paid (inr h) = go (paid (Fetch k levels.Root 0
     go (inl r) = inr r
     go (inr g) = inl (let is = says_number me k e g in omega arith)
 
--- Behind an entry that changes no certificate up to the mark it is still reached.
+-- After an entry that changes no certificate up to the mark it is still reached.
 pub reached_by : (c : Configuration) (me mark number : ℕ) (due rest : List Message) (past : List Entry) (e : Entry) → ((v : ℕ) → suc number ≤ mark → Same c me (e ∷ past) past v (suc number))
     → ((x : Message) → Has (λ y. y ≡ x) due → Has (λ y. y ≡ x) rest ⊎ IsSaying me x e) → IsReached c me mark number due past → IsReached c me mark number rest (e ∷ past)
 reached_by c me mark number due rest past e same paid (inl l) = inl l
@@ -42,7 +42,7 @@ pub reached_goes : (c : Configuration) (me number : ℕ) (due rest : List Messag
     → ((x : Message) → Has (λ y. y ≡ x) due → Has (λ y. y ≡ x) rest ⊎ IsSaying me x e) → IsReached c me log.low number due past → IsReached c me log.low number rest (e ∷ past)
 reached_goes c me number due rest log past e r paid h = reached_by c me log.low number due rest past e (λ v below. same_elsewhere c me log past e v (suc number) r (inr (below_marks log (suc number) below))) paid h
 
--- where nothing is due, what is open is not below it
+-- if no message is due, the open transfer is not below it
 pub reached_open : (c : Configuration) (me mark number : ℕ) (open_one : Option TransferData) (history : List Entry) → IsReached c me mark number [] history → FitsOpen c me open_one number history → mark ≤ open_number number open_one
 reached_open c me mark number open_one history (inl l) f = let least = open_above c me open_one number history f in omega arith
 reached_open c me mark number open_one history (inr h) f = go h.0

@@ -1,4 +1,4 @@
--- Why a replica changes its view: what it holds tells the reasons of its history.
+-- Why a replica changes its view: its data tell the reasons of its history.
 use Rattle.std.proofs.Common.{◌≡◌, ◌≢◌, ℕ, zero, suc, ◌+◌, ◌≤◌, ◌<◌, ◌⊎◌, inl, inr, eq-eqb, Bool, true, false, cond, not, ◌&&◌, List, [], ◌∷◌, length, Option, Some, None, refl, sym, ap, ◌∙◌, subst, arith}
 use Rattle.std.specs.Prelude.{◌==◌, nat_lt}
 use Rattle.std.specs.Option.{option_map_or}
@@ -13,16 +13,16 @@ use Rattle.protocol.proofs.Words.Elements.{each_has}
 use Rattle.protocol.proofs.Words.Options.{some_injective}
 use Rattle.view_change.specs.ReceivedData.{HeldData, held_of, AreHeldFrom, later_views, IsJoined}
 use Rattle.replica_histories.specs.Desk.{point_of}
-use Rattle.replica_histories.specs.Running.{Start, behind, Steps}
+use Rattle.replica_histories.specs.Running.{Start, after_outputs, Steps}
 use Rattle.replica_histories.specs.Views.{TicksAreReasons}
 use Rattle.replica_histories.specs.Received.{FitsReceived, HeldAreJoined, AheadAreHeld}
 
 -- ---- a tick
 
-last_of : (c : Configuration) (me : ℕ) (s : Start) (outputs : List Entry) (new : Point) → is_output s.input ≡ false → Steps c me s outputs new → last_input (behind s outputs) ≡ Some (s.input, s.before)
+last_of : (c : Configuration) (me : ℕ) (s : Start) (outputs : List Entry) (new : Point) → is_output s.input ≡ false → Steps c me s outputs new → last_input (after_outputs s outputs) ≡ Some (s.input, s.before)
 last_of c me s [] new is steps = ap (λ (b : Bool). cond b (last_input s.before) (Some (s.input, s.before))) is
 last_of c me s (e ∷ outputs) new is (mid, steps, step, output) =
-    ap (λ (b : Bool). cond b (last_input (behind s outputs)) (Some (e, behind s outputs))) output ∙ last_of c me s outputs mid is steps
+    ap (λ (b : Bool). cond b (last_input (after_outputs s outputs)) (Some (e, after_outputs s outputs))) output ∙ last_of c me s outputs mid is steps
 
 pub ticks_are_reasons : TicksAreReasons
 ticks_are_reasons c me v s desk log due outputs tick waits next f = record {
@@ -32,7 +32,7 @@ ticks_are_reasons c me v s desk log due outputs tick waits next f = record {
   next = next;
 }
 
--- ---- others that are held
+-- ---- the stored view changes of others
 
 -- the first of so many is counted beside the others
 count_first : (test : ℕ → Bool) (n : ℕ) → count_below test (suc n) ≡ cond (test 0) (suc (count_below (λ s. test (suc s)) n)) (count_below (λ s. test (suc s)) n)
@@ -46,7 +46,7 @@ count_first test (suc n) =
     turned false true k = refl
     turned false false k = refl
 
--- another replica's that is above the view
+-- the stored view change is another replica's, above the view
 abbrev IsLater : ℕ → ℕ → HeldData → Type 0
 IsLater me t h = (h.sender ≢ me) × (t < h.change.view)
 
@@ -87,7 +87,7 @@ at_most : (b : Bool) (k n : ℕ) → n ≤ k → cond b (suc n) n ≤ suc k
 at_most true k n l = omega (arith, l)
 at_most false k n l = omega (arith, l)
 
--- as many are counted at the most, where each that is counted is so
+-- at most as many are counted, if each counted one is so
 count_most : (me t : ℕ) (held : List (Option HeldData)) (test : ℕ → Bool) → ((s : ℕ) → test s ≡ true → s < length held → (h : HeldData) × (held_of held s ≡ Some h) × IsLater me t h)
     → count_below test (length held) ≤ length (later_views me t held)
 count_most me t [] test has = omega arith
@@ -157,7 +157,7 @@ of_later me t v (Some x ∷ held) has = go (not (x.sender == me) && nat_lt t x.c
         pick (inr more) = moved (rest more)
     go false is k rest = moved (rest (subst (λ (ws : List ℕ). Has (λ w. w ≡ v) ws) (let both : later_views me t (Some x ∷ held) ≡ later_views me t held = rw is refl in both) k))
 
--- each is its place's
+-- each is of the sender at its place
 sender_at : (judged : Configuration) (first s : ℕ) (held : List (Option HeldData)) (h : HeldData) → AreHeldFrom judged first held → held_of held s ≡ Some h → h.sender ≡ first + s
 sender_at judged first s [] h all is = absurd cc
 sender_at judged first zero (None ∷ held) h all is = absurd cc
@@ -168,7 +168,7 @@ module _ (c judged : Configuration) (me v : ℕ) (history : List Entry) (held : 
   abbrev t : ℕ
   t = sought_view c history
 
-  -- another's that is held and later is ahead in the history
+  -- another's stored view change that is later is ahead in the history
   latest_is : (s : ℕ) (h : HeldData) → held_of held s ≡ Some h → IsLater me t h → (s ≢ me) × (latest_change c history s ≡ h.change.view)
   latest_is s h is later =
       let own = sender_at judged 0 s held h all is in
@@ -180,7 +180,7 @@ module _ (c judged : Configuration) (me v : ℕ) (history : List Entry) (held : 
       let k = latest_is s h is later in
       rw (ne_eqb s me k.0, lt-ltb t (latest_change c history s) (subst (λ (n : ℕ). t < n) (sym k.1) later.1)) refl
 
-  -- and who is ahead is held
+  -- and the view change of a replica that is ahead is stored
   least : Each (λ w. v ≤ w) (later_views me t held) → (s : ℕ) → is_ahead c me history s ≡ true → v ≤ latest_change c history s
   least each s is = go (held_of held s) refl
     where
@@ -221,7 +221,7 @@ module _ (c judged : Configuration) (me v : ℕ) (history : List Entry) (held : 
         least = λ s within is. least joined.least s is;
       }
 
-  -- who is ahead in the history is held, and later
+  -- the view change of a replica that is ahead in the history is stored, and later
   ahead_there : (s : ℕ) → is_ahead c me history s ≡ true → (h : HeldData) × (held_of held s ≡ Some h) × IsLater me t h × (latest_change c history s ≡ h.change.view)
   ahead_there s is = go (held_of held s) refl
     where
@@ -280,7 +280,7 @@ held_are_joined c judged me v history held places all joined f = joins c judged 
 pub ahead_are_held : AheadAreHeld
 ahead_are_held c judged me v history held places all joins f = joined c judged me v history held places all f joins
 
--- Of the views that are joined there is one.
+-- There is one view that the replica joins.
 pub joined_one : (faults v w : ℕ) (views : List ℕ) → IsJoined faults views v → IsJoined faults views w → v ≡ w
 joined_one faults v w views a b =
     let l = each_has (λ x. v ≤ x) views w a.least b.there in

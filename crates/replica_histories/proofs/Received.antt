@@ -1,4 +1,4 @@
--- What is held of the view changes of others is kept by the history.
+-- The history keeps the stored view changes of others.
 use Rattle.std.proofs.Common.{◌≡◌, ◌≢◌, ℕ, zero, suc, ◌≤◌, ◌<◌, ◌⊎◌, inl, inr, Bool, true, false, cond, ◌&&◌, not, List, [], ◌∷◌, length, replicate, max, Option, Some, None, slice_set, refl, sym, ap, ◌∙◌, subst, arith, eqb-true, eq-eqb}
 use Rattle.std.specs.Prelude.{◌==◌, nat_lt}
 use Rattle.std.specs.Option.{option_map_or}
@@ -36,7 +36,7 @@ put_elsewhere (x ∷ held) zero (suc s) o d = refl
 put_elsewhere (x ∷ held) (suc i) zero o d = refl
 put_elsewhere (x ∷ held) (suc i) (suc s) o d = put_elsewhere held i s o (λ same. d (ap suc same))
 
--- ---- what brings none
+-- ---- entries that bring none
 
 pub received_begin : ReceivedBegin
 received_begin c me n = record {
@@ -55,11 +55,11 @@ unsigned_bring_none c p s bytes past none =
     ap (λ (o : Option (ℕ × ViewChangeData)). option_map_or (λ (x : ℕ × ViewChangeData). cond ((x.0 == s) && nat_lt (view c past) x.1.view && is_within c x.1) x.1.view 0) o 0) none in
     omega arith
 
--- what an entry brings of a replica
+-- the view change that an entry brings of a replica
 pub taken_is : (c : Configuration) (v s : ℕ) (bytes : List ℕ) (x : ℕ × ViewChangeData) → signed_change c bytes ≡ Some x → change_taken c v s bytes ≡ cond ((x.0 == s) && nat_lt v x.1.view && is_within c x.1) x.1.view 0
 taken_is c v s bytes x signed = ap (λ (o : Option (ℕ × ViewChangeData)). option_map_or (λ (y : ℕ × ViewChangeData). cond ((y.0 == s) && nat_lt v y.1.view && is_within c y.1) y.1.view 0) o 0) signed
 
--- one that counts is brought
+-- an entry brings each one that counts
 pub brings_view : (c : Configuration) (x : ℕ × ViewChangeData) (past : List Entry) (e : Entry) → BringsChange c x past e → change_at c past e x.0 ≡ x.1.view
 brings_view c x past (Got p bytes) h = taken_is c (view c past) x.0 bytes x h.0 ∙ rw (eq-eqb x.0 x.0 refl, lt-ltb (view c past) x.1.view h.1.0, h.1.1) refl
 brings_view c x past (Invoke a b d) h = absurd h
@@ -92,21 +92,21 @@ received_stays c me past e held same f =
     taken x other (inl b) latest = let stays = same x.0 other in let newer = brings_newer c x past e b in absurd (omega (arith, stays, newer, latest))
     taken x other (inr once) latest = f.taken x other once (sym (same x.0 other) ∙ latest)
 
--- it is refused where one of three tests fails
+-- the replica refuses it if one of three tests fails
 refused_by : (a b d : Bool) (fault : ChangeFault) → cond (not a) (Some WrongView) (cond (not b) (Some OutOfBounds) (cond (not d) (Some Duplicate) None)) ≡ Some fault → ((a && b) ≡ false) ⊎ (d ≡ false)
 refused_by false b d fault h = inl refl
 refused_by true false d fault h = inl refl
 refused_by true true false fault h = inr refl
 refused_by true true true fault h = absurd cc
 
--- and taken where all three pass
+-- and takes it if all three pass
 taken_by : (a b d : Bool) → cond (not a) (Some WrongView) (cond (not b) (Some OutOfBounds) (cond (not d) (Some Duplicate) None)) ≡ None → (a ≡ true) × (b ≡ true) × (d ≡ true)
 taken_by false b d h = absurd cc
 taken_by true false d h = absurd cc
 taken_by true true false h = absurd cc
 taken_by true true true h = (refl, refl, refl)
 
--- one that is not newer than what is held is not above it
+-- one that is not newer than the stored one is not above it
 not_newer : (held : List (Option HeldData)) (s w : ℕ) → option_map_or (λ (h : HeldData). nat_lt h.change.view w) (held_of held s) true ≡ false → w ≤ held_view held s
 not_newer held s w h = go (held_of held s) h
   where
@@ -121,7 +121,7 @@ newer held s w h = go (held_of held s) h
     go None k = omega arith
     go (Some x) k = let l = ltb-true x.change.view w k in omega arith
 
--- and one that is taken is above what is held
+-- and one that is taken is above the stored one
 above_held : (held : List (Option HeldData)) (s w : ℕ) → 0 < w → option_map_or (λ (h : HeldData). nat_lt h.change.view w) (held_of held s) true ≡ true → held_view held s < w
 above_held held s w some h = go (held_of held s) h
   where

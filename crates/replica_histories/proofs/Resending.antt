@@ -1,4 +1,4 @@
--- What goes again once a waiting request comes again is all that is owed.
+-- When a waiting request comes again, the replica owes only what it sends again.
 use Rattle.std.proofs.Common.{◌≡◌, ℕ, ◌+◌, ◌≤◌, ◌<◌, ◌⊎◌, inl, inr, Bool, true, false, cond, List, [], ◌∷◌, ◌++◌, reverse, Option, Some, None, refl, sym, ap, ◌∙◌, subst, arith, ◌&&◌, ◌^◌}
 use Rattle.std.specs.Prelude.{nat_lt, nat_le, filter, ◌==◌, not, option_and_then}
 use Rattle.std.specs.List.{list_all}
@@ -16,7 +16,7 @@ use Rattle.protocol.specs.System.Trace.Entry.{Invoke, Got, Tick, Executed, Insta
 use Rattle.protocol.specs.Replica.Certificates.{view, target, low, is_in_marks, logged, prepare_of, commit_of}
 use Rattle.protocol.specs.Replica.State.{State, Call, call_in, last_time}
 use Rattle.protocol.specs.Replica.RightReplica.{Point, Leaves, IsStep, is_newer, with_waiting, waiting_after, still_waiting, executed_point}
-use Rattle.protocol.specs.Replica.Owed.{IsSaying, Gives, IsBegunBelow, SendsRow, SendsView, SendsAgain}
+use Rattle.protocol.specs.Replica.Owed.{IsSaying, SendsMessage, IsBegunBelow, SendsRow, SendsView, SendsAgain}
 use Rattle.protocol.proofs.Words.Elements.{has_weaker, has_either, has_filter, has_reversed}
 use Rattle.replica_histories.specs.Desk.{Desk}
 use Rattle.replica_histories.specs.Logs.{FitsLog}
@@ -40,7 +40,7 @@ sends_turned c me past executed outputs a = record {
   inactive = λ left. let k = a.inactive left in (k.0, k.1, turn (ViewChange k.0) k.2);
 }
   where
-    turn : (message : Message) → Gives me message outputs → Gives me message (reverse outputs)
+    turn : (message : Message) → SendsMessage me message outputs → SendsMessage me message (reverse outputs)
     turn message h = has_reversed (IsSaying me message) outputs h
 
     row : (v i : ℕ) → SendsRow c me past v i outputs → SendsRow c me past v i (reverse outputs)
@@ -50,7 +50,7 @@ sends_turned c me past executed outputs a = record {
       commit = λ digest is. turn (Commit v i digest) (r.commit digest is);
     }
 
--- ---- from what is held
+-- ---- from the replica's data
 
 module _ (c : Configuration) (me : ℕ) (desk : Desk) (log : LogData) (past outputs : List Entry) (x : Changes) (held : Holds c me desk log past) (fits : FitsChanges c me log x past) (all : AllGoes me log x desk.state.number outputs) where
   f : FitsLog c me log past
@@ -59,14 +59,14 @@ module _ (c : Configuration) (me : ℕ) (desk : Desk) (log : LogData) (past outp
   number_is : held.of_desk.point.state.number ≡ desk.state.number
   number_is = ap (λ (p : Point). p.state.number) held.of_desk.is
 
-  -- a frame that goes says what it says
-  frame_says : (message : Message) (frame : List ℕ) → said frame ≡ Some (record { sender = me; message = message }) → FrameGoes me frame outputs → Gives me message outputs
+  -- a frame that is sent has its message
+  frame_says : (message : Message) (frame : List ℕ) → said frame ≡ Some (record { sender = me; message = message }) → FrameGoes me frame outputs → SendsMessage me message outputs
   frame_says message frame says goes = has_weaker (λ e. e ≡ Sent me frame) (IsSaying me message) (λ e same. subst (IsSaying me message) (sym same) says) outputs goes
 
-  new_view : (v : ℕ) → v ≡ log.view → ViewGoes me log x desk.state.number outputs → primary c v ≡ me → 0 < v → (new : NewViewData) × (new.view ≡ v) × Gives me (NewView new) outputs
+  new_view : (v : ℕ) → v ≡ log.view → ViewGoes me log x desk.state.number outputs → primary c v ≡ me → 0 < v → (new : NewViewData) × (new.view ≡ v) × SendsMessage me (NewView new) outputs
   new_view v at goes own later = go (fits.own_begins (ap (primary c) (sym at) ∙ own))
     where
-      go : (log.view ≡ 0) ⊎ ((frame : List ℕ) × (x.new_view ≡ Some frame)) → (new : NewViewData) × (new.view ≡ v) × Gives me (NewView new) outputs
+      go : (log.view ≡ 0) ⊎ ((frame : List ℕ) × (x.new_view ≡ Some frame)) → (new : NewViewData) × (new.view ≡ v) × SendsMessage me (NewView new) outputs
       go (inl zero) = absurd (omega (arith, at, zero, later))
       go (inr (frame, is)) = let o = fits.own_view frame is in (o.new, o.view ∙ sym at, frame_says (NewView o.new) frame o.posted.says (goes.new_view frame is))
 
@@ -86,12 +86,12 @@ module _ (c : Configuration) (me : ℕ) (desk : Desk) (log : LogData) (past outp
 
   row : (v i : ℕ) → v ≡ log.view → is_in_marks c (low c me past) i ≡ true → RowGoes me log x.begun i outputs → SendsRow c me past v i outputs
   row v i at inside r = record {
-    batch = λ batch own below is. subst (λ (w : ℕ). Gives me (PrePrepare w i batch) outputs) (sym at)
+    batch = λ batch own below is. subst (λ (w : ℕ). SendsMessage me (PrePrepare w i batch) outputs) (sym at)
         (r.batch batch (primary_same c log log.view f.faults ∙ ap (primary c) (sym at) ∙ own) (begun_below v i at inside below)
         (sym (f.batches i (inside_log i inside)) ∙ subst (λ (w : ℕ). logged c me past w i ≡ Some batch) at is));
-    prepare = λ digest is. subst (λ (w : ℕ). Gives me (Prepare w i digest) outputs) (sym at)
+    prepare = λ digest is. subst (λ (w : ℕ). SendsMessage me (Prepare w i digest) outputs) (sym at)
         (r.prepare digest (sym (f.prepares i me (inside_log i inside)) ∙ subst (λ (w : ℕ). prepare_of c me past w i me ≡ Some digest) at is));
-    commit = λ digest is. subst (λ (w : ℕ). Gives me (Commit w i digest) outputs) (sym at)
+    commit = λ digest is. subst (λ (w : ℕ). SendsMessage me (Commit w i digest) outputs) (sym at)
         (r.commit digest (sym (f.commits i me (inside_log i inside)) ∙ subst (λ (w : ℕ). commit_of c me past w i me ≡ Some digest) at is));
   }
 
@@ -102,7 +102,7 @@ module _ (c : Configuration) (me : ℕ) (desk : Desk) (log : LogData) (past outp
     checkpoint = λ m is. goes.checkpoint m (sym fits.latest ∙ is);
   }
 
-  left : view c past < target past → (b : Bool) → log.active ≡ b → (vc : ViewChangeData) × (vc.view ≡ target past) × Gives me (ViewChange vc) outputs
+  left : view c past < target past → (b : Bool) → log.active ≡ b → (vc : ViewChangeData) × (vc.view ≡ target past) × SendsMessage me (ViewChange vc) outputs
   left below true is =
       let most = leb-true (target past) log.view (f.active ∙ is) in
       let at = f.view in
@@ -128,12 +128,12 @@ resending_suffices c me desk log past input outputs x call executed held fits he
       hears_no_move c me (ordered_from call) past input outputs held.of_desk.point hears refl,
     )
 
--- ---- what waits is new
+-- ---- waiting requests are new
 
 abbrev AreNew : State → List Call → Type 0
 AreNew st calls = (call : Call) → Has (λ x. x ≡ call) calls → last_time st call.client < call.timestamp
 
--- what a filter leaves passes its test
+-- an item that a filter leaves passes its test
 left_passes : (test : Call → Bool) (call : Call) (xs : List Call) → Has (λ x. x ≡ call) (filter test xs) → test call ≡ true
 left_passes test call [] h = absurd h
 left_passes test call (x ∷ xs) h = go (test x) refl h (left_passes test call xs)

@@ -1,4 +1,4 @@
--- Between events nothing is left owed, and an input that changes nothing passes.
+-- Between events the replica owes nothing, and an input that changes nothing passes.
 use Rattle.std.proofs.Common.{◌≡◌, ℕ, suc, ◌<◌, inl, inr, true, List, [], ◌∷◌, ◌++◌, refl, sym, ap, ◌∙◌, subst, arith, Option, Some, None, is_some, reverse}
 use mathlib.Core.List.{reverse-cons}
 use Rattle.std.proofs.lemmas.List.{append_assoc}
@@ -24,9 +24,9 @@ use Rattle.replica_histories.proofs.Certified.{active, committed_here}
 use Rattle.replica_histories.proofs.Ending.{events_end}
 use Rattle.replica_histories.proofs.Entering.{inputs_fit, ticks_fit}
 
--- ---- what an event leaves
+-- ---- after an event
 
--- nothing is next, no waiting request is without a number, and no new view is left
+-- no batch is next, no waiting request is without a number, and no new view is left
 pub record Rests (c : Configuration) (me : ℕ) (now : List Entry) (new : Point) : Type 0 where
   pub executes : (v : ℕ) (batch : List ℕ) → Committed c me now v (suc new.state.number) batch → ⊥
   pub numbers : (v i : ℕ) (call : Call) → is_active_in c now v ≡ true → primary c v ≡ me → Has (λ x. x ≡ call) new.waiting
@@ -39,7 +39,7 @@ rests_owed c me before input outputs now old new o = record { executes = o.execu
 turned : (e : Entry) (outputs past : List Entry) → reverse (e ∷ outputs) ++ past ≡ reverse outputs ++ e ∷ past
 turned e outputs past = ap (λ (xs : List Entry). xs ++ past) (reverse-cons e outputs) ∙ append_assoc (reverse outputs) (e ∷ []) past
 
--- behind some output
+-- after some output
 rests_behind : (c : Configuration) (me : ℕ) (o : Entry) (outputs xs : List Entry) (new point : Point) → Proceeds c me xs (o ∷ outputs) new point → Rests c me (reverse (o ∷ outputs) ++ xs) new
 rests_behind c me o outputs [] new point h = absurd (let bad : o ∷ outputs ≡ [] = h.1 in cc)
 rests_behind c me o outputs (e ∷ past) new point h =
@@ -97,7 +97,7 @@ held_are_settled c me desk log history held = record {
 
 -- ---- inputs that pass
 
--- what is settled stays so behind an entry that leaves the log
+-- a settled log stays settled after an entry that leaves it
 settled_goes : (c : Configuration) (me : ℕ) (desk : Desk) (log : LogData) (past : List Entry) (e : Entry) → FitsLog c me log past → FitsLog c me log (e ∷ past) → IsSettled c me desk log past → IsSettled c me desk log (e ∷ past)
 settled_goes c me desk log past e f g s = record {
   prepares = s.prepares;
@@ -109,7 +109,7 @@ settled_goes c me desk log past e f g s = record {
     same : low c me (e ∷ past) ≡ low c me past
     same = g.low ∙ sym f.low
 
-    -- what is logged in the marks is what the log has, before and behind
+    -- a batch that is logged in the marks is the log's, before and after
     in_log : (i j : ℕ) → IsFree c me (e ∷ past) desk.state.number log.view i → low c me past < j → j < i → is_some (logged c me past log.view j) ≡ true
     in_log i j free above below =
         let over : low c me (e ∷ past) < j = subst (λ (h : ℕ). h < j) (sym same) above in

@@ -21,19 +21,19 @@ use Rattle.protocol.specs.Replica.Certificates.{greatest, first_given, change_fr
 use Rattle.protocol.specs.Replica.State.{State, Call, call_in, call_of, runs, kept_by, ran_call, run_call, run_frame, ran_by, ran_in, last_time}
 use Rattle.protocol.specs.Replica.RightReplica.{Point, Leaves, MaySay, MayNewView, MayFetch, IsAskedAgain, SendsBytes, SentBefore, SentInEvent, reply_of}
 use Rattle.protocol.specs.Replica.Transfers.{place_from, fetch_sent, fetching, is_fetch, NoneAsked, IsNext, in_place}
-use Rattle.protocol.specs.Replica.Owed.{IsSaying, Gives}
+use Rattle.protocol.specs.Replica.Owed.{IsSaying, SendsMessage}
 use Rattle.protocol.proofs.Words.Options.{some_injective, and_then_some}
 use Rattle.protocol.proofs.Words.Elements.{has_either}
 use Rattle.protocol.proofs.Words.Temporal.{once_weaker, once_always, once_stays_from}
 use Rattle.protocol.proofs.Agreement.Voting.{RightAt, right_always}
 use Rattle.protocol.proofs.Agreement.Marks.{takes, view_grows}
 use Rattle.replica_histories.specs.Desk.{Desk, point_of}
-use Rattle.replica_histories.specs.Events.{Start, behind, IsOnItsWay, MaySayDue, is_fetching, AreUnsaid, SaysOnce, Fits}
+use Rattle.replica_histories.specs.Events.{Start, after_outputs, IsOnItsWay, MaySayDue, is_fetching, AreUnsaid, SaysOnce, Fits}
 use Rattle.replica_histories.specs.Outputs.{replies_to}
 use Rattle.replica_histories.proofs.Words.{apart, given_not}
 use Rattle.replica_histories.proofs.NumbersWaiting.{call_raises, frames_raise}
 
--- ---- what an event has sent
+-- ---- the frames that an event sent
 
 pub sends_says : (me : ℕ) (message : Message) (bytes : List ℕ) (past : List Entry) (e : Entry) → said bytes ≡ Some (record { sender = me; message = message }) → SendsBytes bytes past e → IsSaying me message e
 sends_says me message bytes past (Sent p sent) says h = subst (λ (x : List ℕ). said x ≡ Some (record { sender = me; message = message })) (sym h) says
@@ -44,14 +44,14 @@ sends_says me message bytes past (Executed x y z) says h = h
 sends_says me message bytes past (Installed x y z) says h = h
 sends_says me message bytes past (Accepted x y z) says h = h
 
--- what was not said in the event, it has not sent
+-- the event has not sent a message that it didn't say
 pub unsent : (me : ℕ) (s : Start) (message : Message) (bytes : List ℕ) (outputs : List Entry) → is_output s.input ≡ false → said bytes ≡ Some (record { sender = me; message = message })
-    → (Gives me message outputs → ⊥) → SentInEvent bytes (behind s outputs) → ⊥
+    → (SendsMessage me message outputs → ⊥) → SentInEvent bytes (after_outputs s outputs) → ⊥
 unsent me s message bytes [] begins says none h = subst (λ (b : Bool). either b (SendsBytes bytes s.before s.input ⊎ SentInEvent bytes s.before) ⊥) begins h
 unsent me s message bytes (e ∷ outputs) begins says none h = go (unsent me s message bytes outputs begins says (λ given. none (inr given))) (is_output e) h
   where
-    go : (SentInEvent bytes (behind s outputs) → ⊥) → (b : Bool) → either b (SendsBytes bytes (behind s outputs) e ⊎ SentInEvent bytes (behind s outputs)) ⊥ → ⊥
-    go earlier true (inl now) = none (inl (sends_says me message bytes (behind s outputs) e says now))
+    go : (SentInEvent bytes (after_outputs s outputs) → ⊥) → (b : Bool) → either b (SendsBytes bytes (after_outputs s outputs) e ⊎ SentInEvent bytes (after_outputs s outputs)) ⊥ → ⊥
+    go earlier true (inl now) = none (inl (sends_says me message bytes (after_outputs s outputs) e says now))
     go earlier true (inr before) = earlier before
     go earlier false k = k
 
@@ -70,7 +70,7 @@ both_none : {A : Type 0} (o later : Option A) → or_else o later ≡ None → (
 both_none None later h = (refl, h)
 both_none (Some x) later h = absurd cc
 
--- where the bytes would have given something, and nothing was given, they were not sent
+-- if the bytes would have given something, and nothing was given, they were not sent
 never_given : {A : Type 0} (give : List Entry → Entry → Option A) (bytes : List ℕ) → ((past : List Entry) (p : ℕ) → (x : A) × (give past (Sent p bytes) ≡ Some x)) → (history : List Entry)
     → first_given give history ≡ None → SentBefore bytes history → ⊥
 never_given give bytes gives [] none h = h
@@ -90,7 +90,7 @@ pub new_by : {A : Type 0} (give : List Entry → Entry → Option A) (bytes : Li
     → first_given give history ≡ None → SentInEvent bytes history → ⊥
 new_by give bytes gives history none h = never_given give bytes gives history none (sent_before bytes history h)
 
--- what was sent has at most the greatest number
+-- a sent frame has at most the greatest number
 at_most : (number : Entry → ℕ) (bytes : List ℕ) (k : ℕ) → ((p : ℕ) → number (Sent p bytes) ≡ k) → (history : List Entry) → SentBefore bytes history → k ≤ greatest number history
 at_most number bytes k is [] h = absurd h
 at_most number bytes k is (e ∷ past) (inr h) = let most = at_most number bytes k is past h in omega arith
@@ -147,7 +147,7 @@ fetch_is_new c me past point k level index bytes says may h = go level says may.
     go levels.Page is (inl next) = asked levels.Page is next.0
     go l is (inr again) = asked l is again.1
 
--- a new view that is taken where it is sent was not sent before: it would have begun its view
+-- a new view that the replica takes as it sends it was not sent before: it would have begun its view
 pub view_is_new : (c : Configuration) (me : ℕ) (past : List Entry) (point : Point) (new : NewViewData) (bytes : List ℕ) → Leaves c me past point → said bytes ≡ Some (record { sender = me; message = NewView new })
     → taken c past (Sent me bytes) ≡ Some new → SentInEvent bytes past → ⊥
 view_is_new c me past point new bytes leaves says t h =
@@ -155,7 +155,7 @@ view_is_new c me past point new bytes leaves says t h =
     let most = there in
     absurd (omega arith)
   where
-    -- where it was sent before, its view was begun
+    -- if it was sent before, its view began
     begun : (x : List Entry) (e : Entry) → RightAt c me x e → SendsBytes bytes x e → new.view ≤ view c (e ∷ x)
     begun x (Sent p sent) r same = pick say.1
       where
@@ -184,13 +184,13 @@ view_is_new c me past point new bytes leaves says t h =
         (once_weaker (λ x e. RightAt c me x e × SendsBytes bytes x e × Always (RightAt c me) x) (λ x e. new.view ≤ view c (e ∷ x)) (λ x e k. begun x e k.0 k.1) past
         (once_always (RightAt c me) (SendsBytes bytes) past (right_always c me past point leaves) (sent_before bytes past h)))
 
--- ---- what is due
+-- ---- due messages
 
 abbrev pub is_ordered : Mode → Bool
 is_ordered modes.Ordered = true
 is_ordered modes.ReadOnly = false
 
--- of what is due: replies to ordered requests, checkpoints and fetches
+-- a due message is a reply to an ordered request, a checkpoint or a fetch
 abbrev pub is_due_kind : Message → Bool
 is_due_kind message = elim message [ Checkpoint k root ↦ true | Reply client timestamp mode number answer ↦ is_ordered mode | Fetch k level index ↦ true | _ ↦ false ]
 
@@ -213,7 +213,7 @@ pub saying : (me : ℕ) (message other : Message) (bytes : List ℕ) → said by
 saying me message other bytes says h =
     ap (λ (b : Body). b.message) (some_injective (record { sender = me; message = message }) (record { sender = me; message = other }) (sym says ∙ h))
 
--- What an entry says that is none of these leaves them unsaid.
+-- An entry that says none of the due messages leaves them unsaid.
 pub unsaid_goes : (me : ℕ) (due : List Message) (outputs : List Entry) (e : Entry) → ((x : Message) → Has (λ y. y ≡ x) due → is_fetching x ≡ false → IsSaying me x e → ⊥) → AreUnsaid me due outputs → AreUnsaid me due (e ∷ outputs)
 unsaid_goes me [] outputs e new h = tt
 unsaid_goes me (message ∷ due) outputs e new h = (λ other way. go other way, unsaid_goes me due outputs e (λ x has. new x (inr has)) h.1)
@@ -223,7 +223,7 @@ unsaid_goes me (message ∷ due) outputs e new h = (λ other way. go other way, 
     go other (inr (inl now)) = new message (inl refl) other now
     go other (inr (inr before)) = h.0 other (inr before)
 
--- What a frame leaves due: what it pays goes, nothing comes, and all is still said once.
+-- The due messages after a frame: those that it pays go, none come, and each is still said once.
 pub record Pays (me : ℕ) (s : Start) (st : State) (due rest : List Message) (outputs : List Entry) (bytes : List ℕ) : Type 0 where
   pub paid : (x : Message) → Has (λ y. y ≡ x) due → Has (λ y. y ≡ x) rest ⊎ IsSaying me x (Sent me bytes)
   pub fewer : (x : Message) → Has (λ y. y ≡ x) rest → Has (λ y. y ≡ x) due
@@ -238,7 +238,7 @@ module _ (c : Configuration) (me : ℕ) (s : Start) (desk : Desk) (log : LogData
     says = record {
       begins = f.says.begins;
       unsaid = unsaid_goes me due outputs (Sent me bytes)
-          (λ x has fetching now. apart (is_due_kind x) (kind_of_due c me (behind s outputs) (point_of desk f.of_desk.states f.of_desk.ran) x (f.of_desk.rightly x has))
+          (λ x has fetching now. apart (is_due_kind x) (kind_of_due c me (after_outputs s outputs) (point_of desk f.of_desk.states f.of_desk.ran) x (f.of_desk.rightly x has))
           (subst (λ (y : Message). is_due_kind y ≡ false) (saying me message x bytes says now) other)) f.says.unsaid;
       replies = replies;
     };
@@ -249,7 +249,7 @@ module _ (c : Configuration) (me : ℕ) (s : Start) (desk : Desk) (log : LogData
       replies k kept (inr (inl now)) = absurd (apart (is_due_kind (reply_of k kept)) refl (subst (λ (y : Message). is_due_kind y ≡ false) (saying me message (reply_of k kept) bytes says now) other))
       replies k kept (inr (inr before)) = f.says.replies k kept (inr before)
 
-  -- the first message that is due is paid by its frame
+  -- its frame pays the first due message
   pub pays_first : (rest : List Message) → Fits c me s desk log (message ∷ rest) outputs → Pays me s desk.state (message ∷ rest) rest outputs bytes
   pays_first rest f = record {
     paid = paid;
@@ -291,7 +291,7 @@ module _ (c : Configuration) (me : ℕ) (s : Start) (desk : Desk) (log : LogData
       replies k kept (inr (inl now)) = absurd (apart (is_fetching message) fetches (subst (λ (y : Message). is_fetching y ≡ false) (sym (saying me message (reply_of k kept) bytes says now)) refl))
       replies k kept (inr (inr before)) = f.says.replies k kept (inr before)
 
-  -- where nothing is due, a frame that is no reply to an ordered request
+  -- if no message is due, a frame that is no reply to an ordered request
   pub pays_alone : ((k : ℕ) (kept : Kept) → message ≡ reply_of k kept → ⊥) → Fits c me s desk log [] outputs → Pays me s desk.state [] [] outputs bytes
   pays_alone none f = record {
     paid = λ x h. absurd h;
@@ -304,12 +304,12 @@ module _ (c : Configuration) (me : ℕ) (s : Start) (desk : Desk) (log : LogData
       replies k kept (inr (inl now)) = absurd (none k kept (saying me message (reply_of k kept) bytes says now))
       replies k kept (inr (inr before)) = f.says.replies k kept (inr before)
 
-  -- the first message that is due, but a fetch, was not sent in the event
-  pub first_unsent : (rest : List Message) → is_fetching message ≡ false → Fits c me s desk log (message ∷ rest) outputs → SentInEvent bytes (behind s outputs) → ⊥
+  -- the first due message, if it is no fetch, was not sent in the event
+  pub first_unsent : (rest : List Message) → is_fetching message ≡ false → Fits c me s desk log (message ∷ rest) outputs → SentInEvent bytes (after_outputs s outputs) → ⊥
   first_unsent rest other f = unsent me s message bytes outputs f.says.begins says (λ given. f.says.unsaid.0 other (inr given))
 
--- what was said in the event was said
-pub said_so_far : (me : ℕ) (s : Start) (message : Message) (outputs : List Entry) → Gives me message outputs → Once (λ earlier e. IsSaying me message e) (behind s outputs)
+-- a message that was sent in the event was said
+pub said_so_far : (me : ℕ) (s : Start) (message : Message) (outputs : List Entry) → SendsMessage me message outputs → Once (λ earlier e. IsSaying me message e) (after_outputs s outputs)
 said_so_far me s message [] h = absurd h
 said_so_far me s message (e ∷ outputs) (inl h) = inl h
 said_so_far me s message (e ∷ outputs) (inr h) = inr (said_so_far me s message outputs h)
@@ -322,7 +322,7 @@ pub no_reply : (message : Message) (k : ℕ) (kept : Kept) → is_reply message 
 no_reply message k kept none same = apart (is_reply (reply_of k kept)) refl (subst (λ (m : Message). is_reply m ≡ false) same none)
 
 -- a fetch that may be due
-pub fetch_once : (me : ℕ) (s : Start) (st : State) (n : ℕ) (outputs : List Entry) (b : Bool) → is_output s.input ≡ false → ((k : ℕ) (kept : Kept) → Gives me (reply_of k kept) outputs → kept.timestamp ≤ last_time st k)
+pub fetch_once : (me : ℕ) (s : Start) (st : State) (n : ℕ) (outputs : List Entry) (b : Bool) → is_output s.input ≡ false → ((k : ℕ) (kept : Kept) → SendsMessage me (reply_of k kept) outputs → kept.timestamp ≤ last_time st k)
     → SaysOnce me s st (cond b (Fetch n levels.Root 0 ∷ []) []) outputs
 fetch_once me s st n outputs b begins older = record { begins = begins; unsaid = unsaid b; replies = λ k kept way. replies b k kept way }
   where
@@ -365,7 +365,7 @@ call_client c frame call h =
 abbrev pub time_of : Option Kept → ℕ
 time_of o = option_map_or (λ (kept : Kept). kept.timestamp) o 0
 
--- behind a request that ran its timestamp is its client's last
+-- after a request that ran, its timestamp is its client's last
 ran_time : (st : State) (number : ℕ) (call : Call) → call.client < length st.replies → last_time (ran_call st number call) call.client ≡ call.timestamp
 ran_time st number call within = ap time_of (get_or-set_same st.replies call.client (Some (kept_by st number call)) None within)
 
@@ -379,7 +379,8 @@ reply_client k j kept other h = (let same = ap client_in h in omega arith, ap ti
     time_in message = elim message [ Reply client timestamp mode number answer ↦ timestamp | _ ↦ 0 ]
 
 module _ (c : Configuration) (few : c.clients ≤ 256) (number : ℕ) where
-  -- The replies to what runs are newer than their clients' last timestamps before, and no newer than those behind it.
+  -- The replies to requests that run are newer than their clients' last timestamps before, and no newer than those
+  -- after it.
   pub ran_times : (frames : List (List ℕ)) (st : State) (k : ℕ) (kept : Kept) → length st.replies ≡ 256 → Has (λ x. x ≡ reply_of k kept) (replies_to (ran_in c number st frames))
       → (last_time st k < kept.timestamp) × (kept.timestamp ≤ last_time (fold (run_frame c number) st frames) k)
   ran_times [] st k kept all h = absurd h
@@ -411,7 +412,7 @@ module _ (c : Configuration) (few : c.clients ≤ 256) (number : ℕ) where
       go rest None is has = rest st all has
       go rest (Some call) is has = ran rest call (call_client c frame call is) (runs st call) refl has
 
-  -- Each of them will be said once, where the others are no newer than the last timestamps before.
+  -- Each of them will be said once, if the others are no newer than the last timestamps before.
   pub unsaid_replies : (me : ℕ) (frames : List (List ℕ)) (st : State) (rest : List Message) (outputs : List Entry) → length st.replies ≡ 256 → AreUnsaid me rest outputs
       → ((k : ℕ) (kept : Kept) → IsOnItsWay me rest outputs (reply_of k kept) → kept.timestamp ≤ last_time st k)
       → AreUnsaid me (replies_to (ran_in c number st frames) ++ rest) outputs

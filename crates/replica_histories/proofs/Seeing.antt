@@ -1,4 +1,4 @@
--- The requests of what is logged were seen.
+-- The requests of logged batches were seen.
 use Rattle.std.proofs.Common.{◌≡◌, ℕ, zero, suc, ◌-◌, ◌⊎◌, inl, inr, List, [], ◌∷◌, Option, Some, None, slice_get, refl, sym, subst}
 use Rattle.std.specs.Prelude.{◌==◌, ◌&&◌, nat_lt, option_and_then}
 use Rattle.std.specs.Option.{option_map_or}
@@ -19,7 +19,7 @@ use Rattle.protocol.proofs.Agreement.Offers.{entry_batch}
 use Rattle.replica_histories.specs.Claims.{LoggedAreSeen}
 use Rattle.replica_histories.proofs.Words.{passed}
 
--- what an entry brings, it carries
+-- an entry carries what it brings
 brought_seen : (c : Configuration) (body : Body) (frame : List ℕ) (past : List Entry) (e : Entry) → brought c e ≡ Some body → Has (λ x. x ≡ frame) (carried body.message) → HasSeen frame past e
 brought_seen c body frame past (Got p bytes) h has = inr (subst (λ (o : Option Body). Has (λ x. x ≡ frame) (option_map_or (λ (b : Body). carried b.message) o [])) (sym (heard_said c p bytes body h)) has)
 brought_seen c body frame past (Sent p bytes) h has = inr (subst (λ (o : Option Body). Has (λ x. x ≡ frame) (option_map_or (λ (b : Body). carried b.message) o [])) (sym h) has)

@@ -1,4 +1,5 @@
--- The own votes for what is logged: said where the log asks for none, and not forgotten behind an entry.
+-- The replica's own votes for logged batches: it sent them if the log asks for none, and no entry makes the history
+-- forget them.
 use Rattle.std.proofs.Common.{◌≡◌, ◌≢◌, ℕ, ◌*◌, ◌≤◌, ◌<◌, ◌⊎◌, inl, inr, Bool, true, false, cond, ◌&&◌, not, List, ◌∷◌, refl, sym, ap, ◌∙◌, subst, Option, Some, None, is_none}
 use Rattle.std.specs.Prelude.{◌==◌}
 use Rattle.std.proofs.lemmas.Bool.{and_from, ne_eqb}
@@ -16,7 +17,7 @@ use Rattle.replica_histories.specs.Logs.{FitsLog, IsVoted}
 use Rattle.replica_histories.proofs.Words.{given_not, primary_same, digest_read}
 use Rattle.replica_histories.proofs.Certified.{PreparedIn, prepared_there, prepared_is}
 
--- a vote that is not due is there, where the digest is given and the rest of the test passes
+-- a vote that is not due is there, if there is a digest and the rest of the test passes
 voted : (b : Bool) (own digest : Option (List ℕ)) (d : List ℕ) → cond (b && is_none own) digest None ≡ None → b ≡ true → digest ≡ Some d → (x : List ℕ) × (own ≡ Some x)
 voted b None digest d h e k = absurd (given_not digest d k (sym (ap (λ (t : Bool). cond (t && true) digest None) e) ∙ h))
 voted b (Some x) digest d h e k = (x, refl)
@@ -34,7 +35,7 @@ module _ (c : Configuration) (me : ℕ) (log : LogData) (past : List Entry) (f :
       let v = voted (log.active && logs.is_prepared log i) (logs.commit_of log i log.me) (logs.logged_digest log i) (sha256 batch) none (and_from log.active (logs.is_prepared log i) is (prepared_is log i batch p)) (digest_read log i batch p.within batch_is) in
       (v.0, f.commits i me p.within ∙ ap (logs.commit_of log i) (sym f.own) ∙ v.1)
 
-  -- what is logged has the own votes, where the log asks for none there
+  -- a logged batch has the replica's own votes, if the log asks for none there
   pub votes_said : log.active ≡ true → (log.low < i → (logs.due_prepare log i ≡ None) × (logs.due_commit log i ≡ None)) → logged c me past log.view i ≡ Some batch → IsVoted c me past log.view i batch
   votes_said is none h = go ((f.within log.view i batch h).marks refl)
     where
@@ -47,7 +48,7 @@ module _ (c : Configuration) (me : ℕ) (log : LogData) (past : List Entry) (f :
             commit = λ p. own_commit is (none above).1 (prepared_there c me log past i batch f above p);
           }
 
--- They stay said behind an entry that brings no prepare there.
+-- They stay sent after an entry that brings no prepare there.
 pub voted_goes : (c : Configuration) (me : ℕ) (e : Entry) (past : List Entry) (v i : ℕ) (batch : List ℕ) → logged c me past v i ≡ Some batch → ((s : ℕ) → prepare_of c me (e ∷ past) v i s ≡ prepare_of c me past v i s)
     → IsVoted c me past v i batch → IsVoted c me (e ∷ past) v i batch
 voted_goes c me e past v i batch logs_it same h = record {

@@ -1,4 +1,4 @@
--- The own votes that a history has, the replica said, and it said them rightly.
+-- The replica sent its own votes in a history, and sent them rightly.
 use Rattle.std.proofs.Common.{◌≡◌, ◌≢◌, ℕ, ◌⊎◌, inl, inr, true, false, ◌&&◌, not, List, [], ◌∷◌, Some, refl, sym, ap, ◌∙◌, eqb-true}
 use Rattle.std.specs.Prelude.{◌==◌}
 use Rattle.std.proofs.lemmas.Bool.{and_parts}
@@ -11,19 +11,19 @@ use Rattle.protocol.specs.System.Trace.{Entry, is_output, Once, Always}
 use Rattle.protocol.specs.System.Trace.Entry.{Invoke, Got, Tick, Executed, Installed, Sent, Accepted}
 use Rattle.protocol.specs.Replica.Certificates.{prepare_from, commit_from, vote_in, prepare_of, commit_of, Prepared}
 use Rattle.protocol.specs.Replica.RightReplica.{Point, Leaves}
-use Rattle.protocol.specs.Replica.Owed.{IsSaying, Gives}
+use Rattle.protocol.specs.Replica.Owed.{IsSaying, SendsMessage}
 use Rattle.protocol.proofs.Words.Temporal.{once_weaker, once_stays}
 use Rattle.protocol.proofs.Words.Options.{then_some_gives, given_once}
 use Rattle.protocol.proofs.Words.Linking.{Speaks}
 use Rattle.protocol.proofs.Agreement.Voting.{RightAt, once_right, preparing, Brings, vote_brought, primary_votes_not, Logs, logs_stay, says_logged}
 use Rattle.protocol.proofs.Agreement.Commits.{Commits as SaidCommits, committing, commit_source, prepared_stays, says_prepared}
-use Rattle.replica_histories.specs.Events.{Start, behind}
+use Rattle.replica_histories.specs.Events.{Start, after_outputs}
 
--- what is heard is another's
+-- received bytes are another's
 pub heard_other : (c : Configuration) (me : ℕ) (bytes : List ℕ) (body : Body) → heard (members c) me bytes ≡ Some body → body.sender ≢ me
 heard_other c me bytes body h = (heard_was_opened (members c) me bytes body h).other
 
--- so what is brought of the own was said
+-- so the replica sent its own messages in the history
 own_said : (c : Configuration) (me : ℕ) (body : Body) → body.sender ≡ me → (past : List Entry) (e : Entry) → RightAt c me past e → Brings c body past e → Speaks body past e
 own_said c me body own past (Got p bytes) r h = absurd (heard_other c p bytes body h (own ∙ sym r.own))
 own_said c me body own past (Sent p bytes) r h = h
@@ -65,7 +65,7 @@ prepare_spoken c me v i d past point leaves h =
     (once_weaker (λ past e. vote_in c me past e (prepare_from c me v i) v i ≡ Some d) (Brings c (preparing me v i d)) (prepare_source c me me v i d) past
     (given_once (λ past e. vote_in c me past e (prepare_from c me v i) v i) d past h))
 
--- what was prepared was logged then
+-- a batch that was prepared was logged then
 pub spoken_logged : (c : Configuration) (me v i : ℕ) (d : List ℕ) (past : List Entry) (point : Point) → Leaves c me past point → Once (Speaks (preparing me v i d)) past → Logs c me v i d past
 spoken_logged c me v i d past point leaves h =
     once_stays (Logs c me v i d) (logs_stay c me v i d) past
@@ -124,13 +124,13 @@ inputs_say_nothing me message (Executed x y z) o h = h
 inputs_say_nothing me message (Installed x y z) o h = h
 inputs_say_nothing me message (Accepted x y z) o h = h
 
-pub in_event : (me : ℕ) (message : Message) (s : Start) (outputs : List Entry) → is_output s.input ≡ false → Once (Speaks (record { sender = me; message = message })) (behind s outputs)
-    → Gives me message outputs ⊎ Once (Speaks (record { sender = me; message = message })) s.before
+pub in_event : (me : ℕ) (message : Message) (s : Start) (outputs : List Entry) → is_output s.input ≡ false → Once (Speaks (record { sender = me; message = message })) (after_outputs s outputs)
+    → SendsMessage me message outputs ⊎ Once (Speaks (record { sender = me; message = message })) s.before
 in_event me message s [] is (inl h) = absurd (inputs_say_nothing me message s.input is (says me message s.before s.input h))
 in_event me message s [] is (inr h) = inr h
-in_event me message s (e ∷ outputs) is (inl h) = inl (inl (says me message (behind s outputs) e h))
+in_event me message s (e ∷ outputs) is (inl h) = inl (inl (says me message (after_outputs s outputs) e h))
 in_event me message s (e ∷ outputs) is (inr h) = go (in_event me message s outputs is h)
   where
-    go : Gives me message outputs ⊎ Once (Speaks (record { sender = me; message = message })) s.before → Gives me message (e ∷ outputs) ⊎ Once (Speaks (record { sender = me; message = message })) s.before
+    go : SendsMessage me message outputs ⊎ Once (Speaks (record { sender = me; message = message })) s.before → SendsMessage me message (e ∷ outputs) ⊎ Once (Speaks (record { sender = me; message = message })) s.before
     go (inl k) = inl (inr k)
     go (inr k) = inr k

@@ -1,4 +1,4 @@
--- What the changes of a log take, and what changes nothing.
+-- How a change of a log takes a message, and which messages change nothing.
 use Rattle.std.proofs.Common.{◌≡◌, ℕ, ◌<◌, Bool, true, false, cond, not, ◌&&◌, List, refl, sym, ap, ◌∙◌, subst, Option, Some, None, eqb-true, eq-eqb}
 use Rattle.std.specs.Prelude.{◌==◌, option_and_then}
 use Rattle.std.specs.Bool.{then_some}
@@ -15,12 +15,12 @@ use Rattle.protocol.specs.Replica.Certificates.{are_genuine, checkpoint_from, wi
 use Rattle.protocol.proofs.Words.Options.{or_else_alone}
 use Rattle.replica_histories.specs.Logs.{above_mark, Stays, while_active, Takes}
 
--- ---- what changes nothing
+-- ---- messages that change nothing
 
 pub stays_itself : (log : LogData) → IsLog log → Stays log log
 stays_itself log is = record { is_log = is; me = refl; faults = refl; span = refl; view = refl; active = refl; low = refl; checkpoints = refl }
 
--- a body that adds nothing to what is read, while the replica is active
+-- a body that adds nothing to the log's answers, while the replica is active
 pub takes_no_more : (c : Configuration) (me : ℕ) (said : Option Body) (log : LogData) → IsLog log
     → ((i : ℕ) → log.active ≡ true → logs.is_in_marks log i ≡ true → logs.logged_batch log i ≡ None → option_and_then (batch_from c me log.view i) said ≡ None)
     → ((i s : ℕ) → log.active ≡ true → logs.is_in_marks log i ≡ true → logs.prepare_of log i s ≡ None → option_and_then (prepare_from c s log.view i) said ≡ None)
@@ -41,7 +41,7 @@ takes_no_more c me said log is batch prepare commit checkpoint = record {
     keeps None later false is h = refl
     keeps (Some x) later b is h = refl
 
--- a body that adds nothing to what is read
+-- a body that adds nothing to the log's answers
 pub takes_nothing : (c : Configuration) (me : ℕ) (said : Option Body) (log : LogData) → IsLog log
     → ((i : ℕ) → logs.is_in_marks log i ≡ true → logs.logged_batch log i ≡ None → option_and_then (batch_from c me log.view i) said ≡ None)
     → ((i s : ℕ) → logs.is_in_marks log i ≡ true → logs.prepare_of log i s ≡ None → option_and_then (prepare_from c s log.view i) said ≡ None)
@@ -50,14 +50,14 @@ pub takes_nothing : (c : Configuration) (me : ℕ) (said : Option Body) (log : L
     → Takes c me said log log
 takes_nothing c me said log is batch prepare commit checkpoint = takes_no_more c me said log is (λ i a k h. batch i k h) (λ i s a k h. prepare i s k h) (λ i s a k h. commit i s k h) checkpoint
 
--- a body that gives something for one place alone, where something stands, adds nothing
+-- a body for one place alone, which is taken, adds nothing
 pub none_there : (o added : Option (List ℕ)) (test : Bool) (x : List ℕ) → added ≡ then_some test x → o ≡ None → (test ≡ true → o ≡ None → ⊥) → added ≡ None
 none_there o added true x is none there = absurd (there refl none)
 none_there o added false x is none there = is
 
 -- ---- tests
 
--- a test whose other parts pass wherever its first does
+-- a test whose other parts pass if its first does
 passing : (a x y z : Bool) → x ≡ true → y ≡ true → (a ≡ true → z ≡ true) → (a && x && y && z) ≡ a
 passing true x y z e f g = rw (e, f, g refl) refl
 passing false x y z e f g = refl
@@ -85,7 +85,7 @@ turned a b false e = go (b == a) refl
     go false k = refl
     go true k = sym (eq-eqb a b (sym (eqb-true b a k))) ∙ e
 
--- what is read at one number, by a test that passes there and nowhere else
+-- the answer at one number, by a test that passes there and nowhere else
 at_number : (i j : ℕ) (old new added : Option (List ℕ)) (test : Bool) (x : List ℕ) → new ≡ cond (j == i) (or_else old added) old
     → ((j == i) ≡ true → then_some test x ≡ added) → ((j == i) ≡ false → test ≡ false) → new ≡ or_else old (then_some test x)
 at_number i j old new added test x reads here elsewhere = go (j == i) refl reads
@@ -94,11 +94,11 @@ at_number i j old new added test x reads here elsewhere = go (j == i) refl reads
     go true e h = h ∙ ap (or_else old) (sym (here e))
     go false e h = h ∙ sym (or_else_alone old (then_some test x) (ap (λ (b : Bool). then_some b x) (elsewhere e)))
 
--- what counts while the replica is active
+-- a message that counts while the replica is active
 active_adds : (log : LogData) (old added new : Option (List ℕ)) → log.active ≡ true → new ≡ or_else old added → new ≡ or_else old (while_active log added)
 active_adds log old added new is h = h ∙ ap (λ (b : Bool). or_else old (cond b added None)) (sym is)
 
--- what is not of the kind adds nothing
+-- a message of another kind adds nothing
 adds_none : (log : LogData) (old new : Option (List ℕ)) → new ≡ old → new ≡ or_else old (while_active log None)
 adds_none log old new h = h ∙ sym (or_else_alone old (while_active log None) (go log.active))
   where

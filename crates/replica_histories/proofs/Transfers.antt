@@ -1,4 +1,4 @@
--- What a transfer wants and has is what its replica's history says.
+-- A transfer wants and has what its replica's history says.
 use Rattle.std.proofs.Common.{◌≡◌, ℕ, zero, suc, max, ◌+◌, ◌*◌, ◌/◌, ◌%◌, ◌≤◌, ◌<◌, ◌⊎◌, inl, inr, Bool, true, false, List, [], ◌∷◌, replicate, set, get_or, refl, sym, ap, ◌∙◌, subst, arith, Option, Some, None, slice_get}
 use Rattle.std.specs.Prelude.{nat_lt, bytes_eq, option_and_then}
 use Rattle.std.specs.Bool.{then_some}
@@ -36,7 +36,7 @@ use Rattle.replica_histories.proofs.Words.{passed}
 
 -- ---- lists
 
--- what is read behind a change: what was put, at its place, or what was there
+-- a list after a change: the new item at its place, or the old one
 pub set_cases : {A : Type 0} (xs : List A) (i j : ℕ) (x d : A) → ((j ≡ i) × (get_or (set xs i x) j d ≡ x)) ⊎ (get_or (set xs i x) j d ≡ get_or xs j d)
 set_cases [] i j x d = inr refl
 set_cases (y ∷ ys) zero zero x d = inl (refl, refl)
@@ -53,14 +53,14 @@ all_default zero i d = refl
 all_default (suc n) zero d = refl
 all_default (suc n) (suc i) d = all_default n i d
 
--- ---- what is wanted
+-- ---- wanted digests
 
 part_wanted : (c : Configuration) (me : ℕ) (t : TransferData) (history : List Entry) (j : ℕ) (digest : List ℕ) → Aims c me t history → digest_of_part t j ≡ Some digest → IsInnerWanted c me history t.number j digest
 part_wanted c me t history j digest a h =
     let w = and_then_some (λ digests. slice_get digests j) t.part_digests digest h in
     (t.root, w.0, a.root_wanted, a.inner w.0 w.1, w.2)
 
--- what fits is got below the place
+-- fitting digests were received below the place
 pub fitting_got : (c : Configuration) (me : ℕ) (history : List Entry) (j : ℕ) (digest : List ℕ) (o : Option (List (List ℕ))) (digests : List (List ℕ)) → ((others : List (List ℕ)) → o ≡ Some others → GotBelow c me history levels.Inner j (digest_of_children others) others)
     → fitting digest o ≡ Some digests → GotBelow c me history levels.Inner j digest digests
 fitting_got c me history j digest None digests got h = absurd cc
@@ -81,7 +81,7 @@ wanted_by_history c me t history levels.Root index digest a h = subst (λ (x : L
 wanted_by_history c me t history levels.Inner index digest a h = part_wanted c me t history index digest a h
 wanted_by_history c me t history levels.Page index digest a h = page_wanted c me t history index digest a h
 
--- ---- what counts
+-- ---- which parts count
 
 pub digests_count : DigestsCount
 digests_count c me t history point bytes s place digests asks is f =
@@ -107,7 +107,7 @@ aims_stay c me t past e a = record {
   parts = λ j digests h. below_later c me past e levels.Inner j (digest_of_children digests) digests (a.parts j digests h);
 }
 
--- what asks for no place has no number of a fetch
+-- an entry that asks for no place has no number of a fetch
 abbrev pub number_of : Body → ℕ
 number_of body = elim body.message [ Fetch k level index ↦ k | _ ↦ 0 ]
 
@@ -167,9 +167,9 @@ open_executes c me (Some t) number later past batch grows f = go (nat_lt later t
         let newest = f.0.newest in
         (omega arith, execution_ends c me later None batch past (omega arith))
 
--- ---- what is taken
+-- ---- parts that a transfer takes
 
--- what is heard may be said
+-- a received message may be sent
 pub heard_valid : (c : Configuration) (me : ℕ) (bytes : List ℕ) (body : Body) → heard (members c) me bytes ≡ Some body → IsMessage body.message
 heard_valid c me bytes body h =
     let w = (says_what_is_spelled bytes body).0 (heard_said c me bytes body h) in
@@ -394,7 +394,7 @@ transfers_ask c me t number past bytes says m = (
   m.ahead,
 )
 
--- ---- the number that is open
+-- ---- the number of the open transfer
 
 -- is at least the executed one
 pub open_above : (c : Configuration) (me : ℕ) (open_one : Option TransferData) (number : ℕ) (history : List Entry) → FitsOpen c me open_one number history → number ≤ open_number number open_one
@@ -415,7 +415,7 @@ sent_fetched (Some body) past k place earlier is = of body.sender body.message i
     of sender (Fetch n level index) is = let same : n ≡ k = ap (λ (x : ℕ × (Level × ℕ)). x.0) (some_injective (n, (level, index)) (k, place) is) in omega (arith, same)
     of sender _ is = let most = earlier is in omega (arith, most)
 
--- of what was asked for last a part was fetched
+-- of the number of the last asked place a part was fetched
 pub asked_fetched : (history : List Entry) (k : ℕ) (place : Level × ℕ) → asked_last history ≡ Some (k, place) → k ≤ fetching history
 asked_fetched [] k place h = absurd cc
 asked_fetched (Sent p bytes ∷ past) k place h = sent_fetched (said bytes) past k place (asked_fetched past k place) h

@@ -1,4 +1,4 @@
--- Fetches of kept states are answered: no two kept states have one number, so that one answer is all that is owed.
+-- The replica answers fetches of kept states: no two kept states have one number, so it owes one answer.
 use Rattle.std.proofs.Common.{◌≡◌, ℕ, suc, ◌%◌, ◌≤◌, ◌<◌, ◌⊎◌, inl, inr, Bool, true, false, cond, List, [], ◌∷◌, refl, sym, ap, ◌∙◌, subst, arith, Option, Some}
 use Rattle.std.specs.Prelude.{◌==◌, nat_le, slice_index_or, ⊤}
 use Rattle.std.specs.Option.{option_map_or}
@@ -28,7 +28,7 @@ use Rattle.replica_histories.proofs.TransfersInstalling.{pages_read}
 
 -- ---- snapshots of different numbers
 
--- none is above the number, and no two are of one number
+-- none is above the number, and no two have the same number
 pub record Distinct (snapshots : List State) (number : ℕ) : Type 0 where
   pub below : (x : State) → Has (λ z. z ≡ x) snapshots → x.number ≤ number
   pub one : (x y : State) → Has (λ z. z ≡ x) snapshots → Has (λ z. z ≡ y) snapshots → x.number ≡ y.number → x ≡ y
@@ -151,7 +151,7 @@ asked_within c me s k level index past h =
     once_stays (λ earlier. index ≤ last_index level) (λ e earlier x. x) past
     (once_weaker (Hears c me (record { sender = s; message = Fetch k level index })) (λ earlier e. index ≤ last_index level) (hears_within c me s k level index) past h)
 
--- it may be said of a kept state
+-- it may be sent for a kept state
 may_say : (c : Configuration) (me : ℕ) (past : List Entry) (point : Point) (e : Entry) (bytes : List ℕ) (s k index : ℕ) (level : Level) (pages : List (List ℕ)) → KeptPages c me past point k pages → WasAsked c me past s k level index
     → MaySay c me past point e bytes (answer_by pages k level index)
 may_say c me past point e bytes s k index levels.Root pages h asked = (
@@ -194,9 +194,9 @@ posted_to_one c me s message bytes posted =
     let is : frame_of bytes ≡ Some w.0 = (reads_frames bytes w.0).1 w.1 in
     (posted.says, ap (λ (o : Option Frame). option_map_or (λ (frame : Frame). receivers_of frame.authenticator) o []) is ∙ (posted.is_sealed w.0 is).1)
 
--- ---- what is owed
+-- ---- what the replica owes
 
--- an input is heard as one body
+-- an input has one body
 pub hears_one : (c : Configuration) (me : ℕ) (a b : Body) (past : List Entry) (e : Entry) → Hears c me a past e → Hears c me b past e → a ≡ b
 hears_one c me a b past (Got p bytes) h g = some_injective a b (sym h ∙ g)
 hears_one c me a b past (Invoke x y z) h g = absurd h
@@ -206,7 +206,7 @@ hears_one c me a b past (Installed x y z) h g = absurd h
 hears_one c me a b past (Sent x y) h g = absurd h
 hears_one c me a b past (Accepted x y z) h g = absurd h
 
--- what answers one fetch of an input answers each
+-- the answer to one fetch of an input answers each
 answers_each : (c : Configuration) (me : ℕ) (before : List Entry) (input : Entry) (outputs : List Entry) (old : Point) (s k index : ℕ) (level : Level) → Hears c me (record { sender = s; message = Fetch k level index }) before input
     → ((st : State) → KeptState c me before old k (λ x. x ≡ st) → GivesTo me s (answer_of st k level index) outputs) → AnswersFetches c me before input outputs old
 answers_each c me before input outputs old s k index level hears gives s' k' index' level' hears' st =

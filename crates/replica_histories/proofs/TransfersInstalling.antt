@@ -1,4 +1,4 @@
--- The pages that are held are the state's own, and those that were got: a state of them may be installed.
+-- The held pages are the state's own, and those that arrived: a state of them may be installed.
 use Rattle.std.proofs.Common.{◌≡◌, ◌≢◌, ℕ, ◌<◌, Bool, true, false, List, [], length, map, get_or, refl, sym, ap, ◌∙◌, subst, arith, None, eqb-true}
 use Rattle.std.specs.Prelude.{◌==◌, slice_index_or}
 use Rattle.std.specs.List.{range_with_len}
@@ -10,7 +10,7 @@ use Rattle.terms.specs.declared.state.Level.TheVariants as levels
 use Rattle.partition_tree.specs.Digests.{root_of as root_of_pages}
 use Rattle.protocol.specs.Replica.State.{State, page_text, all_pages, pages_of}
 use Rattle.state_transfer.specs.Transfer.{TransferData, with_digests, with_page}
-use Rattle.replica_histories.specs.Transfers.{page_held, is_fetched, RestsOn, StartedRests, DigestsRest, PagesRest, RestedRests, TransfersInstall}
+use Rattle.replica_histories.specs.Transfers.{page_held, is_fetched, RestsOnState, StartedRests, DigestsRest, PagesRest, RestedRests, TransfersInstall}
 use Rattle.replica_histories.proofs.TransfersTaking.{installed_in_place, installation_ends}
 
 -- ---- pages of a state
@@ -22,12 +22,12 @@ pub pages_read : (st : State) (i : ℕ) → i < 1024 → slice_index_or (pages_o
 unfolding all_pages
 pages_read st i l = page_at (page_text st) 1024 i l
 
--- ---- the pages that are not fetched
+-- ---- the pages that were not fetched
 
 pub started_rests : StartedRests
 started_rests k root st i l is = pages_read st i l
 
-digests_at : (t : TransferData) (st : State) (level : Level) (index : ℕ) (digests : List (List ℕ)) → RestsOn t st → RestsOn (with_digests t (record { level = level; index = index }) digests) st
+digests_at : (t : TransferData) (st : State) (level : Level) (index : ℕ) (digests : List (List ℕ)) → RestsOnState t st → RestsOnState (with_digests t (record { level = level; index = index }) digests) st
 digests_at t st levels.Root index digests r = r
 digests_at t st levels.Inner index digests r = r
 digests_at t st levels.Page index digests r = r
@@ -52,7 +52,7 @@ pages_rest t st index text long within r i l is = at (i == index) refl
 pub rested_rests : RestedRests
 rested_rests old new st r i l is = r.own i l (sym (ap (λ (x : TransferData). is_fetched x i) r.same) ∙ is) ∙ pages_read st i l
 
--- ---- a state is installed
+-- ---- the replica installs a state
 
 pub transfers_install : TransfersInstall
 transfers_install c me t past point st m rests root_is is number pages = (

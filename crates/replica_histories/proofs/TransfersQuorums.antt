@@ -1,4 +1,4 @@
--- Quorums of checkpoints grow by what an entry brings alone, and each above the executed number is fetched.
+-- Only the checkpoint that an entry brings makes a quorum grow, and each quorum above the executed number is fetched.
 use Rattle.std.proofs.Common.{◌≡◌, ℕ, zero, suc, ◌+◌, ◌*◌, ◌≤◌, ◌<◌, ◌⊎◌, inl, inr, Bool, true, false, cond, ◌&&◌, ◌||◌, List, [], ◌∷◌, ◌++◌, take, filter, refl, sym, ap, ◌∙◌, subst, arith, Option, Some, None, eqb-true}
 use Rattle.std.specs.Prelude.{◌==◌, nat_lt, bytes_eq, option_and_then}
 use Rattle.std.specs.Bool.{then_some}
@@ -14,14 +14,13 @@ use Rattle.protocol.specs.System.Configuration.{Configuration, replicas, is_numb
 use Rattle.protocol.specs.System.Trace.{Entry, Has}
 use Rattle.protocol.specs.System.Trace.Entry.{Invoke, Got, Tick, Executed, Installed, Sent, Accepted}
 use Rattle.protocol.specs.Replica.Selection.{is_quorum}
-use Rattle.protocol.specs.Replica.Certificates.{brought, checkpoint_from, checkpoint_in, insert_checkpoint, with_checkpoint, checkpoints_of, says_checkpoint, count_checkpoints, taken}
+use Rattle.protocol.specs.Replica.Certificates.{checkpoint_from, checkpoint_in, insert_checkpoint, with_checkpoint, checkpoints_of, says_checkpoint, count_checkpoints, taken}
 use Rattle.protocol.specs.Replica.Transfers.{fetch_sent, fetching}
-use Rattle.protocol.specs.Replica.Owed.{IsSaying, Gives, StartsAhead, has_number}
-use Rattle.protocol.specs.Evidence.RefusedMarks.{BringsCheckpoint}
-use Rattle.protocol.proofs.Evidence.RefusingMarksCheckpoints.{first_checkpoint_counts}
-use Rattle.protocol.proofs.Words.Options.{and_then_some, then_some_gives}
+use Rattle.protocol.specs.Replica.Owed.{IsSaying, SendsMessage, StartsAhead, has_number}
+use Rattle.protocol.proofs.Agreement.Checkpoints.{known_checkpoint}
+use Rattle.protocol.proofs.Words.Options.{then_some_gives}
 use Rattle.protocol.proofs.Words.Elements.{has_of_any}
-use Rattle.replica_histories.specs.Events.{behind, IsOnItsWay}
+use Rattle.replica_histories.specs.Events.{after_outputs, IsOnItsWay}
 use Rattle.replica_histories.specs.Transfers.{HasQuorum}
 use Rattle.replica_histories.specs.TransfersQuorums.{BringsRoot, IsToFetch, QuorumsGrow, CountsStay, UnchangedBringNone, QuorumsFirst, QuorumsStay, QuorumsBegin, QuorumsGoOn, QuorumsEnd}
 use Rattle.replica_histories.proofs.Transfers.{number_of, no_quorum}
@@ -74,36 +73,17 @@ any_with test s (Some x) ms not h = go (x.0 == s) h
 
 -- ---- quorums
 
--- whether one checkpoint says what the other does
+-- whether two checkpoints are the same
 abbrev says_same : CheckpointEntry → CheckpointEntry → Bool
 says_same checkpoint m = (m.number == checkpoint.number) && bytes_eq m.digest checkpoint.digest
 
--- where each sender says it no more than before
+-- if each sender says it no more than before
 quorum_was : (c : Configuration) (past : List Entry) (e : Entry) (checkpoint : CheckpointEntry) → ((s : ℕ) → says_checkpoint checkpoint (checkpoints_of c (e ∷ past) s) ≡ true → says_checkpoint checkpoint (checkpoints_of c past s) ≡ true)
     → is_quorum c (count_checkpoints c (e ∷ past) checkpoint) ≡ true → is_quorum c (count_checkpoints c past checkpoint) ≡ true
 quorum_was c past e checkpoint less h =
     let fewer = count_mono (λ s. says_checkpoint checkpoint (checkpoints_of c (e ∷ past) s)) (λ s. says_checkpoint checkpoint (checkpoints_of c past s)) (replicas c) (λ s l. less s) in
     let least = leb-true (2 * c.faults + 1) (count_checkpoints c (e ∷ past) checkpoint) h in
     le-leb (2 * c.faults + 1) (count_checkpoints c past checkpoint) (omega arith)
-
--- an entry that brings a checkpoint is got or sent
-brings_message : (c : Configuration) (s k : ℕ) (root : List ℕ) (e : Entry) → brought c e ≡ Some (record { sender = s; message = Checkpoint k root }) → BringsCheckpoint c s k root e
-brings_message c s k root (Got p bytes) h = h
-brings_message c s k root (Sent p bytes) h = h
-brings_message c s k root (Invoke x y z) h = absurd cc
-brings_message c s k root (Tick x) h = absurd cc
-brings_message c s k root (Executed x y z) h = absurd cc
-brings_message c s k root (Installed x y z) h = absurd cc
-brings_message c s k root (Accepted x y z) h = absurd cc
-
-brings_it : (c : Configuration) (x : ℕ × CheckpointEntry) (e : Entry) → checkpoint_in c e ≡ Some x → BringsCheckpoint c x.0 x.1.number x.1.digest e
-brings_it c x e h = let r = and_then_some checkpoint_from (brought c e) x h in of r.0.sender r.0.message r.1 r.2
-  where
-    of : (sender : ℕ) (message : Message) → brought c e ≡ Some (record { sender = sender; message = message }) → checkpoint_from (record { sender = sender; message = message }) ≡ Some x → BringsCheckpoint c x.0 x.1.number x.1.digest e
-    of sender (Checkpoint number root) is from =
-        let g = then_some_gives {A = ℕ × CheckpointEntry} (is_number number) (sender, record { number = number; digest = root }) x from in
-        subst (λ (y : ℕ × CheckpointEntry). BringsCheckpoint c y.0 y.1.number y.1.digest e) g.1 (brings_message c sender number root e is)
-    of sender _ is from = absurd cc
 
 -- a checkpoint that says it has its number
 number_said : (checkpoint : CheckpointEntry) (ms : List CheckpointEntry) → says_checkpoint checkpoint ms ≡ true → has_number checkpoint.number ms ≡ true
@@ -126,7 +106,7 @@ module _ (c : Configuration) (past : List Entry) (e : Entry) (k : ℕ) (root : L
   unfolding checkpoints_of checkpoint
   others not s t = any_with (says_same checkpoint) s (checkpoint_in c e) (checkpoints_of c past s) not t
 
-  -- nor does one that changes nothing of its sender's
+  -- nor does one that leaves its sender's checkpoints
   unmoved : (sender : ℕ) → checkpoint_in c e ≡ Some (sender, checkpoint) → Less sender → (s : ℕ) → Less s
   unfolding checkpoints_of
   unmoved sender is own s = go (sender == s) refl
@@ -149,7 +129,7 @@ module _ (c : Configuration) (past : List Entry) (e : Entry) (k : ℕ) (root : L
       counts : (sender : ℕ) → checkpoint_in c e ≡ Some (sender, checkpoint) → (first kept : Bool) → has_number k (checkpoints_of c past sender) ≡ first → has_number k (checkpoints_of c (e ∷ past) sender) ≡ kept
           → HasQuorum c past k root ⊎ BringsRoot c past e k root
       counts sender is true kept f g =
-          let same = first_checkpoint_counts c sender k root e past (brings_it c (sender, checkpoint) e is) (has_of_any (λ (m : CheckpointEntry). m.number ≡ k) (λ m. m.number == k) (λ m t. eqb-true m.number k t) (checkpoints_of c past sender) f) in
+          let same = known_checkpoint c sender checkpoint e past is (has_of_any (λ (m : CheckpointEntry). m.number ≡ k) (λ m. m.number == k) (λ m t. eqb-true m.number k t) (checkpoints_of c past sender) f) in
           inl (was (unmoved sender is (λ t. sym (ap (says_checkpoint checkpoint) same) ∙ t)))
       counts sender is false false f g = inl (was (unmoved sender is (λ t. absurd (let bad : false ≡ true = sym g ∙ number_said checkpoint (checkpoints_of c (e ∷ past) sender) t in cc))))
       counts sender is false true f g = inr (record { sender = sender; brings = is; first = f; kept = g })
@@ -202,9 +182,9 @@ unchanged_bring_none c mark past e k root same b = go (nat_lt mark k) refl
         absurd cc
     go false over = ltb-false mark k over
 
--- ---- all that a quorum says, or a new view starts at, is fetched
+-- ---- the state of each quorum, and of each new view's start, is fetched
 
--- where none is taken, none starts
+-- an entry that takes no new view starts none
 pub none_starts : {A : Type 0} (c : Configuration) (past : List Entry) (e : Entry) (k : ℕ) → taken c past e ≡ None → StartsAhead c k past e → A
 none_starts c past e k none h = absurd (let bad : None ≡ Some h.0 = sym none ∙ h.1 in cc)
 
@@ -255,12 +235,12 @@ quorums_go_on c me s number later due rest outputs e grows low starts paid f k r
     at (inr (inl d)) = inr (due_now (paid (Fetch k levels.Root 0) d))
     at (inr (inr g)) = inr (inr (inr g))
 
-    go : HasQuorum c (behind s outputs) k root ⊎ BringsRoot c (behind s outputs) e k root → (k ≤ fetching s.before) ⊎ IsOnItsWay me rest (e ∷ outputs) (Fetch k levels.Root 0)
+    go : HasQuorum c (after_outputs s outputs) k root ⊎ BringsRoot c (after_outputs s outputs) e k root → (k ≤ fetching s.before) ⊎ IsOnItsWay me rest (e ∷ outputs) (Fetch k levels.Root 0)
     go (inl q) = at (f k root (inl q) (omega arith))
     go (inr b) = let most = low k root b in absurd (omega arith)
 
-    all : IsToFetch c (e ∷ behind s outputs) k root → (k ≤ fetching s.before) ⊎ IsOnItsWay me rest (e ∷ outputs) (Fetch k levels.Root 0)
-    all (inl q) = go (quorums_grow c (behind s outputs) e k root q)
+    all : IsToFetch c (e ∷ after_outputs s outputs) k root → (k ≤ fetching s.before) ⊎ IsOnItsWay me rest (e ∷ outputs) (Fetch k levels.Root 0)
+    all (inl q) = go (quorums_grow c (after_outputs s outputs) e k root q)
     all (inr (inl start)) = inr (inl (starts k start above))
     all (inr (inr earlier)) = at (f k root (inr earlier) (omega arith))
 
@@ -268,7 +248,7 @@ fetching_grows : (outputs past : List Entry) → fetching past ≤ fetching (out
 fetching_grows [] past = omega arith
 fetching_grows (e ∷ outputs) past = let l = fetching_grows outputs past in omega arith
 
--- the number of a fetch that is given
+-- the number of a fetch that the replica sends
 pub says_number : (me k : ℕ) (e : Entry) → IsSaying me (Fetch k levels.Root 0) e → fetch_sent e ≡ k
 says_number me k (Sent p bytes) h = ap (λ (o : Option Body). option_map_or number_of o 0) h
 says_number me k (Invoke x y z) h = absurd h
@@ -278,7 +258,7 @@ says_number me k (Executed x y z) h = absurd h
 says_number me k (Installed x y z) h = absurd h
 says_number me k (Accepted x y z) h = absurd h
 
-given_fetched : (me k : ℕ) (outputs past : List Entry) → Gives me (Fetch k levels.Root 0) outputs → k ≤ fetching (outputs ++ past)
+given_fetched : (me k : ℕ) (outputs past : List Entry) → SendsMessage me (Fetch k levels.Root 0) outputs → k ≤ fetching (outputs ++ past)
 given_fetched me k [] past h = absurd h
 given_fetched me k (e ∷ outputs) past (inl h) = let is = says_number me k e h in omega arith
 given_fetched me k (e ∷ outputs) past (inr h) = let l = given_fetched me k outputs past h in omega arith
@@ -286,7 +266,7 @@ given_fetched me k (e ∷ outputs) past (inr h) = let l = given_fetched me k out
 pub quorums_end : QuorumsEnd
 quorums_end c me s number outputs f = (λ k root h above. fetched k (f k root h above), λ k root h above fresh. given k fresh (f k root h above))
   where
-    fetched : (k : ℕ) → (k ≤ fetching s.before) ⊎ IsOnItsWay me [] outputs (Fetch k levels.Root 0) → k ≤ fetching (behind s outputs)
+    fetched : (k : ℕ) → (k ≤ fetching s.before) ⊎ IsOnItsWay me [] outputs (Fetch k levels.Root 0) → k ≤ fetching (after_outputs s outputs)
     fetched k (inl l) =
         let last : fetching s.before ≤ fetching (s.input ∷ s.before) = omega arith in
         let grows = fetching_grows outputs (s.input ∷ s.before) in
@@ -294,20 +274,20 @@ quorums_end c me s number outputs f = (λ k root h above. fetched k (f k root h 
     fetched k (inr (inl d)) = absurd d
     fetched k (inr (inr g)) = given_fetched me k outputs (s.input ∷ s.before) g
 
-    given : (k : ℕ) → fetching s.before < k → (k ≤ fetching s.before) ⊎ IsOnItsWay me [] outputs (Fetch k levels.Root 0) → Gives me (Fetch k levels.Root 0) outputs
+    given : (k : ℕ) → fetching s.before < k → (k ≤ fetching s.before) ⊎ IsOnItsWay me [] outputs (Fetch k levels.Root 0) → SendsMessage me (Fetch k levels.Root 0) outputs
     given k fresh (inl l) = absurd (omega arith)
     given k fresh (inr (inl d)) = absurd d
     given k fresh (inr (inr g)) = g
 
 -- ---- entries that bring none
 
--- a frame that says no checkpoint brings no root
+-- a frame without a checkpoint brings no root
 pub no_root : (c : Configuration) (past : List Entry) (bytes : List ℕ) (sender : ℕ) (message : Message) (number : ℕ) → said bytes ≡ Some (record { sender = sender; message = message })
     → checkpoint_from (record { sender = sender; message = message }) ≡ None → (k : ℕ) (root : List ℕ) → BringsRoot c past (Sent sender bytes) k root → k ≤ number
 no_root c past bytes sender message number says none k root b =
     absurd (let bad : None ≡ Some (b.sender, (let x : CheckpointEntry = record { number = k; digest = root } in x)) = sym (ap (option_and_then checkpoint_from) says ∙ none) ∙ b.brings in cc)
 
--- one that says a checkpoint brings its root alone
+-- a frame with a checkpoint brings its root alone
 pub own_root : (c : Configuration) (past : List Entry) (bytes : List ℕ) (sender i : ℕ) (digest : List ℕ) (number : ℕ) → said bytes ≡ Some (record { sender = sender; message = Checkpoint i digest }) → i ≤ number
     → (k : ℕ) (root : List ℕ) → BringsRoot c past (Sent sender bytes) k root → k ≤ number
 own_root c past bytes sender i digest number says least k root b = subst (λ (x : ℕ). x ≤ number) same least

@@ -26,7 +26,7 @@ use Rattle.state_transfer.specs.Differences.{IsFirstDifference}
 use Rattle.state_transfer.specs.Places.{inner_place, page_place}
 use Rattle.state_transfer.specs.Transfer.{TransferData, fitting, pages_of_part, next_place}
 use Rattle.state_transfer.proofs.Seeking as Seeking
-use Rattle.replica_histories.specs.Transfers.{page_held, is_fetched, known_below, MayAsk, RestsOn, NextsAreFirst}
+use Rattle.replica_histories.specs.Transfers.{page_held, is_fetched, known_below, MayAsk, RestsOnState, NextsAreFirst}
 use Rattle.replica_histories.proofs.Transfers.{heard_valid, fitting_got}
 
 -- ---- the first of two lists' differences
@@ -63,7 +63,7 @@ first_difference (suc n) (x ∷ xs) (y ∷ ys) a b other = go (cases_Bool (bytes
         heads h t = rw (h, t) refl
     go (inr unlike) later = difference_here n x y xs ys (λ is. both_ways (bytes_eq x y) unlike ((bytes_eq-Decides x y).1 is))
 
--- ---- digests that were got
+-- ---- received digests
 
 -- are those of 32 children
 heard_full : (c : Configuration) (me s n index : ℕ) (level : Level) (digests : List (List ℕ)) (e : Entry) (past : List Entry) → Hears c me (record { sender = s; message = Meta n level index digests }) past e → length digests ≡ 32
@@ -83,9 +83,9 @@ once_full c me s n index level digests (e ∷ past) (inr h) = once_full c me s n
 got_full : (c : Configuration) (me index : ℕ) (level : Level) (digest : List ℕ) (digests : List (List ℕ)) (past : List Entry) → GotBelow c me past level index digest digests → length digests ≡ 32
 got_full c me index level digest digests past g = once_full c me g.1.0 g.1.1 index level digests past g.1.2
 
--- ---- what is held is what is in place
+-- ---- the held pages are those in place
 
-module _ (c : Configuration) (me : ℕ) (t : TransferData) (st : State) (history : List Entry) (may : MayAsk c me t st.number history) (rests : RestsOn t st) (long : length t.held ≡ 1024) where
+module _ (c : Configuration) (me : ℕ) (t : TransferData) (st : State) (history : List Entry) (may : MayAsk c me t st.number history) (rests : RestsOnState t st) (long : length t.held ≡ 1024) where
   abbrev here : ℕ → List ℕ
   here = in_place c me t.number history st
 
@@ -125,7 +125,7 @@ module _ (c : Configuration) (me : ℕ) (t : TransferData) (st : State) (history
   unfolding inner_digests
   full_parts = length-map-range_with_len (inner_digest t.held) 0 32
 
-  -- a first difference of lists is that of what is in place
+  -- a first difference of lists is one from what is in place
   abbrev to_differ : (wanted held : List (List ℕ)) (now : ℕ → List ℕ) → length wanted ≡ 32 → ((k : ℕ) → k < 32 → get_or held k [] ≡ now k) → (d : Difference 32 wanted held) → IsFirstToDiffer wanted now d.at
   to_differ wanted held now full is d = record {
     before = λ k l. let m = d.within in slice_get-get_or wanted k [] (omega arith) ∙ ap Some (d.before k l ∙ is k (omega arith));

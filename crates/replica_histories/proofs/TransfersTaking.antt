@@ -1,4 +1,4 @@
--- What a transfer has fetched is what its replica's history says that it took.
+-- The pages that a transfer has fetched are those that its replica's history took.
 use Rattle.std.proofs.Common.{◌≡◌, ◌≢◌, ℕ, zero, suc, ◌≤◌, ◌<◌, ◌⊎◌, inl, inr, Bool, true, false, cond, List, [], ◌∷◌, length, replicate, get_or, refl, sym, ap, ap₂, ◌∙◌, subst, arith, Option, Some, None, eqb-true}
 use Rattle.std.specs.Prelude.{◌==◌, nat_le, option_and_then, slice_index_or, ⊤}
 use Rattle.std.specs.Bool.{then_some}
@@ -17,11 +17,11 @@ use Rattle.protocol.specs.System.Trace.Entry.{Invoke, Got, Tick, Executed, Insta
 use Rattle.protocol.specs.Replica.State.{State, page_text}
 use Rattle.protocol.specs.Replica.Transfers.{place_from, number_asked, fetching, asked_last, took, in_place}
 use Rattle.protocol.proofs.Words.Options.{some_injective, or_else_cases}
-use Rattle.protocol.proofs.Evidence.Taken as Taken
+use Rattle.protocol.proofs.Words.Transfers as Taken
 use Rattle.state_transfer.specs.Transfer.{TransferData, none_fetched, new_transfer, with_digests, with_page, RestsOn as IsRested}
 use Rattle.replica_histories.specs.Transfers.{page_held, is_fetched, place_sent, LeavesState, AreTaken, NoneTaken}
 
--- ---- a number that nothing was fetched for
+-- ---- a number for which nothing was fetched
 
 place_number : (body : Body) (n : ℕ) (place : Level × ℕ) → place_from body ≡ Some (n, place) → elim body.message [ Fetch k level index ↦ k | _ ↦ 0 ] ≡ n
 place_number body n place h = go body.message h
@@ -30,7 +30,7 @@ place_number body n place h = go body.message h
     go (Fetch k level index) g = ap (λ (o : Option (ℕ × (Level × ℕ))). option_map_or (λ x. x.0) o 0) g
     go _ g = absurd cc
 
--- what was asked for last has a number that was fetched
+-- the last asked place has a number for which something was fetched
 pub asked_at_most : (past : List Entry) (n : ℕ) (place : Level × ℕ) → asked_last past ≡ Some (n, place) → n ≤ fetching past
 asked_at_most [] n place h = absurd cc
 asked_at_most (Sent p bytes ∷ past) n place h = go (said bytes) refl (asked_at_most past n place) (or_else_cases (option_and_then place_from (said bytes)) (asked_last past) (n, place) h)
@@ -49,7 +49,7 @@ asked_at_most (Executed x y z ∷ past) n place h = let least = asked_at_most pa
 asked_at_most (Installed x y z ∷ past) n place h = let least = asked_at_most past n place h in omega arith
 asked_at_most (Accepted x y z ∷ past) n place h = let least = asked_at_most past n place h in omega arith
 
--- An event that goes on for a number that nothing was fetched for takes nothing.
+-- An event that goes on for a number for which nothing was fetched takes nothing.
 pub newer_takes_nothing : (c : Configuration) (me k i : ℕ) (past : List Entry) → fetching past < k → took c me (Some k) past i ≡ took c me None past i
 unfolding took
 newer_takes_nothing c me k i [] l = refl
@@ -71,7 +71,7 @@ newer_taken c me k t past l taken i within = newer_takes_nothing c me k i past l
 
 -- ---- from one entry to the next
 
--- what was taken stays so
+-- a taken page stays taken
 pub took_stays : (c : Configuration) (me i : ℕ) (past : List Entry) (e : Entry) → place_sent e ≡ None → LeavesState e → took c me None (e ∷ past) i ≡ took c me None past i
 unfolding took
 took_stays c me i past (Sent p bytes) none leaves = Taken.outputs_tell_nothing c me p i None past bytes none
@@ -174,7 +174,7 @@ execution_ends c me n next batch past reached i l = Taken.executions_end c me me
 pub installation_ends : (c : Configuration) (me n : ℕ) (next : Option ℕ) (root : List ℕ) (past : List Entry) → NoneTaken c me next (Installed me n root ∷ past)
 installation_ends c me n next root past i l = Taken.installations_end c me me n i next root past
 
--- ---- the state that is installed
+-- ---- the installed state
 
 -- The pages that the transfer holds are those in place.
 pub held_in_place : (c : Configuration) (me : ℕ) (t : TransferData) (past : List Entry) (old : State) → AreTaken c me (Some t.number) t past

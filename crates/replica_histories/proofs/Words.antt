@@ -1,4 +1,4 @@
--- Laws of the words on a log: its marks, its primary, and what is read of it.
+-- Laws of the words on a log: its marks, its primary, and its answers.
 use Rattle.std.proofs.Common.{◌≡◌, ℕ, ◌+◌, ◌*◌, ◌%◌, ◌^◌, ◌≤◌, Bool, true, false, cond, ◌&&◌, List, refl, sym, ap, ◌∙◌, Option, Some, None, option_map, nat_lt, nat_le}
 use Rattle.std.proofs.lemmas.Bool.{le-ltb}
 use Rattle.std.proofs.lemmas.Slice.Eq.{bytes_eq-Decides}
@@ -13,7 +13,7 @@ use Rattle.replica_histories.specs.Logs.{FitsLog, Stays}
 
 -- ---- options and tests
 
--- what is given is given by a test that passes
+-- a value that a test gives passed the test
 pub passed : {A : Type 0} (b : Bool) (o : Option A) (x : A) → cond b o None ≡ Some x → (b ≡ true) × (o ≡ Some x)
 passed true o x h = (refl, h)
 passed false o x h = absurd cc
@@ -48,7 +48,7 @@ marks_same c log i e = ap (λ (n : ℕ). nat_lt log.low i && nat_le i (log.low +
 pub marks_are : (c : Configuration) (me : ℕ) (log : LogData) (past : List Entry) (i : ℕ) → FitsLog c me log past → is_in_marks c (low c me past) i ≡ logs.is_in_marks log i
 marks_are c me log past i f = ap (λ (h : ℕ). is_in_marks c h i) f.low ∙ marks_same c log i f.span
 
--- nothing up to the low mark is in them
+-- no number up to the low mark is in them
 pub below_marks : (log : LogData) (i : ℕ) → i ≤ log.low → logs.is_in_marks log i ≡ false
 below_marks log i l = rw (le-ltb log.low i l) refl
 
@@ -58,12 +58,12 @@ marks_stay old new i s = rw (s.low, s.span) refl
 pub primary_same : (c : Configuration) (log : LogData) (v : ℕ) → log.faults ≡ c.faults → logs.primary log v ≡ primary c v
 primary_same c log v e = ap (λ (n : ℕ). v % (3 * n + 1)) e
 
--- ---- what is read
+-- ---- the log's answers
 
 pub batch_read : (log : LogData) (i : ℕ) → logs.is_in_marks log i ≡ true → logs.logged_batch log i ≡ (logs.row_of log i).batch
 batch_read log i h = rw h refl
 
--- what has a digest has a batch
+-- a number with a digest has a batch
 pub record HasBatch (log : LogData) (i : ℕ) (digest : List ℕ) : Type 0 where
   pub batch : List ℕ
   pub within : logs.is_in_marks log i ≡ true

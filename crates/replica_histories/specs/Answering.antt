@@ -1,5 +1,5 @@
--- The replica that answers: it gives the parts of the snapshots that it keeps to those that fetch them, and answers
--- reads from what it has executed (Castro and Liskov, TOCS 2002, on state transfer and on read-only operations).
+-- The replica that answers: it sends parts of its kept snapshots to replicas that fetch them, and answers reads from
+-- the executed state (Castro and Liskov, TOCS 2002, on state transfer and on read-only operations).
 use Rattle.std.specs.Prelude.{◌≡◌, ℕ, true, false, List, ◌∷◌, []}
 use Rattle.tuple_codec.specs.Operations.{Operation}
 use Rattle.space.specs.Applying.{is_read_only}
@@ -11,20 +11,20 @@ use Rattle.protocol.specs.System.Frames.{IsPosted}
 use Rattle.protocol.specs.System.Trace.{Entry, Once, Has, Hears}
 use Rattle.protocol.specs.System.Trace.Entry.{Sent}
 use Rattle.protocol.specs.Replica.RightReplica.{WasAsked}
-use Rattle.protocol.specs.Replica.Owed.{Gives, GivesTo, Counts}
+use Rattle.protocol.specs.Replica.Owed.{SendsMessage, GivesTo, Counts}
 use Rattle.replica_histories.specs.Desk.{Desk, Snapshot}
 use Rattle.replica_histories.specs.TransfersAnswers.{answer_by}
 use Rattle.replica_histories.specs.Questions.{AnswersInput, read_from, read_reply}
-use Rattle.replica_histories.specs.Events.{Start, behind, Fits, Holds}
+use Rattle.replica_histories.specs.Events.{Start, after_outputs, Fits, Holds}
 
--- The part of a kept snapshot that was asked for, to whoever asked, where the event has not sent it.
+-- The requested part of a kept snapshot may go to whoever asked, if the event has not sent it.
 abbrev pub PartsFit : Type 0
 PartsFit =
     (c : Configuration) (me : ℕ) (s : Start) (desk : Desk) (log : LogData) (due : List Message) (outputs : List Entry)
     (snapshot : Snapshot) (asker index : ℕ) (level : Level) (bytes : List ℕ)
     → Has (λ x. x ≡ snapshot) desk.snapshots
-    → WasAsked c me (behind s outputs) asker snapshot.number level index
-    → (Gives me (answer_by snapshot.pages snapshot.number level index) outputs → ⊥)
+    → WasAsked c me (after_outputs s outputs) asker snapshot.number level index
+    → (SendsMessage me (answer_by snapshot.pages snapshot.number level index) outputs → ⊥)
     → IsPosted c me (answer_by snapshot.pages snapshot.number level index) (asker ∷ []) bytes
     → Fits c me s desk log due outputs → Fits c me s desk log due (Sent me bytes ∷ outputs)
 
@@ -35,8 +35,8 @@ KeptFetchesCount =
     (level : Level) (held : Holds c me desk log past)
     → Has (λ x. x.number ≡ k) desk.snapshots → Counts c me past held.of_desk.point bytes asker (Fetch k level index)
 
--- Where the snapshot's part is given, nothing more is owed to the fetch; and nothing at all where no snapshot has the
--- number.
+-- If the replica sends the snapshot's part, it owes nothing more to the fetch. If no snapshot has the number, it owes
+-- nothing.
 abbrev pub PartsSuffice : Type 0
 PartsSuffice =
     (c : Configuration) (me : ℕ) (desk : Desk) (log : LogData) (past : List Entry) (input : Entry)
@@ -55,23 +55,23 @@ OtherNumbersOweNone =
     → (Has (λ x. x.number ≡ k) desk.snapshots → ⊥)
     → AnswersInput c me past input outputs held.of_desk.point executed
 
--- The reply to a read that was heard, from the executed state, where the event has not sent it.
+-- The reply to an authentic read, from the executed state, may go, if the event has not sent it.
 abbrev pub ReadsFit : Type 0
 ReadsFit =
     (c : Configuration) (me : ℕ) (s : Start) (desk : Desk) (log : LogData) (due : List Message) (outputs : List Entry)
     (client timestamp : ℕ) (op : Operation) (bytes : List ℕ)
-    → Once (Hears c me (read_from client timestamp op)) (behind s outputs) → is_read_only op ≡ true
-    → (Gives me (read_reply desk.state client timestamp op) outputs → ⊥)
+    → Once (Hears c me (read_from client timestamp op)) (after_outputs s outputs) → is_read_only op ≡ true
+    → (SendsMessage me (read_reply desk.state client timestamp op) outputs → ⊥)
     → IsPosted c me (read_reply desk.state client timestamp op) (client ∷ []) bytes
     → Fits c me s desk log due outputs → Fits c me s desk log due (Sent me bytes ∷ outputs)
 
--- Where it is given, nothing more is owed to the read; and nothing at all to an operation that is no read.
+-- If the replica sends it, it owes nothing more to the read. It owes nothing to an operation that is no read.
 abbrev pub ReadsSuffice : Type 0
 ReadsSuffice =
     (c : Configuration) (me : ℕ) (desk : Desk) (log : LogData) (past : List Entry) (input : Entry)
     (outputs : List Entry) (client timestamp executed : ℕ) (op : Operation) (held : Holds c me desk log past)
     → Hears c me (read_from client timestamp op) past input
-    → Gives me (read_reply desk.state client timestamp op) outputs
+    → SendsMessage me (read_reply desk.state client timestamp op) outputs
     → AnswersInput c me past input outputs held.of_desk.point executed
 
 abbrev pub OtherOperationsOweNone : Type 0

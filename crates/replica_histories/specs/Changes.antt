@@ -1,5 +1,4 @@
--- What a replica holds for changes of its view, and how entries change it (Castro and Liskov, TOCS 2002, on view
--- changes).
+-- A replica's view-change data, and how entries change them (Castro and Liskov, TOCS 2002, on view changes).
 use Rattle.std.specs.Prelude.{◌≡◌, ◌≢◌, ℕ, suc, ◌+◌, ◌≤◌, ◌<◌, ◌⊎◌, true, false, List, [], ◌∷◌, length, replicate, if◌then◌else◌, Option, Some, None, ⊤}
 use Rattle.std.specs.Option.{ForSome}
 use Rattle.wire.specs.Messages.{BodyData as Body, MessageData as Message, BatchEntryData as Claim, ViewChangeData, NewViewData, CheckpointEntryData as CheckpointEntry, pre_prepare as PrePrepare, commit as Commit, checkpoint as Checkpoint, view_change as ViewChange, new_view as NewView}
@@ -22,14 +21,15 @@ use Rattle.view_change.specs.Recording.{with_prepared, with_logged, with_all, ab
 use Rattle.view_change.specs.ReceivedData.{HeldData, held_of, refusal_of, with_held}
 use Rattle.replica_histories.specs.Desk.{Desk}
 use Rattle.replica_histories.specs.Logs.{FitsLog}
-use Rattle.replica_histories.specs.Events.{Start, behind, Fits, Holds, start_at}
+use Rattle.replica_histories.specs.Events.{Start, after_outputs, Fits, Holds, start_at}
 use Rattle.replica_histories.specs.Claims.{FitsClaims}
 use Rattle.replica_histories.specs.Received.{FitsReceived}
 use Rattle.replica_histories.specs.Views.{begun_log}
 
--- the greatest view that a view change was sent for; the number up to which the new view of the own view has batches,
--- 0 if there is none; the frame of that new view, where it is the replica's own; what it claims; the view changes that
--- it has, one place for each replica; the last checkpoint that it sent; and how many leaves have signed
+-- target: the greatest view that the replica sent a view change for. begun: the greatest number that the current view's
+-- new view assigned, 0 if there is none. new_view: the frame of that new view, if the replica made it. claims: the sets
+-- P and Q. held: the stored view changes, one place for each replica. Then the last checkpoint that the replica sent,
+-- and the number of leaves that have signed.
 pub record Changes : Type 0 where
   pub target : ℕ
   pub begun : ℕ
@@ -52,26 +52,27 @@ first_changes c = record {
 
 -- ---- leaves
 
--- each frame that was sent by a leaf has one below the number
+-- each leaf that signed a sent frame is below the number
 abbrev pub AreLeavesBelow : ℕ → List Entry → Type 0
 AreLeavesBelow spent history =
     (sent : List ℕ) (leaf : ℕ) → leaf_of sent ≡ Some leaf → SentBefore sent history → leaf < spent
 
--- and each leaf below the number has signed a frame that was sent
+-- and each leaf below the number signed a sent frame
 abbrev pub AreLeavesSent : ℕ → List Entry → Type 0
 AreLeavesSent spent history =
     (leaf : ℕ) → leaf < spent → (sent : List ℕ) × (leaf_of sent ≡ Some leaf) × SentBefore sent history
 
--- So many are spent after the entry: no fewer than before, more than the leaf of what it sends, and no other.
+-- The number of spent leaves after the entry: it does not fall, it is above the leaf of each frame that the entry
+-- sends, and every new leaf signed such a frame.
 abbrev pub SpendsLeaves : ℕ → ℕ → List Entry → Entry → Type 0
 SpendsLeaves old new past e =
     (old ≤ new) × ((sent : List ℕ) (leaf : ℕ) → leaf_of sent ≡ Some leaf → SendsBytes sent past e → leaf < new)
     × ((leaf : ℕ) → leaf < new
     → (leaf < old) ⊎ ((sent : List ℕ) × (leaf_of sent ≡ Some leaf) × SendsBytes sent past e))
 
--- ---- what fits
+-- ---- data that fit
 
--- the own view change is held, was sent in its frame, and is for the target
+-- the replica's own view change is stored, was sent in its frame, and is for the target
 pub record HasOwnChange (c : Configuration) (me : ℕ) (x : Changes) (history : List Entry) : Type 0 where
   pub own : HeldData
   pub held : held_of x.held me ≡ Some own
@@ -79,7 +80,7 @@ pub record HasOwnChange (c : Configuration) (me : ℕ) (x : Changes) (history : 
   pub sent : SentBefore own.frame history
   pub posted : IsPosted c me (ViewChange own.change) [] own.frame
 
--- the frame of the own new view of the view was sent
+-- the replica sent this frame of its own new view of the view
 pub record IsOwnView (c : Configuration) (me v : ℕ) (history : List Entry) (frame : List ℕ) : Type 0 where
   pub new : NewViewData
   pub view : new.view ≡ v
@@ -93,10 +94,9 @@ IsBegunUpTo c v i history =
     (new : NewViewData) × Once (λ past e. taken c past e ≡ Some new) history × (new.view ≡ v)
     × (i ≡ new.start + length new.batches)
 
--- What is held is what the history says: the target; the claims; the view changes of others; how far the new view of
--- the log's view goes; where the replica is active no more, its own view change, which is never for a view above the
--- target; its own new view, by which it began the view as its primary; its latest checkpoint; and how many leaves are
--- spent.
+-- The data are those of the history: the target; the claims; the view changes of others; how far the new view of the
+-- log's view goes; the latest checkpoint; and the number of spent leaves. An inactive replica has its own view change,
+-- which is never for a view above the target. The primary of a view that a new view began has that new view.
 pub record FitsChanges (c : Configuration) (me : ℕ) (log : LogData) (x : Changes) (history : List Entry) : Type 0 where
   pub target : target history ≡ x.target
   pub claims : FitsClaims c me history x.claims
@@ -115,7 +115,7 @@ pub record FitsChanges (c : Configuration) (me : ℕ) (log : LogData) (x : Chang
 
 -- ---- one entry more
 
--- The logs fit the histories before the entry and behind it, and the replica came to both.
+-- The logs fit the histories before and after the entry, and the replica came to both.
 pub record Passes (c : Configuration) (me : ℕ) (past : List Entry) (e : Entry) (log after : LogData) : Type 0 where
   pub old : Point
   pub new : Point
@@ -124,13 +124,13 @@ pub record Passes (c : Configuration) (me : ℕ) (past : List Entry) (e : Entry)
   pub fits : FitsLog c me log past
   pub fits_behind : FitsLog c me after (e ∷ past)
 
--- So it is at each output of an event, and at its input.
+-- The same at each output of an event, and at its input.
 abbrev pub OutputsPass : Type 0
 OutputsPass =
     (c : Configuration) (me : ℕ) (s : Start) (desk later : Desk) (log after : LogData) (due rest : List Message)
     (outputs : List Entry) (e : Entry)
     → Fits c me s desk log due outputs → Fits c me s later after rest (e ∷ outputs)
-    → Passes c me (behind s outputs) e log after
+    → Passes c me (after_outputs s outputs) e log after
 
 abbrev pub InputsEnter : Type 0
 InputsEnter =
@@ -138,15 +138,15 @@ InputsEnter =
     (input : Entry) (held : Holds c me desk log past)
     → Fits c me (start_at c me desk log past held input) later after due [] → Passes c me past input log after
 
--- the log is in the same view, and as active
+-- the log is in the same view, and active or inactive as before
 pub record IsSameView (old new : LogData) : Type 0 where
   pub view : new.view ≡ old.view
   pub active : new.active ≡ old.active
 
--- ---- entries that bring nothing about
+-- ---- entries that change nothing
 
--- It takes no view and sends no later view change, logs nothing, is no new own commit, and brings no view change of
--- others that is newer. A signed frame goes again.
+-- The entry takes no view, sends no later view change, logs nothing, and is no new own commit. It brings no newer view
+-- change of others. A signed frame that it sends was sent before.
 pub record KeepsViews (c : Configuration) (me : ℕ) (past : List Entry) (e : Entry) : Type 0 where
   pub none : taken c past e ≡ None
   pub target : target (e ∷ past) ≡ target past
@@ -155,12 +155,12 @@ pub record KeepsViews (c : Configuration) (me : ℕ) (past : List Entry) (e : En
   pub changes : (s : ℕ) → s ≢ me → latest_change c (e ∷ past) s ≡ latest_change c past s
   pub leaves : (sent : List ℕ) (leaf : ℕ) → leaf_of sent ≡ Some leaf → SendsBytes sent past e → SentBefore sent past
 
--- And the own latest checkpoint stays.
+-- And the replica's latest checkpoint stays.
 pub record KeepsChanges (c : Configuration) (me : ℕ) (past : List Entry) (e : Entry) : Type 0 where
   pub views : KeepsViews c me past e
   pub checkpoint : latest_checkpoint c me (e ∷ past) ≡ latest_checkpoint c me past
 
--- what is said brings nothing about that it hadn't before
+-- a sent message says nothing new for view changes
 abbrev pub IsNoNews : Configuration → ℕ → List Entry → Message → Type 0
 IsNoNews c me past message = elim message [
   | PrePrepare v i batch ↦ (text : List ℕ) × (logged c me past v i ≡ Some text)
@@ -178,14 +178,14 @@ SentKeep =
     → (is_signed message ≡ true → SentBefore bytes past)
     → KeepsChanges c me past (Sent me bytes)
 
--- an execution, an installation and time that goes by
+-- an execution, an installation or a tick
 abbrev pub IsSilent : Entry → Type 0
 IsSilent e = elim e [ Executed p k batch ↦ ⊤ | Installed p k root ↦ ⊤ | Tick p ↦ ⊤ | _ ↦ ⊥ ]
 
 abbrev pub SilentKeep : Type 0
 SilentKeep = (c : Configuration) (me : ℕ) (past : List Entry) (e : Entry) → IsSilent e → KeepsChanges c me past e
 
--- Bytes that are got, of which the log takes no batch, and which bring no view change.
+-- Received bytes keep the data if the log takes no batch of them and they bring no view change.
 abbrev pub GotKeep : Type 0
 GotKeep =
     (c : Configuration) (me : ℕ) (past : List Entry) (bytes : List ℕ) (log after : LogData)
@@ -194,7 +194,7 @@ GotKeep =
     → ((s : ℕ) → s ≢ me → latest_change c (Got me bytes ∷ past) s ≡ latest_change c past s)
     → KeepsChanges c me past (Got me bytes)
 
--- So do bytes that are heard as no pre-prepare, wherever the marks move.
+-- The same of received bytes that are no pre-prepare, wherever the marks move.
 abbrev pub IsNoBatch : Option Body → Type 0
 IsNoBatch None = ⊤
 IsNoBatch (Some body) = elim body.message [ PrePrepare v i batch ↦ ⊥ | _ ↦ ⊤ ]
@@ -206,7 +206,7 @@ HeardKeep =
     → ((s : ℕ) → s ≢ me → latest_change c (Got me bytes ∷ past) s ≡ latest_change c past s)
     → KeepsChanges c me past (Got me bytes)
 
--- What is heard as no view change brings none.
+-- Bytes that are no view change bring none.
 abbrev pub IsNoChange : Option Body → Type 0
 IsNoChange None = ⊤
 IsNoChange (Some body) = elim body.message [ ViewChange vc ↦ ⊥ | _ ↦ ⊤ ]
@@ -217,7 +217,7 @@ OthersBringNone =
     → IsNoChange (heard (members c) me bytes) → s ≢ me
     → latest_change c (Got me bytes ∷ past) s ≡ latest_change c past s
 
--- A view change that is heard is signed by its sender, who is another replica; and so is one of the own.
+-- The sender of a received view change signed it, and is another replica. The replica signs its own ones.
 abbrev pub HeardAreSigned : Type 0
 HeardAreSigned =
     (c : Configuration) (me s : ℕ) (vc : ViewChangeData) (bytes : List ℕ)
@@ -231,13 +231,13 @@ OwnAreSigned =
 
 -- ---- claims
 
--- those above the low mark
+-- the claims above the low mark
 pub record CutsClaims (low : ℕ) (old new : ClaimsData) : Type 0 where
   pub prepared : new.prepared ≡ above_mark low old.prepared
   pub logged : new.logged ≡ above_mark low old.logged
   pub texts : Each (IsAmong old.texts) new.texts
 
--- one more batch that is logged
+-- one more logged batch
 pub record AddsLogged (number view : ℕ) (text : List ℕ) (old new : ClaimsData) : Type 0 where
   pub prepared : new.prepared ≡ old.prepared
   pub logged : new.logged ≡ with_logged (claim_of number view text) old.logged
@@ -256,20 +256,20 @@ texts_from log i [] = []
 texts_from log i (batch ∷ batches) =
     if logs.is_in_marks log i then batch ∷ texts_from log (suc i) batches else texts_from log (suc i) batches
 
--- with these batches
+-- the claims with these batches
 pub record AddsBatches (log : LogData) (view first : ℕ) (batches : List (List ℕ)) (old new : ClaimsData) : Type 0 where
   pub prepared : new.prepared ≡ old.prepared
   pub logged : new.logged ≡ with_all with_logged (claims_from log view first batches) old.logged
   pub texts : Each (λ text. IsAmong old.texts text ⊎ IsAmong (texts_from log first batches) text) new.texts
 
--- where a new view begins: those above the low mark then, with its batches
+-- the claims when a new view begins: those above the new low mark, and its batches
 pub record BeginsClaims (log : LogData) (new : NewViewData) (old after : ClaimsData) : Type 0 where
   pub mid : ClaimsData
   pub cuts : CutsClaims (logs.cut_to (logs.entered log new.view) new.start).low old mid
   pub adds : AddsBatches (logs.cut_to (logs.entered log new.view) new.start) new.view (suc new.start) new.batches mid
       after
 
--- Claims that fit are all above the low mark.
+-- All claims that fit are above the low mark.
 abbrev pub ClaimsAreAbove : Type 0
 ClaimsAreAbove =
     (c : Configuration) (me : ℕ) (log : LogData) (history : List Entry) (claims : ClaimsData)
@@ -281,7 +281,7 @@ abbrev pub ChangesBegin : Type 0
 ChangesBegin =
     (c : Configuration) (me : ℕ) → FitsChanges c me (logs.new_log me c.faults (span c)) (first_changes c) []
 
--- What brings nothing about leaves all as it is; where the low mark moves, the claims up to it go.
+-- An entry that changes nothing leaves the data. If the low mark moves, the claims up to it are dropped.
 abbrev pub ChangesStay : Type 0
 ChangesStay =
     (c : Configuration) (me : ℕ) (past : List Entry) (e : Entry) (log after : LogData) (x : Changes)
@@ -290,7 +290,7 @@ ChangesStay =
     → CutsClaims after.low x.claims claims → FitsChanges c me log x past
     → FitsChanges c me after (record x { claims = claims }) (e ∷ past)
 
--- An own checkpoint that is sent, and is the latest then, is noted.
+-- If the replica sends a checkpoint that is its latest then, the data note it.
 abbrev pub CheckpointsAreNoted : Type 0
 CheckpointsAreNoted =
     (c : Configuration) (me : ℕ) (past : List Entry) (log after : LogData) (x : Changes) (claims : ClaimsData)
@@ -301,7 +301,7 @@ CheckpointsAreNoted =
     → CutsClaims after.low x.claims claims → FitsChanges c me log x past
     → FitsChanges c me after (record x { claims = claims; last_checkpoint = Some entry }) (Sent me bytes ∷ past)
 
--- The checkpoint of the executed state is the latest once it is sent.
+-- The checkpoint of the executed state is the latest once the replica sends it.
 abbrev pub CheckpointsAreLatest : Type 0
 CheckpointsAreLatest =
     (c : Configuration) (me : ℕ) (past : List Entry) (point : Point) (entry : CheckpointEntry) (bytes : List ℕ)
@@ -324,7 +324,7 @@ CommitsAreClaimed =
       };
     }) (Sent me bytes ∷ past)
 
--- A pre-prepare that is sent or taken is claimed.
+-- The batch of a sent or taken pre-prepare is claimed.
 abbrev pub BatchesAreClaimed : Type 0
 BatchesAreClaimed =
     (c : Configuration) (me : ℕ) (past : List Entry) (e : Entry) (log : LogData) (x : Changes) (claims : ClaimsData)
@@ -335,7 +335,7 @@ BatchesAreClaimed =
     → AddsLogged i log.view text x.claims claims → FitsChanges c me log x past
     → FitsChanges c me (logs.with_batch log i text) (record x { claims = claims }) (e ∷ past)
 
--- The own view change is held once it is sent.
+-- The replica stores its own view change once it sends it.
 abbrev pub ChangesAreSent : Type 0
 ChangesAreSent =
     (c : Configuration) (me spent : ℕ) (past : List Entry) (log : LogData) (x : Changes) (own : HeldData)
@@ -345,7 +345,7 @@ ChangesAreSent =
     → FitsChanges c me (logs.left log)
     (record x { target = own.change.view; held = with_held own x.held; spent = spent }) (Sent me own.frame ∷ past)
 
--- So is another's that is taken.
+-- It stores another's view change that it takes.
 abbrev pub ChangesAreTaken : Type 0
 ChangesAreTaken =
     (c : Configuration) (me : ℕ) (past : List Entry) (log : LogData) (x : Changes) (s : ℕ) (vc : ViewChangeData)
@@ -357,13 +357,13 @@ ChangesAreTaken =
       held = with_held (record { sender = s; change = vc; frame = bytes }) x.held;
     }) (Got me bytes ∷ past)
 
--- the frame of the new view, where it is the replica's own; else the view is another primary's
+-- the frame of the new view, if the replica made it; else the view is another primary's
 abbrev pub IsOwnFrame : Configuration → ℕ → Entry → NewViewData → Option (List ℕ) → Type 0
 IsOwnFrame c me e new None = primary c new.view ≢ me
 IsOwnFrame c me e new (Some frame) =
     (e ≡ Sent me frame) × (primary c new.view ≡ me) × IsPosted c me (NewView new) [] frame
 
--- A new view that is taken or sent begins its view.
+-- A new view that the replica takes or sends begins its view.
 abbrev pub ViewsAreBegun : Type 0
 ViewsAreBegun =
     (c : Configuration) (me : ℕ) (past : List Entry) (e : Entry) (log : LogData) (x : Changes) (new : NewViewData)
@@ -375,7 +375,7 @@ ViewsAreBegun =
     → FitsChanges c me (begun_log log new)
     (record x { begun = new.start + length new.batches; new_view = frame; claims = claims; spent = spent }) (e ∷ past)
 
--- Where 64 leaves are spent, the keys are.
+-- If 64 leaves are spent, the keys are spent.
 abbrev pub AllAreSpent : Type 0
 AllAreSpent =
     (c : Configuration) (me : ℕ) (log : LogData) (x : Changes) (history : List Entry) → x.spent ≡ 64

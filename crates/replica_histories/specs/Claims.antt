@@ -1,6 +1,6 @@
--- What a replica keeps for its view changes, in the history's words: what it logged, and what it committed. Whoever has
--- no commit left to say has committed what is prepared (Castro and Liskov, TOCS 2002, on the sets P and Q of view
--- changes).
+-- What a replica keeps for its view changes, in the history's words: the batches that it logged, and those that it
+-- committed. A replica that has no commit left to send has committed each prepared batch (Castro and Liskov, TOCS 2002,
+-- on the sets P and Q of view changes).
 use Rattle.std.specs.Prelude.{◌≡◌, ◌≢◌, ℕ, ◌⊎◌, true, List, [], ◌∷◌, Some, None}
 use Rattle.wire.specs.Messages.{BatchEntryData as Claim}
 use Rattle.wire.specs.Words.{requests_of}
@@ -15,7 +15,7 @@ use Rattle.view_change.specs.ClaimsView.{ClaimsData, no_claims, claim_of}
 use Rattle.view_change.specs.Recording.{with_prepared, with_logged, with_all, above_mark, IsLoggedAs, Adds, IsLatest, RecordsLogged}
 use Rattle.replica_histories.specs.Logs.{FitsLog}
 
--- the own commit in the view, at the number, is of this digest
+-- the replica's own commit in the view, at the number, is of this digest
 abbrev pub SaidCommit : Configuration → ℕ → List Entry → ℕ → ℕ → List ℕ → Type 0
 SaidCommit c me history v i digest = commit_of c me history v i me ≡ Some digest
 
@@ -23,25 +23,25 @@ SaidCommit c me history v i digest = commit_of c me history v i me ≡ Some dige
 abbrev pub WasLogged : Configuration → ℕ → List Entry → List ℕ → Type 0
 WasLogged c me history text = (v : ℕ) × (i : ℕ) × (logged c me history v i ≡ Some text)
 
--- Of each number within the marks the latest own commit is claimed, and each batch that was logged, with its latest
--- view; and the texts that are held were logged.
+-- For each number within the marks the claims have the latest own commit, and each logged batch with its latest view.
+-- The stored texts were logged.
 pub record FitsClaims (c : Configuration) (me : ℕ) (history : List Entry) (claims : ClaimsData) : Type 0 where
   pub prepared : IsLatest (SaidCommit c me history) (is_in_marks c (low c me history)) claims.prepared
   pub logged : RecordsLogged c me history claims.logged
   pub texts : Each (WasLogged c me history) claims.texts
 
--- Claims that an entry leaves: those above the low mark behind it, with what it adds, in order.
+-- The claims after an entry: those above the low mark after it, with the entry's own claims, in order.
 pub record Grows (claims after : ClaimsData) (low : ℕ) (commits batches : List Claim) : Type 0 where
   pub prepared : after.prepared ≡ with_all with_prepared commits (above_mark low claims.prepared)
   pub logged : after.logged ≡ with_all with_logged batches (above_mark low claims.logged)
 
 -- ---- laws
 
--- Before any entry nothing is claimed.
+-- Before any entry there are no claims.
 abbrev pub ClaimsBegin : Type 0
 ClaimsBegin = (c : Configuration) (me : ℕ) → FitsClaims c me [] no_claims
 
--- An entry adds the own commits and the batches that it brings within the marks behind it, and may add their texts.
+-- An entry adds its own commits and batches within the marks after it, and may add their texts.
 abbrev pub ClaimsGrow : Type 0
 ClaimsGrow =
     (c : Configuration) (me : ℕ) (log : LogData) (past : List Entry) (e : Entry) (old new : Point)
@@ -54,7 +54,7 @@ ClaimsGrow =
     → Has (λ x. x ≡ text) claims.texts ⊎ WasLogged c me (e ∷ past) text)
     → FitsClaims c me past claims → FitsClaims c me (e ∷ past) after
 
--- Where the log asks for no commit, the claims are the lists of a view change.
+-- If the log asks for no commit, the claims are the lists of a view change.
 abbrev pub ClaimsAreLists : Type 0
 ClaimsAreLists =
     (c : Configuration) (me : ℕ) (log : LogData) (history : List Entry) (point : Point) (claims : ClaimsData)
@@ -64,7 +64,7 @@ ClaimsAreLists =
 
 -- ---- what an entry adds
 
--- One that logs nothing, and one that is no own commit, add nothing.
+-- An entry that logs nothing adds no batch, and one that is no own commit adds no commit.
 abbrev pub NoBatchAdds : Type 0
 NoBatchAdds =
     (c : Configuration) (me : ℕ) (past : List Entry) (e : Entry)
@@ -77,7 +77,7 @@ NoCommitAdds =
     → ((v i : ℕ) → commit_of c me (e ∷ past) v i me ≡ commit_of c me past v i me)
     → Adds (SaidCommit c me past) (SaidCommit c me (e ∷ past)) (is_in_marks c (low c me (e ∷ past))) []
 
--- One batch adds its claim, and so does one own commit.
+-- An entry with one batch adds its claim, and so does one with an own commit.
 abbrev pub BatchAdds : Type 0
 BatchAdds =
     (c : Configuration) (me : ℕ) (past : List Entry) (e : Entry) (v i : ℕ) (text : List ℕ)
@@ -94,7 +94,7 @@ CommitAdds =
     → Adds (SaidCommit c me past) (SaidCommit c me (e ∷ past)) (is_in_marks c (low c me (e ∷ past)))
     (record { number = i; digest = digest; view = v } ∷ [])
 
--- The requests of a batch that was logged were seen, in the message that brought it.
+-- The requests of a logged batch were seen, in the message that brought it.
 abbrev pub LoggedAreSeen : Type 0
 LoggedAreSeen =
     (c : Configuration) (me v i : ℕ) (text : List ℕ) (history : List Entry) → logged c me history v i ≡ Some text

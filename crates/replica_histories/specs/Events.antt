@@ -1,4 +1,4 @@
--- How what a replica holds meets its history: in the midst of an event, and between two.
+-- How a replica's desk and log fit its history: within an event, and between two.
 use Rattle.std.specs.Prelude.{◌≡◌, ℕ, suc, ◌%◌, ◌+◌, ◌≤◌, ◌<◌, ◌⊎◌, Bool, true, false, List, [], ◌∷◌, ◌++◌, Some, None, is_some, ⊤, map}
 use Rattle.tuple_codec.specs.Operations.{Operation}
 use Rattle.terms.specs.declared.order.Mode.TheVariants as modes
@@ -22,19 +22,19 @@ use Rattle.replica_histories.specs.Logs.{FitsLog}
 use Rattle.replica_histories.specs.Transfers.{FitsOpen}
 use Rattle.replica_histories.specs.Questions.{AnswersInput}
 use Rattle.replica_histories.specs.TransfersQuorums.{QuorumsFetched, FetchesQuorums}
-pub use Rattle.replica_histories.specs.Running.{Start, behind, Steps, AtEach, IsOnItsWay}
+pub use Rattle.replica_histories.specs.Running.{Start, after_outputs, Steps, AtEach, IsOnItsWay}
 
 -- ---- an event
 
--- the input is a request that was answered so before
+-- the input is a request to which this reply was sent before
 abbrev pub IsAsked : Configuration → ℕ → Start → ℕ → Kept → Type 0
 IsAsked c me s k kept =
     (timestamp : ℕ) × (op : Operation)
     × Hears c me (record { sender = 256 + k; message = Request timestamp modes.Ordered op }) s.before s.input
     × (kept_of s.old.state k ≡ Some kept) × (kept.timestamp ≡ timestamp)
 
--- What is due may be said. It is a reply to what ran in the event, or the kept reply to the event's input. Or it is a
--- checkpoint of a state that was executed, or a fetch of a state that may be installed.
+-- A due message may be sent. It is a reply to a request that ran in the event, or the kept reply to the event's input.
+-- Or it is a checkpoint of an executed state, or a fetch of a state that may be installed.
 abbrev pub MaySayDue : Configuration → ℕ → List Entry → Point → Message → Type 0
 MaySayDue c me past point (Reply client timestamp modes.Ordered number answer) =
     MayReplyOrdered c me past point client timestamp number answer
@@ -42,17 +42,17 @@ MaySayDue c me past point (Checkpoint k root) = MayCheckpoint c past point k roo
 MaySayDue c me past point (Fetch k level index) = (root : List ℕ) × MayInstall c past point k root
 MaySayDue c me past point _ = ⊥
 
--- a fetch
+-- a message is a fetch
 abbrev pub is_fetching : Message → Bool
 is_fetching message = elim message [ Fetch k level index ↦ true | _ ↦ false ]
 
--- Each message that is due, but a fetch, is due once and was not sent in the event.
+-- Each due message, except a fetch, is due once and was not sent in the event.
 abbrev pub AreUnsaid : ℕ → List Message → List Entry → Type 0
 AreUnsaid me [] outputs = ⊤
 AreUnsaid me (message ∷ due) outputs =
     (is_fetching message ≡ false → IsOnItsWay me due outputs message → ⊥) × AreUnsaid me due outputs
 
--- The event says nothing twice. Its replies, sent or due, are no newer than their clients' last timestamps; those to
+-- The event sends nothing twice. Its replies, sent or due, are no newer than their clients' last timestamps. Replies to
 -- requests that run next are newer.
 pub record SaysOnce (me : ℕ) (s : Start) (st : State) (due : List Message) (outputs : List Entry) : Type 0 where
   pub begins : is_output s.input ≡ false
@@ -64,7 +64,7 @@ abbrev pub IsAskedOpen : Start → ℕ → Level → ℕ → Type 0
 IsAskedOpen s k level index =
     IsTick s.input × (asked_last s.before ≡ Some (k, (level, index))) × (s.old.state.number < k)
 
--- each frame that is held was seen and is genuine
+-- each stored frame was seen and is authentic
 abbrev pub FitsFrames : Configuration → ℕ → Desk → List Entry → Type 0
 FitsFrames c me desk history =
     (frame : List ℕ) → Has (λ x. x ≡ frame) desk.frames
@@ -74,52 +74,53 @@ FitsFrames c me desk history =
 abbrev pub FitsSnapshots : Configuration → ℕ → Desk → List State → List Entry → Type 0
 FitsSnapshots c me desk states history = map snapshot_of (kept_states (low c me history) states) ≡ desk.snapshots
 
--- The desk fits the history behind the outputs: the points lead there, the open transfer has what was got, and what the
--- event owes so far was sent, or is among the messages that are due.
+-- The desk fits the history after the outputs. The points lead there, the open transfer has the parts that were
+-- received, and what the event owes was sent or is due.
 pub record FitsDesk (c : Configuration) (me : ℕ) (s : Start) (desk : Desk) (due : List Message)
     (outputs : List Entry) : Type 0 where
   pub states : List State
   pub ran : List Ran
   pub leaves : Leaves c me s.before s.old
   pub steps : Steps c me s outputs (point_of desk states ran)
-  pub kept : FitsSnapshots c me desk states (behind s outputs)
-  pub frames : FitsFrames c me desk (behind s outputs)
+  pub kept : FitsSnapshots c me desk states (after_outputs s outputs)
+  pub frames : FitsFrames c me desk (after_outputs s outputs)
   pub replies : (r : Ran) → Has (λ x. x ≡ r) ran → IsOnItsWay me due outputs (reply_of r.call.client r.kept)
   pub asked : (k : ℕ) (kept : Kept) → IsAsked c me s k kept → IsOnItsWay me due outputs (reply_of k kept)
   pub checkpoints : (k : ℕ) → Has (λ e. Executes k [] e) outputs → k % c.period ≡ 0
       → Has (λ st. (st.number ≡ k) × IsOnItsWay me due outputs (Checkpoint k (root_of st))) states
-  pub opened : FitsOpen c me desk.transfer desk.state.number (behind s outputs)
+  pub opened : FitsOpen c me desk.transfer desk.state.number (after_outputs s outputs)
   pub fetches : FetchesQuorums c me s desk.state.number due outputs
   pub fetch_again : (k index : ℕ) (level : Level) → IsAskedOpen s k level index
       → IsOnItsWay me due outputs (Fetch k level index)
   pub rightly : (message : Message) → Has (λ x. x ≡ message) due
-      → MaySayDue c me (behind s outputs) (point_of desk states ran) message
+      → MaySayDue c me (after_outputs s outputs) (point_of desk states ran) message
 
--- a state of this number, or of a greater one, was fetched, or its root is to be fetched
+-- a state of this number, or of a greater one, was fetched, or the fetch of its root is due
 abbrev pub IsFetched : ℕ → List Message → List Entry → Type 0
 IsFetched k due history = (k ≤ fetching history) ⊎ Has (λ x. x ≡ Fetch k levels.Root 0) due
 
--- The low mark is not above the executed number; or a state there is fetched, as where a new view starts above it, and
--- no batch is committed for the next number, which the log can't have.
+-- The low mark is not above the executed number. Or a state there is being fetched, as when a new view starts above it.
+-- Then no batch is committed for the next number, which the log can't have.
 abbrev pub IsReached : Configuration → ℕ → ℕ → ℕ → List Message → List Entry → Type 0
 IsReached c me mark number due history =
     (mark ≤ number)
     ⊎ (IsFetched mark due history
     × ((v : ℕ) (batch : List ℕ) → Committed c me history v (suc number) batch → ⊥))
 
--- Desk and log fit the history behind the outputs, each on its own, the low mark is reached, no request was numbered
--- twice, and nothing is said twice.
+-- Desk and log fit the history after the outputs, each on its own. The low mark is reached, no request was numbered
+-- twice, and nothing is sent twice.
 pub record Fits (c : Configuration) (me : ℕ) (s : Start) (desk : Desk) (log : LogData) (due : List Message)
     (outputs : List Entry) : Type 0 where
   pub of_desk : FitsDesk c me s desk due outputs
-  pub of_log : FitsLog c me log (behind s outputs)
-  pub low : IsReached c me log.low desk.state.number due (behind s outputs)
+  pub of_log : FitsLog c me log (after_outputs s outputs)
+  pub low : IsReached c me log.low desk.state.number due (after_outputs s outputs)
   pub once : AtEach (NumbersOnce c me) s outputs
   pub says : SaysOnce me s desk.state due outputs
 
--- ---- nothing is left owed
+-- ---- the replica owes nothing more
 
--- The log asks for no vote and has no batch to execute, and a primary has numbered all that waits, or has no number.
+-- The log asks for no vote and has no batch to execute. A primary has assigned numbers to all waiting requests, or has
+-- no number.
 pub record IsSettled (c : Configuration) (me : ℕ) (desk : Desk) (log : LogData) (history : List Entry) : Type 0 where
   pub prepares : (i : ℕ) → logs.due_prepare log i ≡ None
   pub commits : (i : ℕ) → logs.due_commit log i ≡ None
@@ -128,7 +129,7 @@ pub record IsSettled (c : Configuration) (me : ℕ) (desk : Desk) (log : LogData
       → Has (λ x. x ≡ call) desk.waiting
       → IsFree c me history desk.state.number log.view i → IsNumbered c me history log.view call.client call.timestamp
 
--- no new view is left that the replica could send, unless its keys are spent
+-- the replica has no new view left to send, unless its keys are spent
 abbrev pub LeavesNoView : Configuration → ℕ → List Entry → Type 0
 LeavesNoView c me history = (new : NewViewData) → CanBeginView c me history new → AreKeysSpent history
 
@@ -143,8 +144,8 @@ IsTaken c me s = elim s.input [
 
 -- ---- between events
 
--- The desk holds of a history that is a correct replica's so far: its transfer has what was got, and each quorum of
--- checkpoints above the executed number was fetched.
+-- The desk fits a correct replica's history at the end of an event: its transfer has the parts that were received, and
+-- the state of each quorum of checkpoints above the executed number was fetched.
 pub record HoldsDesk (c : Configuration) (me : ℕ) (desk : Desk) (history : List Entry) : Type 0 where
   pub point : Point
   pub proceeds : Proceeds c me history [] point point
@@ -154,27 +155,27 @@ pub record HoldsDesk (c : Configuration) (me : ℕ) (desk : Desk) (history : Lis
   pub opened : FitsOpen c me desk.transfer desk.state.number history
   pub fetches : QuorumsFetched c desk.state.number history
 
--- The log holds of the same history, and asks for no vote. It knows of no point and no state.
+-- The log fits the same history, and asks for no vote. It knows no point and no state.
 pub record HoldsLog (c : Configuration) (me : ℕ) (log : LogData) (history : List Entry) : Type 0 where
   pub fits : FitsLog c me log history
   pub prepares : (i : ℕ) → logs.due_prepare log i ≡ None
   pub commits : (i : ℕ) → logs.due_commit log i ≡ None
 
--- Desk and log hold of one history, and the low mark is reached.
+-- Desk and log fit one history, and the low mark is reached.
 pub record Holds (c : Configuration) (me : ℕ) (desk : Desk) (log : LogData) (history : List Entry) : Type 0 where
   pub of_desk : HoldsDesk c me desk history
   pub of_log : HoldsLog c me log history
   pub low : IsReached c me log.low desk.state.number [] history
 
--- an event begins where they hold
+-- the start of an event after a history that they fit
 abbrev pub start_at : (c : Configuration) (me : ℕ) (desk : Desk) (log : LogData) (past : List Entry)
     → Holds c me desk log past → Entry → Start
 start_at c me desk log past held input = record { before = past; input = input; old = held.of_desk.point }
 
 -- ---- laws
 
--- Where both fit an event, nothing is due, nothing is left owed, what was asked is answered, and no new view is left to
--- send, they hold of the longer history.
+-- An event ends if both fit it, nothing is due, the replica owes nothing more, the input is answered, and no new view
+-- is left to send. Then both fit the longer history.
 abbrev pub EventsEnd : Type 0
 EventsEnd =
     (c : Configuration) (me : ℕ) (desk new : Desk) (log after : LogData) (past outputs : List Entry) (input : Entry)
@@ -186,7 +187,7 @@ EventsEnd =
     → (outputs ≡ []) ⊎ IsTaken c me (start_at c me desk log past held input)
     → Holds c me new after (outputs ++ input ∷ past)
 
--- Between events nothing is left owed.
+-- Between events the replica owes nothing.
 abbrev pub HeldAreSettled : Type 0
 HeldAreSettled =
     (c : Configuration) (me : ℕ) (desk : Desk) (log : LogData) (history : List Entry) → Holds c me desk log history

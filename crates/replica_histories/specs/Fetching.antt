@@ -1,5 +1,4 @@
--- The replica that fetches: what its fetches and the parts that come do to what it holds (Castro and Liskov, TOCS 2002,
--- on state transfer).
+-- The replica that fetches: its fetches, and the parts that arrive (Castro and Liskov, TOCS 2002, on state transfer).
 use Rattle.std.specs.Prelude.{◌≡◌, ℕ, ◌+◌, ◌*◌, ◌≤◌, ◌<◌, true, List, [], ◌∷◌, length, Option, Some}
 use Rattle.std.specs.Option.{ForSome}
 use Rattle.sha2.specs.Sha256.{sha256}
@@ -12,7 +11,7 @@ use Rattle.protocol.specs.System.Configuration.{Configuration, members}
 use Rattle.protocol.specs.System.Frames.{IsPosted}
 use Rattle.protocol.specs.System.Trace.{Entry, Has}
 use Rattle.protocol.specs.System.Trace.Entry.{Got, Sent}
-use Rattle.protocol.specs.Replica.State.{State, IsState, last_time, pages_of}
+use Rattle.protocol.specs.Replica.State.{State, IsReplicatedState, last_time, pages_of}
 use Rattle.protocol.specs.Replica.RightReplica.{others}
 use Rattle.protocol.specs.Replica.Transfers.{fetch_sent}
 use Rattle.protocol.specs.Replica.Owed.{Counts}
@@ -20,20 +19,20 @@ use Rattle.state_transfer.specs.declared.place.Place.{Place}
 use Rattle.state_transfer.specs.Places.{page_place}
 use Rattle.state_transfer.specs.Transfer.{TransferData, wanted, with_digests, with_page}
 use Rattle.replica_histories.specs.Desk.{Desk}
-use Rattle.replica_histories.specs.Transfers.{MayAsk, AsksNext, FitsOpen, RestsOn, transfer_to, open_number}
+use Rattle.replica_histories.specs.Transfers.{MayAsk, AsksNext, FitsOpen, RestsOnState, transfer_to, open_number}
 use Rattle.replica_histories.specs.Questions.{is_part, AnswersInput}
-use Rattle.replica_histories.specs.Events.{Start, behind, Fits, Holds, start_at}
+use Rattle.replica_histories.specs.Events.{Start, after_outputs, Fits, Holds, start_at}
 use Rattle.replica_histories.specs.Inputs.{fetch_due}
 
 -- ---- a fetch
 
--- The fetch of the place that a transfer asks for, where it may ask: behind it the transfer is open. It may be the
--- first message that is due.
+-- A transfer that may ask may send the fetch of its place, and is open after it. The fetch may be the first due
+-- message.
 abbrev pub FetchesFit : Type 0
 FetchesFit =
     (c : Configuration) (me : ℕ) (s : Start) (desk : Desk) (log : LogData) (due : List Message) (outputs : List Entry)
     (t : TransferData) (bytes : List ℕ)
-    → MayAsk c me t desk.state.number (behind s outputs) → AsksNext c me t desk.state (behind s outputs)
+    → MayAsk c me t desk.state.number (after_outputs s outputs) → AsksNext c me t desk.state (after_outputs s outputs)
     → IsPosted c me (Fetch t.number t.asked.level t.asked.index) (others c me) bytes
     → Fits c me s desk log due outputs
     → Fits c me s (record desk { transfer = Some t }) log due (Sent me bytes ∷ outputs)
@@ -42,13 +41,13 @@ abbrev pub DueFetchesFit : Type 0
 DueFetchesFit =
     (c : Configuration) (me : ℕ) (s : Start) (desk : Desk) (log : LogData) (rest : List Message) (outputs : List Entry)
     (t : TransferData) (bytes : List ℕ)
-    → MayAsk c me t desk.state.number (behind s outputs) → AsksNext c me t desk.state (behind s outputs)
+    → MayAsk c me t desk.state.number (after_outputs s outputs) → AsksNext c me t desk.state (after_outputs s outputs)
     → IsPosted c me (Fetch t.number t.asked.level t.asked.index) (others c me) bytes
     → Fits c me s desk log (Fetch t.number t.asked.level t.asked.index ∷ rest) outputs
     → Fits c me s (record desk { transfer = Some t }) log rest (Sent me bytes ∷ outputs)
 
--- Where a quorum of the log's checkpoints is above what is executed and open, a transfer to it may ask: a new one, or
--- the open one, moved.
+-- If a quorum of the log's checkpoints is above the executed state and the open transfer, a transfer to it may ask: a
+-- new one, or the open one, moved.
 abbrev pub QuorumsMayAsk : Type 0
 QuorumsMayAsk =
     (c : Configuration) (me : ℕ) (s : Start) (desk : Desk) (log : LogData) (due : List Message) (outputs : List Entry)
@@ -56,8 +55,8 @@ QuorumsMayAsk =
     → 2 * log.faults + 1 ≤ logs.count_checkpoints log entry → log.low < entry.number
     → open_number desk.state.number desk.transfer < entry.number
     → Fits c me s desk log due outputs
-    → MayAsk c me (transfer_to desk.transfer entry.number entry.digest pages) desk.state.number (behind s outputs)
-    × AsksNext c me (transfer_to desk.transfer entry.number entry.digest pages) desk.state (behind s outputs)
+    → MayAsk c me (transfer_to desk.transfer entry.number entry.digest pages) desk.state.number (after_outputs s outputs)
+    × AsksNext c me (transfer_to desk.transfer entry.number entry.digest pages) desk.state (after_outputs s outputs)
 
 -- Between events no fetch is due.
 abbrev pub HeldOweNoFetch : Type 0
@@ -65,10 +64,10 @@ HeldOweNoFetch =
     (c : Configuration) (me : ℕ) (desk : Desk) (log : LogData) (past : List Entry) (entry : CheckpointEntry)
     → Holds c me desk log past → fetch_due desk log entry ≡ []
 
--- ---- a part comes
+-- ---- a part arrives
 
--- Digests that are heard, of the number and with the digest that their place is to have, begin an event: the open
--- transfer has them, and may ask on.
+-- Received digests of the transfer's number begin an event if they have the digest that their place has to have. The
+-- open transfer takes them, and may ask on.
 abbrev pub DigestsEnter : Type 0
 DigestsEnter =
     (c : Configuration) (me : ℕ) (desk : Desk) (log : LogData) (past : List Entry) (t : TransferData) (s : ℕ)
@@ -81,8 +80,8 @@ DigestsEnter =
     (record desk { transfer = Some (with_digests t place digests) }) log [] []
     × MayAsk c me (with_digests t place digests) desk.state.number (Got me bytes ∷ past)
 
--- So does a page that was asked for last, of whatever digest: before anything is installed, all that is held is compared
--- with the root. Until the transfer asks on with it, or its state is installed, the replica has not taken it.
+-- So does a page that was asked for last, whatever its digest: before an installation all held pages are compared with
+-- the root. The replica has not taken the page until the transfer asks on with it, or its state is installed.
 abbrev pub PagesEnter : Type 0
 PagesEnter =
     (c : Configuration) (me : ℕ) (desk : Desk) (log : LogData) (past : List Entry) (t : TransferData) (s index : ℕ)
@@ -93,7 +92,7 @@ PagesEnter =
     → Fits c me (start_at c me desk log past held (Got me bytes)) desk log [] []
     × MayAsk c me (with_page t index text) desk.state.number (Got me bytes ∷ past)
 
--- Digests, or a page, count that the open transfer asked for and that have the digest that is wanted.
+-- Digests, or a page, count if the open transfer asked for them and they have the wanted digest.
 abbrev pub AskedDigestsCount : Type 0
 AskedDigestsCount =
     (c : Configuration) (me : ℕ) (desk : Desk) (log : LogData) (past : List Entry) (t : TransferData) (s : ℕ)
@@ -108,15 +107,15 @@ AskedPagesCount =
     → desk.transfer ≡ Some t → t.asked ≡ page_place index → wanted t (page_place index) ≡ Some (sha256 text)
     → Counts c me past held.of_desk.point bytes s (Page t.number index text)
 
--- ---- what is owed to a part that comes
+-- ---- what the replica owes to a part that arrives
 
--- The part of this number, place and digest is another one than the transfer awaits.
+-- The part of this number, place and digest is not the one that the transfer awaits.
 abbrev pub IsOther : TransferData → ℕ → Place → List ℕ → Type 0
 IsOther t number place digest =
     (awaited : List ℕ) × (wanted t t.asked ≡ Some awaited)
     × (t.number ≡ number → t.asked ≡ place → awaited ≡ digest → ⊥)
 
--- Nothing is owed to digests, or to a page, that no open transfer awaits.
+-- The replica owes nothing to digests, or to a page, that no open transfer awaits.
 abbrev pub OtherDigestsOweNone : Type 0
 OtherDigestsOweNone =
     (c : Configuration) (me : ℕ) (desk : Desk) (log : LogData) (past : List Entry) (s k executed : ℕ) (place : Place)
@@ -133,7 +132,7 @@ OtherPagesOweNone =
     → ForSome desk.transfer (λ t. IsOther t k (page_place index) (sha256 text))
     → AnswersInput c me past (Got me bytes) outputs held.of_desk.point executed
 
--- To any part it suffices that a fetch of the open transfer's number is sent.
+-- For any part it is enough to send a fetch of the open transfer's number.
 abbrev pub FetchesSuffice : Type 0
 FetchesSuffice =
     (c : Configuration) (me : ℕ) (desk : Desk) (log : LogData) (past : List Entry) (t : TransferData) (body : Body)
@@ -142,28 +141,28 @@ FetchesSuffice =
     → Has (λ e. fetch_sent e ≡ t.number) outputs
     → AnswersInput c me past (Got me bytes) outputs held.of_desk.point executed
 
--- Or that the transfer's number is reached, if these pages are those of a state that can be installed.
+-- Or the transfer's number is reached, if these pages are those of a state that can be installed.
 abbrev pub Reaches : State → TransferData → ℕ → Type 0
 Reaches old t executed =
-    (st : State) → IsState st → st.number ≡ t.number → pages_of st ≡ t.held
+    (st : State) → IsReplicatedState st → st.number ≡ t.number → pages_of st ≡ t.held
     → ((client : ℕ) → last_time old client ≤ last_time st client) → t.number ≤ executed
 
--- So it is where the pages that it holds, with the part, have the root.
+-- This is enough if the held pages, with the part, have the root.
 abbrev pub FetchedSuffice : Type 0
 FetchedSuffice =
     (c : Configuration) (me : ℕ) (desk : Desk) (log : LogData) (past : List Entry) (t new : TransferData) (body : Body)
     (bytes : List ℕ) (outputs : List Entry) (executed : ℕ) (held : Holds c me desk log past)
     → desk.transfer ≡ Some t → heard (members c) me bytes ≡ Some body → is_part body ≡ true
-    → new.number ≡ t.number → MayAsk c me new desk.state.number (Got me bytes ∷ past) → RestsOn new desk.state
+    → new.number ≡ t.number → MayAsk c me new desk.state.number (Got me bytes ∷ past) → RestsOnState new desk.state
     → length new.held ≡ 1024 → root_of_pages new.held ≡ new.root → Reaches desk.state new executed
     → AnswersInput c me past (Got me bytes) outputs held.of_desk.point executed
 
 -- ---- the open transfer
 
--- In an event the transfer may be another that fits: it rests on other pages.
+-- Within an event another transfer that fits may replace the open one: it rests on other pages.
 abbrev pub TransfersChange : Type 0
 TransfersChange =
     (c : Configuration) (me : ℕ) (s : Start) (desk : Desk) (log : LogData) (due : List Message) (outputs : List Entry)
     (open_one : Option TransferData)
-    → FitsOpen c me open_one desk.state.number (behind s outputs)
+    → FitsOpen c me open_one desk.state.number (after_outputs s outputs)
     → Fits c me s desk log due outputs → Fits c me s (record desk { transfer = open_one }) log due outputs

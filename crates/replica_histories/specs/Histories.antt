@@ -1,4 +1,4 @@
--- Where a replica begins, and what its history is in the end.
+-- The desk and log of a new replica, and that a history which they fit is a correct replica's.
 use Rattle.std.specs.Prelude.{ℕ, ◌<◌, ◌≤◌, List, [], ◌∷◌, None}
 use Rattle.ordering.specs.Log.{LogData, new_log}
 use Rattle.protocol.specs.System.Configuration.{Configuration, replicas, span}
@@ -8,7 +8,7 @@ use Rattle.protocol.specs.Replica.Owed.{IsReplica}
 use Rattle.replica_histories.specs.Desk.{Desk, snapshot_of}
 use Rattle.replica_histories.specs.Events.{Holds}
 
--- nothing is held but the opening state
+-- the opening state alone
 abbrev pub first_desk : Desk
 first_desk = record {
   state = opening;
@@ -24,7 +24,7 @@ FirstHold =
     (c : Configuration) (me : ℕ) → 1 ≤ c.faults → c.faults ≤ 3 → me < replicas c → span c ≤ 32
     → Holds c me first_desk (new_log me c.faults (span c)) []
 
--- What holds of a history makes it that of a correct replica.
+-- A history that desk and log fit is that of a correct replica.
 abbrev pub HeldAreReplicas : Type 0
 HeldAreReplicas =
     (c : Configuration) (me : ℕ) (desk : Desk) (log : LogData) (history : List Entry) → Holds c me desk log history

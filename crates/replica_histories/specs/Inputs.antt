@@ -1,5 +1,5 @@
--- What an input does to what a replica holds, and which messages count (Castro and Liskov, TOCS 2002, on normal-case
--- operation). Which ordering messages are taken the log says by its faults.
+-- How an input changes a replica's desk and log, and which messages count (Castro and Liskov, TOCS 2002, on normal-case
+-- operation). The log's faults decide which ordering messages it takes.
 use Rattle.std.specs.Prelude.{◌≡◌, ℕ, ◌+◌, ◌-◌, ◌*◌, ◌<◌, ◌⊎◌, true, false, ◌&&◌, List, [], ◌∷◌, nat_le, nat_lt, ◌==◌, if◌then◌else◌, Option, Some, None, is_some, ⊤}
 use Rattle.std.specs.Option.{option_map_or}
 use Rattle.tuple_codec.specs.Operations.{Operation}
@@ -32,7 +32,7 @@ use Rattle.replica_histories.specs.Events.{Fits, LeavesNoView, Holds, start_at}
 
 -- ---- what a request asks for
 
--- the kept reply, where it is to this timestamp
+-- the kept reply, if it has this timestamp
 abbrev pub again_for : ℕ → ℕ → Option Kept → List Message
 again_for k timestamp kept = option_map_or (λ x. if x.timestamp == timestamp then reply_of k x ∷ [] else []) kept []
 
@@ -41,7 +41,8 @@ asked_in st sender timestamp modes.Ordered =
     if nat_le 256 sender then again_for (sender - 256) timestamp (kept_of st (sender - 256)) else []
 asked_in st sender timestamp modes.ReadOnly = []
 
--- what is due at once for what is heard: an ordered request of its client's last timestamp gets the kept reply again
+-- what is due at once after a received message: an ordered request of its client's last timestamp gets the kept reply
+-- again
 abbrev pub asked_by : State → Body → List Message
 asked_by st body = elim body.message [ Request timestamp mode op ↦ asked_in st body.sender timestamp mode | _ ↦ [] ]
 
@@ -50,7 +51,7 @@ asked st said = option_map_or (asked_by st) said []
 
 -- ---- an event begins
 
--- What bytes that are got do to desk and log, and what is due at once.
+-- How received bytes change desk and log, and what is due at once.
 pub record Enters (c : Configuration) (me : ℕ) (bytes : List ℕ) (desk new : Desk) (log after : LogData)
     (due : List Message) : Type 0 where
   pub takes : Takes c me (heard (members c) me bytes) log after
@@ -62,7 +63,7 @@ pub record Enters (c : Configuration) (me : ℕ) (bytes : List ℕ) (desk new : 
       → Has (λ x. x ≡ frame) desk.frames ⊎ ((frame ≡ bytes) × (is_some (heard (members c) me bytes) ≡ true))
   pub due_is : due ≡ asked desk.state (heard (members c) me bytes)
 
--- Bytes that are got begin an event, where they bring no new view and move no mark.
+-- Received bytes begin an event, if they bring no new view and move no mark.
 abbrev pub InputsFit : Type 0
 InputsFit =
     (c : Configuration) (me : ℕ) (desk new : Desk) (log after : LogData) (due : List Message) (past : List Entry)
@@ -70,8 +71,8 @@ InputsFit =
     → taken c past (Got me bytes) ≡ None → Enters c me bytes desk new log after due
     → Fits c me (start_at c me desk log past held (Got me bytes)) new after due []
 
--- The fetch that is due where a quorum has the checkpoint, the own not among them, and its number is above what is
--- executed and open.
+-- A fetch is due if a quorum without the replica itself has sent the checkpoint, and its number is above the executed
+-- state and the open transfer.
 abbrev pub fetch_due : Desk → LogData → CheckpointEntry → List Message
 fetch_due desk log entry =
     if logs.is_stable log entry then [] else
@@ -79,8 +80,8 @@ fetch_due desk log entry =
     && nat_lt (open_number desk.state.number desk.transfer) entry.number
     then Fetch entry.number levels.Root 0 ∷ [] else []
 
--- A checkpoint that the log has no fault for begins an event: the log counts it and is cut where that makes it stable,
--- and the snapshots below the low mark go. Where a quorum has it then that is ahead, its state is to be fetched.
+-- A checkpoint without a fault begins an event. The log counts it, and is cut if that makes it stable; the snapshots
+-- below the low mark are dropped. If a quorum has sent it then and it is ahead, the fetch of its state is due.
 abbrev pub CheckpointsEnter : Type 0
 CheckpointsEnter =
     (c : Configuration) (me : ℕ) (desk : Desk) (log : LogData) (past : List Entry) (s : ℕ) (entry : CheckpointEntry)
@@ -94,7 +95,7 @@ CheckpointsEnter =
 abbrev pub again_due : Option TransferData → List Message
 again_due transfer = option_map_or (λ t. Fetch t.number t.asked.level t.asked.index ∷ []) transfer []
 
--- A tick begins an event, and changes nothing of itself. It makes the last fetch due again.
+-- A tick begins an event, and alone changes nothing. It makes the last fetch due again.
 abbrev pub TicksFit : Type 0
 TicksFit =
     (c : Configuration) (me : ℕ) (desk : Desk) (log : LogData) (past : List Entry) (held : Holds c me desk log past)
@@ -102,7 +103,7 @@ TicksFit =
 
 -- ---- which messages count
 
--- An ordering message that the log has no fault for counts, and the log takes it.
+-- An ordering message without a fault counts, and the log takes it.
 abbrev pub BatchesCount : Type 0
 BatchesCount =
     (c : Configuration) (me : ℕ) (log : LogData) (past : List Entry) (point : Point) (s v i : ℕ) (batch bytes : List ℕ)
@@ -132,7 +133,7 @@ CommitsCount =
     → Counts c me past point bytes s (Commit v i digest)
     × Takes c me (heard (members c) me bytes) log (logs.with_commit log i vote)
 
--- A checkpoint counts that the log has no fault for, and that is one of its sender's latest then.
+-- A checkpoint without a fault counts, if it is one of its sender's latest then.
 abbrev pub CheckpointsCount : Type 0
 CheckpointsCount =
     (c : Configuration) (me : ℕ) (log : LogData) (past : List Entry) (point : Point) (s : ℕ) (entry : CheckpointEntry)
@@ -142,7 +143,8 @@ CheckpointsCount =
     → says_checkpoint entry (logs.checkpoints_of (logs.with_checkpoint_of log s entry) s) ≡ true
     → Counts c me past point bytes s (Checkpoint entry.number entry.digest)
 
--- A client's request counts where its reply is kept, or where it is newer than what ran and not older than what waits.
+-- A client's request counts if its reply is kept, or if it is newer than the client's last executed one and not older
+-- than its waiting one.
 abbrev pub RequestsCount : Type 0
 RequestsCount =
     (c : Configuration) (me : ℕ) (desk : Desk) (log : LogData) (past : List Entry) (bytes : List ℕ) (k timestamp : ℕ)
@@ -151,9 +153,9 @@ RequestsCount =
     ⊎ ((last_time desk.state k < timestamp) × IsNoOlder desk.waiting k timestamp op)
     → Counts c me past held.of_desk.point bytes (256 + k) (Request timestamp modes.Ordered op)
 
--- ---- which are dropped
+-- ---- which messages the log drops
 
--- One that it has a fault for changes nothing, nor does a batch with a request that isn't genuine.
+-- A message with a fault changes nothing, nor does a batch with a request that isn't authentic.
 abbrev pub BatchesDrop : Type 0
 BatchesDrop =
     (c : Configuration) (me : ℕ) (log : LogData) (past : List Entry) (s v i : ℕ) (batch bytes : List ℕ)
@@ -192,7 +194,7 @@ EarlyCheckpointsDrop =
     → says_checkpoint entry (logs.checkpoints_of (logs.with_checkpoint_of log s entry) s) ≡ false
     → (logs.with_checkpoint_of log s entry ≡ log) × Takes c me (heard (members c) me bytes) log log
 
--- what is heard, if anything, is no pre-prepare, prepare, commit or checkpoint
+-- the bytes are no authentic pre-prepare, prepare, commit or checkpoint
 abbrev pub IsBesideLog : Option Body → Type 0
 IsBesideLog None = ⊤
 IsBesideLog (Some body) = elim body.message [
@@ -203,7 +205,7 @@ IsBesideLog (Some body) = elim body.message [
   | _ ↦ ⊤
 ]
 
--- What orders nothing passes by the log.
+-- A message that orders nothing leaves the log.
 abbrev pub OthersDrop : Type 0
 OthersDrop =
     (c : Configuration) (me : ℕ) (log : LogData) (past : List Entry) (bytes : List ℕ) → FitsLog c me log past
@@ -211,8 +213,8 @@ OthersDrop =
 
 -- ---- inputs that pass
 
--- Bytes that change neither desk nor log, make nothing due and fetch nothing that is kept leave both as they hold, with
--- no output; so does a tick by which the replica need not move, while no transfer is open.
+-- Bytes that change neither desk nor log, make nothing due and fetch nothing kept leave both fitting, without an
+-- output. So does a tick on which the replica need not move, if no transfer is open.
 abbrev pub InputsPass : Type 0
 InputsPass =
     (c : Configuration) (me : ℕ) (desk : Desk) (log : LogData) (past : List Entry) (bytes : List ℕ)

@@ -1,6 +1,6 @@
--- What a log says of its replica's history: in its view what is logged and who voted for it, of earlier views what was
--- committed, and which checkpoints were sent (Castro and Liskov, TOCS 2002, on normal-case operation, garbage collection
--- and view changes).
+-- How a log fits its replica's history: the batches that are logged in its view and their votes, the batches that were
+-- committed in earlier views, and the checkpoints that were sent (Castro and Liskov, TOCS 2002, on normal-case
+-- operation, garbage collection and view changes).
 use Rattle.std.specs.Prelude.{◌≡◌, ◌≢◌, ℕ, ◌+◌, ◌^◌, ◌≤◌, ◌<◌, ◌⊎◌, true, false, if◌then◌else◌, List, [], ◌∷◌, length, filter, nat_lt, nat_le, Option, Some, None, option_and_then, ⊤}
 use Rattle.quorum.specs.Votes.{or_else}
 use Rattle.wire.specs.Messages.{BodyData as Body, CheckpointEntryData as CheckpointEntry}
@@ -31,23 +31,23 @@ pub record AreLatest (checkpoints : List CheckpointEntry) : Type 0 where
 
 -- ---- votes
 
--- The own votes for a batch that is logged were said: a backup's prepare, and the commit where the batch is prepared.
+-- The replica sent its own votes for a logged batch: a backup's prepare, and the commit if the batch is prepared.
 pub record IsVoted (c : Configuration) (me : ℕ) (history : List Entry) (v i : ℕ) (batch : List ℕ) : Type 0 where
   pub prepare : primary c v ≢ me → (digest : List ℕ) × (prepare_of c me history v i me ≡ Some digest)
   pub commit : Prepared c me history v i batch → (digest : List ℕ) × (commit_of c me history v i me ≡ Some digest)
 
 -- ---- views
 
--- Where a batch is logged: in no later view than the log's; in that one up to the low mark or within the marks; and in
--- none above them.
+-- Where a batch may be logged: in no later view than the log's; in that view up to the low mark or within the marks;
+-- and in no view above the marks.
 pub record IsWithin (log : LogData) (v i : ℕ) : Type 0 where
   pub view : v ≤ log.view
   pub marks : v ≡ log.view → (i ≤ log.low) ⊎ (logs.is_in_marks log i ≡ true)
   pub ahead : (i ≤ log.low + log.span) × (i < 2 ^ 48)
 
--- What the log has of other views than its own. A number has a batch that was committed in an earlier view, exactly where
--- one was. What is prepared within the marks in an earlier view, or in the own one where the replica is active no more,
--- has the own commit. And nobody voted in a later view yet.
+-- How the log fits other views than its own. A number has a batch that was committed in an earlier view exactly if one
+-- was. A batch that is prepared within the marks in an earlier view, or in the current one if the replica is inactive,
+-- has the replica's own commit. And nobody voted in a later view yet.
 pub record FitsViews (c : Configuration) (me : ℕ) (log : LogData) (history : List Entry) : Type 0 where
   pub decided : (i : ℕ) (batch : List ℕ) → logs.is_in_marks log i ≡ true
       → (logs.row_of log i).decided ≡ Some batch → (v : ℕ) × (v < log.view) × Committed c me history v i batch
@@ -60,10 +60,10 @@ pub record FitsViews (c : Configuration) (me : ℕ) (log : LogData) (history : L
 
 -- ---- the log
 
--- The log is that of the replica, in its view and marks, and each reading within the marks is that of the history. In
--- its view nothing is voted for above the marks, and what is logged up to the low mark has the own votes, while the
--- replica is active. No new view began a later view. Of each sender the log has the same checkpoints above the low mark;
--- those below it drops, and the history counts them.
+-- The log is the replica's, in its view and marks, and answers within the marks as the history does. In its view there
+-- is no vote above the marks. While the replica is active, a batch that is logged up to the low mark has its own votes.
+-- No new view began a later view. Of each sender the log has the same checkpoints above the low mark; it drops those
+-- below, which the history counts.
 pub record FitsLog (c : Configuration) (me : ℕ) (log : LogData) (history : List Entry) : Type 0 where
   pub is_log : IsLog log
   pub own : log.me ≡ me
@@ -99,12 +99,12 @@ pub record Stays (old new : LogData) : Type 0 where
   pub low : new.low ≡ old.low
   pub checkpoints : new.checkpoints ≡ old.checkpoints
 
--- What orders counts while the replica is active.
+-- An ordering message counts while the replica is active.
 abbrev pub while_active : LogData → Option (List ℕ) → Option (List ℕ)
 while_active log given = if log.active then given else None
 
--- What a body that is brought does to the log, where it moves no mark: within the marks what comes first stays, and what
--- was committed in an earlier view; and a checkpoint adds nothing above the low mark.
+-- How a body changes the log, if it moves no mark. Within the marks the first batch and votes stay, and so does a batch
+-- that was committed in an earlier view. A checkpoint adds nothing above the low mark.
 pub record Takes (c : Configuration) (me : ℕ) (said : Option Body) (old new : LogData) : Type 0 where
   pub stays : Stays old new
   pub batch : (i : ℕ) → logs.is_in_marks old i ≡ true

@@ -1,4 +1,4 @@
--- The log where the marks move: a checkpoint that becomes stable cuts the rows up to it (Castro and Liskov, TOCS 2002,
+-- The log when the marks move: a checkpoint that becomes stable cuts the rows up to it (Castro and Liskov, TOCS 2002,
 -- on garbage collection).
 use Rattle.std.specs.Prelude.{◌≡◌, ℕ, ◌^◌, ◌≤◌, ◌<◌, true, List, ◌∷◌, if◌then◌else◌, Some, None}
 use Rattle.wire.specs.Messages.{CheckpointEntryData as CheckpointEntry, checkpoint as Checkpoint}
@@ -11,7 +11,7 @@ use Rattle.protocol.specs.System.Trace.Entry.{Installed}
 use Rattle.protocol.specs.Replica.Certificates.{brought, is_stable, low}
 use Rattle.replica_histories.specs.Logs.{FitsLog}
 
--- The log with one more checkpoint of the replica s, cut where that makes it stable.
+-- The log with one more checkpoint of the replica s, cut if that makes it stable.
 abbrev pub cut_if_stable : LogData → CheckpointEntry → LogData
 cut_if_stable log entry = if logs.is_stable log entry then logs.cut_to log entry.number else log
 
@@ -22,12 +22,12 @@ checked_log log s entry = cut_if_stable (logs.with_checkpoint_of log s entry) en
 abbrev pub IsVotedTo : LogData → ℕ → Type 0
 IsVotedTo log h = (i : ℕ) → i ≤ h → (logs.due_prepare log i ≡ None) × (logs.due_commit log i ≡ None)
 
--- what is brought is this checkpoint
+-- the entry brings this checkpoint
 pub record BringsCheckpoint (c : Configuration) (e : Entry) (s : ℕ) (entry : CheckpointEntry) : Type 0 where
   pub brings : brought c e ≡ Some (record { sender = s; message = Checkpoint entry.number entry.digest })
   pub number : is_number entry.number ≡ true
 
--- A checkpoint, got or sent, is counted, and where it becomes stable the marks move, and the log is cut.
+-- The log counts a checkpoint, received or sent. If it becomes stable, the marks move, and the log is cut.
 abbrev pub MarksMove : Type 0
 MarksMove =
     (c : Configuration) (me : ℕ) (log : LogData) (past : List Entry) (e : Entry) (s : ℕ) (entry : CheckpointEntry)
@@ -41,7 +41,8 @@ InstallationsMove =
     → FitsLog c me log past → k < 2 ^ 48 → IsVotedTo log k
     → FitsLog c me (logs.cut_to log k) (Installed me k root ∷ past)
 
--- A cut log asks for no more: what it asks for above its low mark, or has committed there, it had before.
+-- A cut log asks for no more: the votes that it asks for above its low mark, and the batches committed there, it had
+-- before.
 abbrev pub CutsAskNoMore : Type 0
 CutsAskNoMore =
     (log : LogData) (h i : ℕ) → IsLog log

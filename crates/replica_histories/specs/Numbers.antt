@@ -1,6 +1,6 @@
--- Which of the requests that wait have a number in the view of their primary (Castro and Liskov, TOCS 2002, on
--- normal-case operation, garbage collection and view changes). All is said of the history, which forgets nothing: a
--- request that still waits where its row is cut keeps its number.
+-- Which waiting requests have a number in the view of their primary (Castro and Liskov, TOCS 2002, on normal-case
+-- operation, garbage collection and view changes). All is a property of the history, which forgets nothing: a request
+-- that still waits when its row is cut keeps its number.
 use Rattle.std.specs.Prelude.{◌≡◌, ◌≢◌, ◌↔◌, ℕ, zero, suc, ◌+◌, ◌≤◌, ◌<◌, ◌⊎◌, Bool, true, false, ◌&&◌, not, List, [], ◌∷◌, ◌++◌, length, map, take, filter, max, nat_lt, ◌==◌, if◌then◌else◌, Some, None, option_and_then, is_some, AllPairs}
 use Rattle.std.specs.List.{list_all, list_any, filter_map, flat_map}
 use Rattle.std.specs.Option.{option_map_or}
@@ -18,9 +18,9 @@ use Rattle.protocol.specs.Replica.RightReplica.{Point, is_newer, with_waiting, w
 use Rattle.protocol.specs.Replica.Owed.{BeginsViewWith, IsNumbered, NumbersOnce}
 use Rattle.replica_histories.specs.Logs.{FitsLog}
 
--- ---- what waits
+-- ---- the waiting requests
 
--- a request that waits, and whether it has a number in the view
+-- a waiting request, and whether it has a number in the view
 pub record Waiting : Type 0 where
   pub call : Call
   pub numbered : Bool
@@ -43,9 +43,9 @@ with_numbered (suc count) (w ∷ entries) =
     if w.numbered then w ∷ with_numbered (suc count) entries else
     record w { numbered = true } ∷ with_numbered count entries
 
--- ---- what a new view numbers
+-- ---- the requests of a new view
 
--- a request that stands in the new view with which a view began
+-- a request in the new view with which a view began
 pub record BegunCall : Type 0 where
   pub client : ℕ
   pub timestamp : ℕ
@@ -60,18 +60,18 @@ begun_in c batches =
 abbrev pub is_begun : List BegunCall → Call → Bool
 is_begun begun call = list_any (λ b. (b.client == call.client) && (b.timestamp == call.timestamp)) begun
 
--- so a call waits that the view has given no number but by them
+-- so a call waits, if the view assigned it no number but by these
 abbrev pub arrived : List BegunCall → Call → Waiting
 arrived begun call = record { call = call; numbered = is_begun begun call }
 
--- ---- what fits
+-- ---- data that fit
 
--- the client ran the timestamp, or one above it, or a request of it that is no older waits
+-- the client ran the timestamp, or a later one, or a request of it that is no older waits
 abbrev pub IsKnown : State → List Call → ℕ → ℕ → Type 0
 IsKnown st waiting client timestamp =
     (timestamp ≤ last_time st client) ⊎ Has (λ call. (call.client ≡ client) × (timestamp ≤ call.timestamp)) waiting
 
--- the call of this client and timestamp is begun
+-- the call of this client and timestamp is in the new view
 abbrev pub IsBegun : List BegunCall → ℕ → ℕ → Type 0
 IsBegun begun client timestamp = Has (λ b. (b.client ≡ client) × (b.timestamp ≡ timestamp)) begun
 
@@ -82,13 +82,13 @@ HasNumber c me v history call = IsNumbered c me history v call.client call.times
 abbrev pub HasNone : Configuration → ℕ → ℕ → List Entry → Call → Type 0
 HasNone c me v history call = HasNumber c me v history call → ⊥
 
--- the request has a number exactly where it is said to
+-- the request has a number exactly if its flag says so
 abbrev pub IsRightly : Configuration → ℕ → ℕ → List Entry → Waiting → Type 0
 IsRightly c me v history w = either w.numbered (HasNumber c me v history w.call) (HasNone c me v history w.call)
 
--- In the view v each number above the low mark has a batch up to the one that was used last, and none above it has one.
--- Of the requests that wait, each of another client, each is flagged rightly. Those that began the view have numbers;
--- and any other that has one is known, so that a newer one has none.
+-- In the view v each number above the low mark has a batch, up to the greatest assigned one, and none above has one.
+-- The waiting requests are of different clients, and each has the right flag. The calls that began the view have
+-- numbers. Any other call that has one is known, so a newer one has none.
 pub record FitsNumbers (c : Configuration) (me v used : ℕ) (begun : List BegunCall) (entries : List Waiting)
     (st : State) (waiting : List Call) (history : List Entry) : Type 0 where
   pub calls : calls_of entries ≡ waiting
@@ -100,31 +100,31 @@ pub record FitsNumbers (c : Configuration) (me v used : ℕ) (begun : List Begun
       → IsKnown st waiting client timestamp ⊎ IsBegun begun client timestamp
   pub differ : AllPairs (λ call twin. call.client ≢ twin.client) waiting
 
--- Before anything was got nothing has a number.
+-- Before the first entry no request has a number.
 abbrev pub FirstNumbersFit : Type 0
 FirstNumbersFit = (c : Configuration) (me v : ℕ) (st : State) → FitsNumbers c me v 0 [] [] st [] []
 
 -- ---- a view begins
 
--- No batch is logged in a view above the own one, and no new view with a batch began one.
+-- No batch is logged in a view above the current one, and no new view with a batch began one.
 pub record AreOfNoLaterView (c : Configuration) (me : ℕ) (history : List Entry) : Type 0 where
   pub logged : (v i : ℕ) (batch : List ℕ) → logged c me history v i ≡ Some batch → v ≤ view c history
   pub begun : (v : ℕ) (batch : List ℕ) → Once (BeginsViewWith c v batch) history → v ≤ view c history
 
--- So it is where a log fits.
+-- The same if a log fits.
 abbrev pub LogsAreOfNoLaterView : Type 0
 LogsAreOfNoLaterView =
     (c : Configuration) (me : ℕ) (log : LogData) (history : List Entry) → FitsLog c me log history
     → AreOfNoLaterView c me history
 
--- In such a view nothing has a number.
+-- In a view above the current one no request has a number.
 abbrev pub LaterNumberNothing : Type 0
 LaterNumberNothing =
     (c : Configuration) (me v client timestamp : ℕ) (history : List Entry) → AreOfNoLaterView c me history
     → view c history < v → IsNumbered c me history v client timestamp → ⊥
 
--- Where a new view is taken, or sent, the requests in its batches have numbers in its view, and no others. Its numbers
--- are used up to its last batch, also those below the low mark.
+-- If the replica takes or sends a new view, the requests in its batches have numbers in its view, and no others. Its
+-- numbers are used up to its last batch, also those below the low mark.
 abbrev pub ViewsBegin : Type 0
 ViewsBegin =
     (c : Configuration) (me : ℕ) (st : State) (waiting : List Call) (past : List Entry) (e : Entry) (new : NewViewData)
@@ -133,7 +133,7 @@ ViewsBegin =
     → FitsNumbers c me new.view (new.start + length new.batches) (begun_in c new.batches)
     (map (arrived (begun_in c new.batches)) waiting) st waiting (e ∷ past)
 
--- ---- entries that give no number
+-- ---- entries that assign no number
 
 -- an entry leaves the numbers of the view as they are
 pub record KeepsNumbers (c : Configuration) (me v : ℕ) (past : List Entry) (e : Entry) : Type 0 where
@@ -141,7 +141,7 @@ pub record KeepsNumbers (c : Configuration) (me v : ℕ) (past : List Entry) (e 
   pub numbered : (client timestamp : ℕ)
       → IsNumbered c me (e ∷ past) v client timestamp ↔ IsNumbered c me past v client timestamp
 
--- What fits stays so behind such an entry.
+-- Data that fit still fit after such an entry.
 abbrev pub NumbersStay : Type 0
 NumbersStay =
     (c : Configuration) (me v used : ℕ) (begun : List BegunCall) (entries : List Waiting) (st : State)
@@ -149,7 +149,7 @@ NumbersStay =
     → KeepsNumbers c me v past e → FitsNumbers c me v used begun entries st waiting past
     → FitsNumbers c me v used begun entries st waiting (e ∷ past)
 
--- a pre-prepare is sent here
+-- the message is a pre-prepare
 abbrev pub is_pre_prepare : Message → Bool
 is_pre_prepare message = elim message [ PrePrepare v i batch ↦ true | _ ↦ false ]
 
@@ -157,14 +157,14 @@ abbrev pub sends_pre_prepare : Entry → Bool
 sends_pre_prepare (Sent p bytes) = option_map_or (λ body. is_pre_prepare body.message) (said bytes) false
 sends_pre_prepare _ = false
 
--- At the primary of the view all else gives no number, as long as no new view is taken: what is got, whatever it is, is
--- no proposal of its own.
+-- At the primary of the view all other entries assign no number, as long as no new view is taken: received bytes,
+-- whatever they are, are no proposal of its own.
 abbrev pub OthersKeepNumbers : Type 0
 OthersKeepNumbers =
     (c : Configuration) (me v : ℕ) (past : List Entry) (e : Entry) → primary c v ≡ me → party_of e ≡ me
     → taken c past e ≡ None → sends_pre_prepare e ≡ false → KeepsNumbers c me v past e
 
--- Nor does a pre-prepare of a number that is logged, which numbers nothing twice.
+-- Nor does a pre-prepare of a logged number, which numbers no request twice.
 abbrev pub BatchesKeepNumbers : Type 0
 BatchesKeepNumbers =
     (c : Configuration) (me v i : ℕ) (batch bytes : List ℕ) (past : List Entry)
@@ -172,13 +172,13 @@ BatchesKeepNumbers =
     → logged c me past v i ≡ Some batch
     → NumbersOnce c me past (Sent me bytes) × KeepsNumbers c me v past (Sent me bytes)
 
--- ---- a number is given
+-- ---- a number is assigned
 
 -- the frames are these calls, in order
 abbrev pub AreCalls : Configuration → List (List ℕ) → List Call → Type 0
 AreCalls c frames calls = map (call_of c) frames ≡ map Some calls
 
--- The oldest requests without a number, up to so many as are asked for, get the next one.
+-- The oldest requests without a number, up to the given count, get the next one.
 abbrev pub NumbersFit : Type 0
 NumbersFit =
     (c : Configuration) (me v used i most : ℕ) (begun : List BegunCall) (entries : List Waiting) (st : State)
@@ -190,15 +190,15 @@ NumbersFit =
     → NumbersOnce c me past (Sent me bytes)
     × FitsNumbers c me v i begun (with_numbered most entries) st waiting (Sent me bytes ∷ past)
 
--- ---- what waits changes
+-- ---- the waiting requests change
 
--- what waits once the call is got, which replaces its client's
+-- the waiting requests after the call arrived, which replaces its client's older one
 abbrev pub entries_with : List BegunCall → State → List Waiting → Call → List Waiting
 entries_with begun st entries call =
     if nat_lt (last_time st call.client) call.timestamp && list_all (is_newer call) (calls_of entries)
     then filter (λ w. not (w.call.client == call.client)) entries ++ arrived begun call ∷ [] else entries
 
--- A request that is got waits, if it is newer.
+-- A received request waits, if it is newer.
 abbrev pub RequestsFit : Type 0
 RequestsFit =
     (c : Configuration) (me v used : ℕ) (begun : List BegunCall) (entries : List Waiting) (st : State)
@@ -206,7 +206,7 @@ RequestsFit =
     → FitsNumbers c me v used begun entries st waiting history
     → FitsNumbers c me v used begun (entries_with begun st entries call) st (with_waiting st waiting call) history
 
--- and so with bytes that are got, which may say a request
+-- the same of received bytes, which may be a request
 abbrev pub entries_after : Configuration → ℕ → List BegunCall → State → List Waiting → List ℕ → List Waiting
 entries_after c me begun st entries bytes =
     option_map_or (entries_with begun st entries) (option_and_then (call_in c) (heard (members c) me bytes)) entries
@@ -219,15 +219,15 @@ InputsKeepNumbers =
     → FitsNumbers c me v used begun (entries_after c me begun point.state entries bytes) point.state
     (waiting_after c me point bytes) history
 
--- of no client the last timestamp falls
+-- no client's last timestamp falls
 abbrev pub NoneFalls : State → State → Type 0
 NoneFalls old new = (client : ℕ) → last_time old client ≤ last_time new client
 
--- those that are newer than what their clients ran last
+-- those that are newer than their clients' last executed requests
 abbrev pub still_entries : State → List Waiting → List Waiting
 still_entries st entries = filter (λ w. nat_lt (last_time st w.call.client) w.call.timestamp) entries
 
--- Another state comes in the place of the executed one: what it has run waits no more.
+-- Another state replaces the executed one: the requests that it has run wait no more.
 abbrev pub StatesFit : Type 0
 StatesFit =
     (c : Configuration) (me v used : ℕ) (begun : List BegunCall) (entries : List Waiting) (old new : State)
@@ -235,14 +235,14 @@ StatesFit =
     → NoneFalls old new → FitsNumbers c me v used begun entries old waiting history
     → FitsNumbers c me v used begun (still_entries new entries) new (still_waiting new waiting) history
 
--- A batch that is executed is such a change.
+-- The execution of a batch is such a change.
 abbrev pub ExecutionsRaise : Type 0
 ExecutionsRaise = (c : Configuration) (st : State) (batch : List ℕ) → NoneFalls st (execute c st batch)
 
--- ---- nothing is left without a number
+-- ---- no request is left without a number
 
--- Each number that is given leaves fewer without one, and another state no more, so that as many numbers as requests
--- wait are enough.
+-- Each assigned number leaves fewer requests without one, and another state no more. So as many numbers as waiting
+-- requests are enough.
 abbrev pub NumbersLeaveFewer : Type 0
 NumbersLeaveFewer =
     (most : ℕ) (entries : List Waiting) → 1 ≤ most → 1 ≤ count_unnumbered entries
@@ -253,11 +253,11 @@ StatesLeaveNoMore =
     (new : State) (entries : List Waiting)
     → count_unnumbered (still_entries new entries) ≤ count_unnumbered entries
 
--- the number that is next, above the low mark and all that were used
+-- the next number, above the low mark and all used ones
 abbrev pub next_number : Configuration → ℕ → List Entry → ℕ → ℕ
 next_number c me history used = suc (max (low c me history) used)
 
--- it may be given: it is in the marks, and at most two above the executed number
+-- the primary may assign it: it is in the marks, and at most two above the executed number
 abbrev pub IsNextFree : Configuration → ℕ → List Entry → ℕ → ℕ → Type 0
 IsNextFree c me history used executed =
     (is_in_marks c (low c me history) (next_number c me history used) ≡ true)
@@ -271,7 +271,7 @@ NextIsFree =
     → FitsNumbers c me v used begun entries st waiting history → IsNextFree c me history used st.number
     → IsFree c me history st.number v (next_number c me history used)
 
--- Where the next number may not be given, or all that waits has one, what is owed of numbers holds.
+-- If the next number may not be assigned, or all waiting requests have one, the replica owes no number.
 abbrev pub NumbersAreGiven : Type 0
 NumbersAreGiven =
     (c : Configuration) (me v used : ℕ) (begun : List BegunCall) (entries : List Waiting) (st : State)

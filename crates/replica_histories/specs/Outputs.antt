@@ -1,5 +1,5 @@
--- What each output does to what a replica holds, and when it may be given (Castro and Liskov, TOCS 2002, on
--- normal-case operation, garbage collection and state transfer). What asks for an output is an answer of the log.
+-- How each output changes desk and log, and when the replica may emit it (Castro and Liskov, TOCS 2002, on normal-case
+-- operation, garbage collection and state transfer). The log's own answers ask for outputs.
 use Rattle.std.specs.Prelude.{◌≡◌, ℕ, suc, ◌+◌, ◌%◌, ◌^◌, ◌≤◌, ◌<◌, true, List, [], ◌∷◌, ◌++◌, map, ◌==◌, if◌then◌else◌, Some, None, AllPairs}
 use Rattle.partition_tree.specs.Digests.{root_of as root_of_pages}
 use Rattle.wire.specs.Messages.{MessageData as Message, CheckpointEntryData as CheckpointEntry, pre_prepare as PrePrepare, prepare as Prepare, commit as Commit, checkpoint as Checkpoint}
@@ -13,14 +13,14 @@ use Rattle.protocol.specs.System.Configuration.{Configuration}
 use Rattle.protocol.specs.System.Frames.{IsPosted}
 use Rattle.protocol.specs.System.Trace.{Entry, Once, Has}
 use Rattle.protocol.specs.System.Trace.Entry.{Executed, Installed, Sent}
-use Rattle.protocol.specs.Replica.State.{State, IsState, Ran, last_time, execute, ran_in, root_of, pages_of}
+use Rattle.protocol.specs.Replica.State.{State, IsReplicatedState, Ran, last_time, execute, ran_in, root_of, pages_of}
 use Rattle.protocol.specs.Replica.RightReplica.{others, IsFree, reply_of, still_waiting}
-use Rattle.protocol.specs.Replica.Owed.{IsSaying, Gives, HasRequest, IsNumbered, AreDifferent, IsBegunBelow}
+use Rattle.protocol.specs.Replica.Owed.{IsSaying, SendsMessage, HasRequest, IsNumbered, AreDifferent, IsBegunBelow}
 use Rattle.state_transfer.specs.Transfer.{TransferData}
 use Rattle.replica_histories.specs.Desk.{Desk, Snapshot, snapshot_of, kept_from, desk_from}
 use Rattle.replica_histories.specs.Marks.{checked_log}
-use Rattle.replica_histories.specs.Transfers.{RestsOn, MayAsk, still_open}
-use Rattle.replica_histories.specs.Events.{Start, behind, Fits}
+use Rattle.replica_histories.specs.Transfers.{RestsOnState, MayAsk, still_open}
+use Rattle.replica_histories.specs.Events.{Start, after_outputs, Fits}
 
 -- ---- votes
 
@@ -44,8 +44,8 @@ CommitsFit =
 
 -- ---- a batch of the primary's own
 
--- The number is the next one of the active primary, and the batch is of different requests that are held, none of which
--- has a number.
+-- The number is the next one of the active primary. The batch is of different stored requests, none of which has a
+-- number.
 pub record MayNumber (c : Configuration) (me : ℕ) (desk : Desk) (log : LogData) (history : List Entry) (i : ℕ)
     (batch : List ℕ) : Type 0 where
   pub within : logs.is_in_marks log i ≡ true
@@ -62,7 +62,7 @@ abbrev pub BatchesFit : Type 0
 BatchesFit =
     (c : Configuration) (me : ℕ) (s : Start) (desk : Desk) (log : LogData) (due : List Message) (outputs : List Entry)
     (i : ℕ) (batch bytes : List ℕ)
-    → MayNumber c me desk log (behind s outputs) i batch
+    → MayNumber c me desk log (after_outputs s outputs) i batch
     → IsPosted c me (PrePrepare log.view i batch) (others c me) bytes
     → Fits c me s desk log due outputs → Fits c me s desk (logs.with_batch log i batch) due (Sent me bytes ∷ outputs)
 
@@ -72,15 +72,15 @@ BatchesFit =
 abbrev pub replies_to : List Ran → List Message
 replies_to ran = map (λ r. reply_of r.call.client r.kept) ran
 
--- the checkpoint of a state, where it is kept
+-- the checkpoint of a state, if it is kept
 abbrev pub checkpoint_due : Configuration → State → List Message
 checkpoint_due c st = if st.number % c.period == 0 then Checkpoint st.number (root_of st) ∷ [] else []
 
--- what is kept behind a state
+-- the kept snapshots after a state
 abbrev pub snapshots_behind : Configuration → State → List Snapshot → List Snapshot
 snapshots_behind c st snapshots = if st.number % c.period == 0 then snapshot_of st ∷ snapshots else snapshots
 
--- the desk behind an execution, with these frames still held; a transfer that it reaches is open no more
+-- the desk after an execution, with these frames still stored; a transfer that the execution reaches is closed
 abbrev pub executed_desk : Configuration → Desk → List ℕ → List (List ℕ) → Desk
 executed_desk c desk batch frames = record {
   state = execute c desk.state batch;
@@ -90,13 +90,14 @@ executed_desk c desk batch frames = record {
   transfer = still_open (execute c desk.state batch).number desk.transfer;
 }
 
--- The execution of the batch that the log has committed for the next number, once nothing is due. Its replies are due
--- then, and the checkpoint of the new state. A state has a place for each client's reply, so no request runs twice.
+-- The replica may execute the batch that the log has committed for the next number, once nothing is due. Then the
+-- replies are due, and the checkpoint of the new state. A state has a place for each client's reply, so no request runs
+-- twice.
 abbrev pub ExecutesFit : Type 0
 ExecutesFit =
     (c : Configuration) (me : ℕ) (s : Start) (desk : Desk) (log : LogData) (outputs : List Entry)
     (batch : List ℕ) (frames : List (List ℕ))
-    → IsState desk.state → c.clients ≤ 256
+    → IsReplicatedState desk.state → c.clients ≤ 256
     → logs.committed_batch log (suc desk.state.number) ≡ Some batch
     → ((frame : List ℕ) → Has (λ x. x ≡ frame) frames → Has (λ x. x ≡ frame) desk.frames)
     → Fits c me s desk log [] outputs
@@ -105,7 +106,7 @@ ExecutesFit =
     ++ checkpoint_due c (execute c desk.state batch))
     (Executed me (suc desk.state.number) batch ∷ outputs)
 
--- The first reply that is due.
+-- The replica may send the first due reply.
 abbrev pub RepliesFit : Type 0
 RepliesFit =
     (c : Configuration) (me : ℕ) (s : Start) (desk : Desk) (log : LogData) (rest : List Message) (outputs : List Entry)
@@ -115,8 +116,8 @@ RepliesFit =
 
 -- ---- checkpoints
 
--- The checkpoint that is the first message due, where the log asks for no vote: the log counts it and is cut where that
--- makes it stable, and the snapshots below the low mark go.
+-- The replica may send the checkpoint that is the first due message, if the log asks for no vote. The log counts it,
+-- and is cut if that makes it stable; the snapshots below the low mark are dropped.
 abbrev pub CheckpointsFit : Type 0
 CheckpointsFit =
     (c : Configuration) (me : ℕ) (s : Start) (desk : Desk) (log : LogData) (rest : List Message) (outputs : List Entry)
@@ -129,7 +130,7 @@ CheckpointsFit =
 
 -- ---- installations
 
--- what an installation leaves at the desk, with these frames still held; no transfer is open any more
+-- the desk after an installation, with these frames still stored; no transfer is open any more
 abbrev pub installed_desk : Desk → State → List (List ℕ) → Desk
 installed_desk desk st frames = record {
   state = st;
@@ -139,14 +140,15 @@ installed_desk desk st frames = record {
   transfer = None;
 }
 
--- The installation of the state whose pages a transfer holds that may ask, if they have the root that is wanted, once
--- nothing is due and if the log asks for no vote: the log is cut at its number. No client's last timestamp falls.
+-- The replica may install the state of a transfer's pages under these conditions: the transfer may ask, the pages have
+-- the wanted root, nothing is due, and the log asks for no vote. No client's last timestamp falls. The log is cut at
+-- the state's number.
 abbrev pub InstallationsFit : Type 0
 InstallationsFit =
     (c : Configuration) (me : ℕ) (s : Start) (desk : Desk) (log : LogData) (outputs : List Entry) (t : TransferData)
     (st : State) (frames : List (List ℕ))
-    → MayAsk c me t desk.state.number (behind s outputs) → RestsOn t desk.state → root_of_pages t.held ≡ t.root
-    → IsState st → st.number ≡ t.number → pages_of st ≡ t.held → t.number < 2 ^ 48
+    → MayAsk c me t desk.state.number (after_outputs s outputs) → RestsOnState t desk.state → root_of_pages t.held ≡ t.root
+    → IsReplicatedState st → st.number ≡ t.number → pages_of st ≡ t.held → t.number < 2 ^ 48
     → ((client : ℕ) → last_time desk.state client ≤ last_time st client)
     → ((i : ℕ) → logs.due_prepare log i ≡ None)
     → ((i : ℕ) → logs.due_commit log i ≡ None)
@@ -155,16 +157,17 @@ InstallationsFit =
     → Fits c me s (installed_desk desk st frames) (logs.cut_to log t.number) []
     (Installed me t.number t.root ∷ outputs)
 
--- ---- what goes again
+-- ---- what the replica sends again
 
--- A replica that is active may send again its own prepare of a number, its own commit, and its own batch, which no new
--- view began; a checkpoint that was said may always be sent again. The event has not sent it. All change nothing.
+-- An active replica may send again its own prepare of a number, its own commit, and its own batch, which no new view
+-- assigned. It may always send again a checkpoint that it sent. The event has not sent the message. None of these
+-- changes anything.
 abbrev pub PreparesGoAgain : Type 0
 PreparesGoAgain =
     (c : Configuration) (me : ℕ) (s : Start) (desk : Desk) (log : LogData) (due : List Message) (outputs : List Entry)
     (i : ℕ) (digest bytes : List ℕ)
     → log.active ≡ true → logs.prepare_of log i me ≡ Some digest
-    → (Gives me (Prepare log.view i digest) outputs → ⊥)
+    → (SendsMessage me (Prepare log.view i digest) outputs → ⊥)
     → IsPosted c me (Prepare log.view i digest) (others c me) bytes
     → Fits c me s desk log due outputs → Fits c me s desk log due (Sent me bytes ∷ outputs)
 
@@ -173,7 +176,7 @@ CommitsGoAgain =
     (c : Configuration) (me : ℕ) (s : Start) (desk : Desk) (log : LogData) (due : List Message) (outputs : List Entry)
     (i : ℕ) (digest bytes : List ℕ)
     → log.active ≡ true → logs.commit_of log i me ≡ Some digest
-    → (Gives me (Commit log.view i digest) outputs → ⊥)
+    → (SendsMessage me (Commit log.view i digest) outputs → ⊥)
     → IsPosted c me (Commit log.view i digest) (others c me) bytes
     → Fits c me s desk log due outputs → Fits c me s desk log due (Sent me bytes ∷ outputs)
 
@@ -182,8 +185,8 @@ BatchesGoAgain =
     (c : Configuration) (me : ℕ) (s : Start) (desk : Desk) (log : LogData) (due : List Message) (outputs : List Entry)
     (i : ℕ) (batch bytes : List ℕ)
     → log.active ≡ true → logs.primary log log.view ≡ me → logs.logged_batch log i ≡ Some batch
-    → IsBegunBelow c log.view i (behind s outputs)
-    → (Gives me (PrePrepare log.view i batch) outputs → ⊥)
+    → IsBegunBelow c log.view i (after_outputs s outputs)
+    → (SendsMessage me (PrePrepare log.view i batch) outputs → ⊥)
     → IsPosted c me (PrePrepare log.view i batch) (others c me) bytes
     → Fits c me s desk log due outputs → Fits c me s desk log due (Sent me bytes ∷ outputs)
 
@@ -191,7 +194,7 @@ abbrev pub CheckpointsGoAgain : Type 0
 CheckpointsGoAgain =
     (c : Configuration) (me : ℕ) (s : Start) (desk : Desk) (log : LogData) (outputs : List Entry)
     (k : ℕ) (root bytes : List ℕ)
-    → Once (λ earlier e. IsSaying me (Checkpoint k root) e) (behind s outputs)
-    → (Gives me (Checkpoint k root) outputs → ⊥)
+    → Once (λ earlier e. IsSaying me (Checkpoint k root) e) (after_outputs s outputs)
+    → (SendsMessage me (Checkpoint k root) outputs → ⊥)
     → IsPosted c me (Checkpoint k root) (others c me) bytes
     → Fits c me s desk log [] outputs → Fits c me s desk log [] (Sent me bytes ∷ outputs)

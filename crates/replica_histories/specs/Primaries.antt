@@ -1,5 +1,5 @@
--- When the primary of the view that a replica moves to can't begin it, by what it holds (Castro and Liskov, TOCS 2002, on
--- view changes).
+-- When the primary of the view that a replica moves to can't begin it, by its view-change data (Castro and Liskov, TOCS
+-- 2002, on view changes).
 use Rattle.std.specs.Prelude.{◌≡◌, ℕ, ◌⊎◌, true, false, List, map, Option}
 use Rattle.sha2.specs.Sha256.{sha256}
 use Rattle.wire.specs.Lists.{Each}
@@ -17,11 +17,11 @@ use Rattle.replica_histories.specs.Logs.{FitsLog}
 use Rattle.replica_histories.specs.Events.{LeavesNoView}
 use Rattle.replica_histories.specs.Changes.{Changes, FitsChanges}
 
--- the null batch, or one whose digest is claimed
+-- the null batch, or one with a claimed digest
 abbrev pub IsClaimed : ClaimsData → List ℕ → Type 0
 IsClaimed claims batch = (batch ≡ null_batch) ⊎ Has (λ claim. claim.digest ≡ sha256 batch) claims.logged
 
--- Over no part of the view changes that are held for the view a start and such batches meet the rules.
+-- Over no part of the stored view changes for the view, a start and such batches satisfy the rules.
 abbrev pub SelectsNothing : Configuration → ℕ → List (Option HeldData) → ClaimsData → Type 0
 SelectsNothing c view held claims =
     (part : List (ℕ × ViewChangeData)) (start : ℕ) (root : List ℕ) (batches : List (List ℕ))
@@ -30,7 +30,7 @@ SelectsNothing c view held claims =
 
 -- ---- laws
 
--- So it is where nothing is selected with one batch of each digest that is claimed.
+-- The same, if nothing is selected with one batch of each claimed digest.
 abbrev pub ClaimedSelectNothing : Type 0
 ClaimedSelectNothing =
     (c : Configuration) (view : ℕ) (held : List (Option HeldData)) (claims : ClaimsData)
@@ -44,8 +44,8 @@ FewerSelectNothing =
     → ((claim : Claim) → Has (λ x. x ≡ claim) new.logged → Has (λ x. x ≡ claim) old.logged)
     → SelectsNothing c view held old → SelectsNothing c view held new
 
--- Where nothing is selected, unless the keys are spent, no new view is left that the replica could send as the primary of
--- the view that it moves to.
+-- If nothing is selected, or the keys are spent, the replica has no new view left to send as the primary of the view
+-- that it moves to.
 abbrev pub NoViewsAreLeft : Type 0
 NoViewsAreLeft =
     (c : Configuration) (me : ℕ) (log : LogData) (x : Changes) (history : List Entry) (point : Point)

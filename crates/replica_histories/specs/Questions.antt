@@ -1,5 +1,5 @@
--- What an input may want of a replica: a part of a state that it keeps, or a read; what it sent for a request that
--- waits; that it goes on with a part that comes; or that it moves to another view. What an event owes to it (Castro and
+-- What an input may ask of a replica: a part of a kept state, or a read; the messages that it sent for a waiting
+-- request; to go on with a part that arrives; or to move to another view. And what the event then owes (Castro and
 -- Liskov, TOCS 2002, on state transfer, on read-only operations, and on view changes).
 use Rattle.std.specs.Prelude.{◌≡◌, ℕ, ◌+◌, ◌-◌, ◌≤◌, ◌⊎◌, Bool, true, false, List, ◌∷◌, ◌++◌, Option, Some}
 use Rattle.std.specs.Option.{option_map_or}
@@ -20,7 +20,7 @@ use Rattle.protocol.specs.Replica.Selection.{is_within}
 use Rattle.protocol.specs.Replica.Certificates.{target}
 use Rattle.protocol.specs.Replica.State.{State, Call, tuples}
 use Rattle.protocol.specs.Replica.RightReplica.{Point, IsNewViewChange}
-use Rattle.protocol.specs.Replica.Owed.{Gives, IsAwaitedAlone, TransferGoesOn, HasToMove, AreKeysSpent, WaitsAlready, SendsAgain}
+use Rattle.protocol.specs.Replica.Owed.{SendsMessage, IsAwaitedAlone, TransferGoesOn, HasToMove, AreKeysSpent, WaitsAlready, SendsAgain}
 use Rattle.replica_histories.specs.TransfersAnswers.{AnswersFetches}
 
 -- the reply to a read: the outcome in a state, with that state's number
@@ -36,14 +36,14 @@ abbrev pub ordered_from : Call → Body
 ordered_from call =
     record { sender = 256 + call.client; message = Request call.timestamp modes.Ordered call.op }
 
--- What an event owes to a read, as its input: the reply from the executed state.
+-- An event whose input is a read owes the reply from the executed state.
 abbrev pub AnswersReads : Configuration → ℕ → List Entry → Entry → List Entry → Point → Type 0
 AnswersReads c me before input outputs old =
     (client timestamp : ℕ) (op : Operation) → Hears c me (read_from client timestamp op) before input
-    → is_read_only op ≡ true → Gives me (read_reply old.state client timestamp op) outputs
+    → is_read_only op ≡ true → SendsMessage me (read_reply old.state client timestamp op) outputs
 
--- What it owes to digests, or to a page, as its input: that the transfer which awaits them goes on. executed: the number
--- of the state behind the event.
+-- An event whose input is digests, or a page, owes that the transfer which awaits them goes on. executed: the number of
+-- the state after the event.
 abbrev pub AnswersDigests : Configuration → ℕ → List Entry → Entry → List Entry → Point → ℕ → Type 0
 AnswersDigests c me before input outputs old executed =
     (s k index : ℕ) (level : Level) (digests : List (List ℕ))
@@ -57,13 +57,13 @@ AnswersPages c me before input outputs old executed =
     → IsAwaitedAlone c me before old k levels.Page index (sha256 text)
     → TransferGoesOn c me (input ∷ before) old outputs executed k
 
--- What it owes to a request that waits already: what the replica sent goes again.
+-- An event whose input is a request that waits already owes that the replica sends again what it sent.
 abbrev pub AnswersWaiting : Configuration → ℕ → List Entry → Entry → List Entry → Point → Type 0
 AnswersWaiting c me before input outputs old =
     WaitsAlready c me before input old → SendsAgain c me before old.state.number outputs
 
--- What an event owes where the replica has to move to a view: it has sent a view change for that view, or for a later
--- one. Its keys may be spent, or no frame may say what it has to say.
+-- An event in which the replica has to move to a view owes a view change for that view or a later one, unless its keys
+-- are spent. Only a view change within its bounds that a frame can spell is owed.
 abbrev pub MovesOn : Configuration → ℕ → List Entry → Entry → List Entry → Point → Type 0
 MovesOn c me before input outputs old =
     (vc : ViewChangeData) (bytes : List ℕ) → HasToMove c me before input old.waiting vc.view
@@ -71,7 +71,7 @@ MovesOn c me before input outputs old =
     → said bytes ≡ Some (record { sender = me; message = ViewChange vc })
     → (vc.view ≤ target (outputs ++ input ∷ before)) ⊎ AreKeysSpent before
 
--- What it owes to whatever comes.
+-- All that an event owes to its input.
 abbrev pub AnswersInput : Configuration → ℕ → List Entry → Entry → List Entry → Point → ℕ → Type 0
 AnswersInput c me before input outputs old executed =
     AnswersFetches c me before input outputs old × AnswersReads c me before input outputs old
@@ -102,14 +102,14 @@ is_question body = elim body.message [
 abbrev pub is_part : Body → Bool
 is_part body = elim body.message [ Meta k level index digests ↦ true | Page k index text ↦ true | _ ↦ false ]
 
--- what is heard, if anything, is so
+-- bytes with an authentic body of that kind, if any
 abbrev pub has_part : Option Body → Bool
 has_part body = option_map_or asks_part body false
 
 abbrev pub has_question : Option Body → Bool
 has_question body = option_map_or is_question body false
 
--- bytes are heard to be so; whatever else comes may make the replica move
+-- an input of that kind; an input other than bytes may make the replica move
 abbrev pub brings_part : Configuration → ℕ → Entry → Bool
 brings_part c me (Got p bytes) = has_part (heard (members c) me bytes)
 brings_part c me _ = false
@@ -120,7 +120,7 @@ brings_question c me _ = true
 
 -- ---- laws
 
--- An input that is heard to ask for no part, and to be no request and no part, owes none of these.
+-- An input that asks for no part, and is no request and no part, owes none of these.
 abbrev pub OthersOweNoPart : Type 0
 OthersOweNoPart =
     (c : Configuration) (me : ℕ) (before : List Entry) (input : Entry) (outputs : List Entry) (old : Point)
@@ -129,7 +129,7 @@ OthersOweNoPart =
     × AnswersDigests c me before input outputs old executed × AnswersPages c me before input outputs old executed
     × AnswersWaiting c me before input outputs old
 
--- An input that is heard to ask nothing owes no answer.
+-- An input that asks nothing owes no answer.
 abbrev pub OthersOweNone : Type 0
 OthersOweNone =
     (c : Configuration) (me : ℕ) (before : List Entry) (input : Entry) (outputs : List Entry) (old : Point)

@@ -1,5 +1,5 @@
--- What a replica holds of the view changes of others, in the history's words: of each the latest that counted, in a
--- frame that was seen (Castro and Liskov, TOCS 2002, on view changes).
+-- How the stored view changes of others fit the history: of each replica the latest that counted, in a frame that was
+-- seen (Castro and Liskov, TOCS 2002, on view changes).
 use Rattle.std.specs.Prelude.{◌≡◌, ◌≢◌, ℕ, ◌<◌, List, [], ◌∷◌, length, replicate, Option, Some, None}
 use Rattle.std.specs.Option.{option_map_or}
 use Rattle.wire.specs.Messages.{ViewChangeData}
@@ -13,12 +13,12 @@ use Rattle.protocol.specs.Replica.Owed.{BringsChange}
 use Rattle.view_change.specs.declared.change_fault.ChangeFault.{ChangeFault}
 use Rattle.view_change.specs.ReceivedData.{HeldData, held_of, refusal_of, with_held, AreHeldFrom, later_views, IsJoined}
 
--- the view of what is held of a replica, else 0
+-- the view of a replica's stored view change, else 0
 abbrev pub held_view : List (Option HeldData) → ℕ → ℕ
 held_view held s = option_map_or (λ h. h.change.view) (held_of held s) 0
 
--- Of each other replica the latest view change that counted is held, and it is the one that came; each is held in its
--- sender's place, and each frame that is held was seen.
+-- Of each other replica the latest view change that counted is stored. Each is stored in its sender's place, and each
+-- stored frame was seen.
 pub record FitsReceived (c : Configuration) (me : ℕ) (history : List Entry)
     (held : List (Option HeldData)) : Type 0 where
   pub latest : (s : ℕ) → s ≢ me → latest_change c history s ≡ held_view held s
@@ -29,12 +29,12 @@ pub record FitsReceived (c : Configuration) (me : ℕ) (history : List Entry)
 
 -- ---- laws
 
--- At first nothing is held.
+-- At first none is stored.
 abbrev pub ReceivedBegin : Type 0
 ReceivedBegin = (c : Configuration) (me n : ℕ) → FitsReceived c me [] (replicate n None)
 
--- An entry that brings no view change of others leaves what is held: it isn't got, or its bytes are none that is
--- signed, or none that is taken.
+-- An entry that brings no view change of others leaves the stored ones. It is a sent frame, or its bytes are not
+-- signed, or the replica refuses them.
 abbrev pub ReceivedStays : Type 0
 ReceivedStays =
     (c : Configuration) (me : ℕ) (past : List Entry) (e : Entry) (held : List (Option HeldData))
@@ -58,7 +58,7 @@ RefusedBringNone =
     → signed_change c bytes ≡ Some x → refusal_of c (view c past) held x ≡ Some fault → s ≢ me
     → FitsReceived c me past held → latest_change c (Got me bytes ∷ past) s ≡ latest_change c past s
 
--- One that is taken is held in its sender's place.
+-- A view change that is taken is stored in its sender's place.
 abbrev pub ReceivedTakes : Type 0
 ReceivedTakes =
     (c : Configuration) (me s : ℕ) (bytes : List ℕ) (past : List Entry) (held : List (Option HeldData))
@@ -67,14 +67,15 @@ ReceivedTakes =
     → FitsReceived c me past held
     → FitsReceived c me (Got me bytes ∷ past) (with_held (record { sender = s; change = vc; frame = bytes }) held)
 
--- The own one is held once it is sent.
+-- The replica stores its own view change once it sends it.
 abbrev pub ReceivedOwn : Type 0
 ReceivedOwn =
     (c : Configuration) (me : ℕ) (past : List Entry) (held : List (Option HeldData)) (h : HeldData)
     → h.sender ≡ me → me < length held → FitsReceived c me past held
     → FitsReceived c me (Sent me h.frame ∷ past) (with_held h held)
 
--- More than f of the others that are held are for views above the sought one: the least of these is joined.
+-- If the stored view changes of more than f others are for views above the sought one, the replica joins the least of
+-- these views.
 abbrev pub HeldAreJoined : Type 0
 HeldAreJoined =
     (c judged : Configuration) (me v : ℕ) (history : List Entry) (held : List (Option HeldData))
@@ -82,7 +83,7 @@ HeldAreJoined =
     → IsJoined c.faults (later_views me (sought_view c history) held) v → FitsReceived c me history held
     → JoinsOthers c me history v
 
--- And who is ahead in the history is so by what is held.
+-- And replicas that are ahead in the history are ahead by the stored view changes.
 abbrev pub AheadAreHeld : Type 0
 AheadAreHeld =
     (c judged : Configuration) (me v : ℕ) (history : List Entry) (held : List (Option HeldData))

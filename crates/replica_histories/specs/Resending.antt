@@ -1,4 +1,4 @@
--- The replica that sends again, once a waiting request comes again: what goes, in words of what it holds.
+-- What the replica sends again when a waiting request comes again, in words of its own data.
 use Rattle.std.specs.Prelude.{◌≡◌, ℕ, ◌+◌, ◌≤◌, ◌<◌, true, false, List, Some}
 use Rattle.wire.specs.Messages.{CheckpointEntryData as CheckpointEntry, pre_prepare as PrePrepare, prepare as Prepare, commit as Commit, checkpoint as Checkpoint}
 use Rattle.ordering.specs.Log as logs
@@ -8,7 +8,7 @@ use Rattle.protocol.specs.System.Trace.{Entry, Has, Hears}
 use Rattle.protocol.specs.System.Trace.Entry.{Sent}
 use Rattle.protocol.specs.Replica.State.{Call, last_time}
 use Rattle.protocol.specs.Replica.RightReplica.{Point, Leaves}
-use Rattle.protocol.specs.Replica.Owed.{Gives}
+use Rattle.protocol.specs.Replica.Owed.{SendsMessage}
 use Rattle.view_change.specs.ReceivedData.{HeldData, held_of}
 use Rattle.replica_histories.specs.Desk.{Desk}
 use Rattle.replica_histories.specs.Events.{Holds}
@@ -19,29 +19,30 @@ use Rattle.replica_histories.specs.Changes.{Changes, FitsChanges}
 abbrev pub FrameGoes : ℕ → List ℕ → List Entry → Type 0
 FrameGoes me frame outputs = Has (λ e. e ≡ Sent me frame) outputs
 
--- The log's own prepare and commit of a number are sent, and the primary's batch, if it is above those of the new view.
+-- The replica sends the log's own prepare and commit of a number, and the primary's batch, if it is above those of the
+-- new view.
 pub record RowGoes (me : ℕ) (log : LogData) (begun i : ℕ) (outputs : List Entry) : Type 0 where
   pub batch : (batch : List ℕ) → logs.primary log log.view ≡ me → begun < i → logs.logged_batch log i ≡ Some batch
-      → Gives me (PrePrepare log.view i batch) outputs
+      → SendsMessage me (PrePrepare log.view i batch) outputs
   pub prepare : (digest : List ℕ) → logs.prepare_of log i me ≡ Some digest
-      → Gives me (Prepare log.view i digest) outputs
+      → SendsMessage me (Prepare log.view i digest) outputs
   pub commit : (digest : List ℕ) → logs.commit_of log i me ≡ Some digest
-      → Gives me (Commit log.view i digest) outputs
+      → SendsMessage me (Commit log.view i digest) outputs
 
--- So it is of the numbers above the executed one, and the own new view and the last checkpoint are sent.
+-- It does so for the numbers above the executed one, and sends its own new view and its last checkpoint.
 pub record ViewGoes (me : ℕ) (log : LogData) (x : Changes) (executed : ℕ) (outputs : List Entry) : Type 0 where
   pub new_view : (frame : List ℕ) → x.new_view ≡ Some frame → FrameGoes me frame outputs
   pub rows : (i : ℕ) → executed < i → i ≤ log.low + log.span → RowGoes me log x.begun i outputs
-  pub checkpoint : (m : CheckpointEntry) → x.last_checkpoint ≡ Some m → Gives me (Checkpoint m.number m.digest) outputs
+  pub checkpoint : (m : CheckpointEntry) → x.last_checkpoint ≡ Some m → SendsMessage me (Checkpoint m.number m.digest) outputs
 
--- So does an active replica, and an inactive one sends its own view change.
+-- An active replica does so, and an inactive one sends its own view change.
 pub record AllGoes (me : ℕ) (log : LogData) (x : Changes) (executed : ℕ) (outputs : List Entry) : Type 0 where
   pub active : log.active ≡ true → ViewGoes me log x executed outputs
   pub inactive : log.active ≡ false → (own : HeldData) → held_of x.held me ≡ Some own → FrameGoes me own.frame outputs
 
 -- ---- laws
 
--- Where all that goes, no more is owed to a request that comes again.
+-- If it sends all that, it owes no more to a request that comes again.
 abbrev pub ResendingSuffices : Type 0
 ResendingSuffices =
     (c : Configuration) (me : ℕ) (desk : Desk) (log : LogData) (past : List Entry) (input : Entry)
@@ -49,7 +50,7 @@ ResendingSuffices =
     → FitsChanges c me log x past → Hears c me (ordered_from call) past input
     → AllGoes me log x desk.state.number outputs → AnswersInput c me past input outputs held.of_desk.point executed
 
--- A request that waits has a timestamp above its client's last.
+-- A waiting request has a timestamp above its client's last.
 abbrev pub WaitingAreNew : Type 0
 WaitingAreNew =
     (c : Configuration) (me : ℕ) (history : List Entry) (point : Point) (call : Call) → Leaves c me history point

@@ -1,5 +1,5 @@
--- How a transfer of a state by its parts meets the history of the replica that asks for them (Castro and Liskov, TOCS
--- 2002, on hierarchical state partitions and state transfer).
+-- How a state transfer, part by part, fits the history of the replica that fetches (Castro and Liskov, TOCS 2002, on
+-- hierarchical state partitions and state transfer).
 use Rattle.std.specs.Prelude.{◌≡◌, ℕ, ◌≤◌, ◌<◌, ◌⊎◌, Bool, true, false, List, [], ◌∷◌, length, nat_lt, Option, Some, None, slice_index_or, option_and_then, ⊤}
 use Rattle.std.specs.Bool.{then_some}
 use Rattle.sha2.specs.Sha256.{sha256}
@@ -14,7 +14,7 @@ use Rattle.protocol.specs.System.Trace.{Entry}
 use Rattle.protocol.specs.System.Trace.Entry.{Got, Tick, Executed, Installed, Sent}
 use Rattle.protocol.specs.Replica.Selection.{is_quorum}
 use Rattle.protocol.specs.Replica.Certificates.{count_checkpoints}
-use Rattle.protocol.specs.Replica.State.{State, IsState, pages_of, page_text}
+use Rattle.protocol.specs.Replica.State.{State, IsReplicatedState, pages_of, page_text}
 use Rattle.protocol.specs.Replica.RightReplica.{Point, IsStep, IsRootWanted, IsAskedAgain, MayFetch, still_waiting}
 use Rattle.protocol.specs.Replica.Transfers.{place_from, fetching, asked_last, took, in_place, GotBelow, NoneAsked, IsNext}
 use Rattle.protocol.specs.Replica.Owed.{IsWanted, Counts}
@@ -24,7 +24,7 @@ use Rattle.state_transfer.specs.Transfer.{TransferData, new_transfer, moved_to, 
 
 -- ---- a transfer and a history
 
--- the text that is held of a page, whether it was fetched, and the digests that were got of an inner part's pages
+-- the held text of a page, whether it was fetched, and the received digests of an inner part's pages
 abbrev pub page_held : TransferData → ℕ → List ℕ
 page_held t i = slice_index_or t.held i []
 
@@ -38,7 +38,7 @@ known_below t j = slice_index_or t.page_digests j None
 abbrev pub HasQuorum : Configuration → List Entry → ℕ → List ℕ → Type 0
 HasQuorum c history k root = is_quorum c (count_checkpoints c history (record { number = k; digest = root })) ≡ true
 
--- The root may be fetched, and the digests that are known were got: those below each place whose digest is theirs.
+-- The root may be fetched, and the known digests were received: those below each place with their digest.
 pub record Aims (c : Configuration) (me : ℕ) (t : TransferData) (history : List Entry) : Type 0 where
   pub root_wanted : IsRootWanted c history t.number t.root
   pub inner : (digests : List (List ℕ)) → t.part_digests ≡ Some digests
@@ -47,7 +47,7 @@ pub record Aims (c : Configuration) (me : ℕ) (t : TransferData) (history : Lis
       → GotBelow c me history levels.Inner j (digest_of_children digests) digests
 
 -- The pages that the transfer fetched are those that the replica took by its history, if the newest event goes on for
--- the number next. Between events none goes on; an event that goes on for the transfer's number may ask, or install.
+-- the number `next`. Between events none goes on. An event that goes on for the transfer's number may ask, or install.
 abbrev pub AreTaken : Configuration → ℕ → Option ℕ → TransferData → List Entry → Type 0
 AreTaken c me next t history =
     (i : ℕ) → i < 1024 → took c me next history i ≡ then_some (is_fetched t i) (page_held t i)
@@ -56,23 +56,23 @@ AreTaken c me next t history =
 abbrev pub NoneTaken : Configuration → ℕ → Option ℕ → List Entry → Type 0
 NoneTaken c me next history = (i : ℕ) → i < 1024 → took c me next history i ≡ None
 
--- Its place was asked for last, for its number, which is the greatest that anything was fetched for; and what it
--- fetched was taken.
+-- The transfer's place was asked for last, for its number, the greatest that anything was fetched for. The replica took
+-- the fetched pages.
 pub record FitsTransfer (c : Configuration) (me : ℕ) (t : TransferData) (history : List Entry) : Type 0 where
   pub aims : Aims c me t history
   pub asked : asked_last history ≡ Some (t.number, (t.asked.level, t.asked.index))
   pub newest : fetching history ≡ t.number
   pub taken : AreTaken c me None t history
 
--- It is above the executed number, nothing above it was fetched, and what it fetched is taken by an event that goes on
--- for its number: so its next place may be asked for, or its state installed.
+-- The transfer is above the executed number, and nothing above it was fetched. An event that goes on for its number
+-- takes the fetched pages. So its next place may be asked for, or its state installed.
 pub record MayAsk (c : Configuration) (me : ℕ) (t : TransferData) (number : ℕ) (history : List Entry) : Type 0 where
   pub aims : Aims c me t history
   pub newest : fetching history ≤ t.number
   pub ahead : number < t.number
   pub taken : AreTaken c me (Some t.number) t history
 
--- The place that it asks for is the next part, over the state st, or is asked for again.
+-- The transfer's place is the next part, over the state st, or is asked for again.
 abbrev pub AsksNext : Configuration → ℕ → TransferData → State → List Entry → Type 0
 AsksNext c me t st history =
     IsNext c me history (in_place c me t.number history st) t.number t.root t.asked.level t.asked.index
@@ -82,19 +82,19 @@ AsksNext c me t st history =
 abbrev pub IsTold : TransferData → Type 0
 IsTold t = (digests : List (List ℕ)) × (t.part_digests ≡ Some digests)
 
--- The transfer that is open at a replica of this executed number is above it; if none is, nothing above it was fetched,
--- and no page is taken.
+-- The transfer that is open at a replica of this executed number is above that number. If none is open, nothing above
+-- the number was fetched, and no page is taken.
 abbrev pub FitsOpen : Configuration → ℕ → Option TransferData → ℕ → List Entry → Type 0
 FitsOpen c me None number history = (fetching history ≤ number) × NoneTaken c me None history
 FitsOpen c me (Some t) number history = FitsTransfer c me t history × (number < t.number)
 
--- The pages that were not fetched are those of the state.
-abbrev pub RestsOn : TransferData → State → Type 0
-RestsOn t st = (i : ℕ) → i < 1024 → is_fetched t i ≡ false → page_held t i ≡ page_text st i
+-- The pages that were not fetched are the state's.
+abbrev pub RestsOnState : TransferData → State → Type 0
+RestsOnState t st = (i : ℕ) → i < 1024 → is_fetched t i ≡ false → page_held t i ≡ page_text st i
 
--- ---- what is open
+-- ---- the open transfer
 
--- a transfer starts, or the open one moves; and the number that it has to be above, where this one is executed
+-- a transfer starts, or the open one moves; and the number above which it has to be, if this number is executed
 abbrev pub transfer_to : Option TransferData → ℕ → List ℕ → List (List ℕ) → TransferData
 transfer_to None number root pages = new_transfer number root pages
 transfer_to (Some t) number root pages = moved_to t number root
@@ -112,7 +112,7 @@ abbrev pub place_sent : Entry → Option (ℕ × (Level × ℕ))
 place_sent (Sent p bytes) = option_and_then place_from (said bytes)
 place_sent _ = None
 
--- ---- laws: what is wanted, and counts
+-- ---- laws: wanted digests, and parts that count
 
 -- The digests that a transfer wants are those that the history has for the parts of its state.
 abbrev pub WantedByHistory : Type 0
@@ -121,7 +121,7 @@ WantedByHistory =
     (digest : List ℕ)
     → Aims c me t history → wanted_at t level index ≡ Some digest → IsWanted c me history t.number level index digest
 
--- Digests, and a page, count where the place was asked for and they have the digest that it is to have.
+-- Digests, and a page, count if the place was asked for and they have the digest that it has to have.
 abbrev pub DigestsCount : Type 0
 DigestsCount =
     (c : Configuration) (me : ℕ) (t : TransferData) (history : List Entry) (point : Point) (bytes : List ℕ) (s : ℕ)
@@ -140,13 +140,13 @@ PagesCount =
 
 -- ---- laws: from one entry to the next
 
--- What is got and wanted stays, whatever comes.
+-- Received digests and the wanted root stay, whatever entry follows.
 abbrev pub AimsStay : Type 0
 AimsStay =
     (c : Configuration) (me : ℕ) (t : TransferData) (past : List Entry) (e : Entry)
     → Aims c me t past → Aims c me t (e ∷ past)
 
--- An entry that asks for no part leaves what was asked for last, and for what number.
+-- An entry that asks for no part leaves the last place asked for, and its number.
 abbrev pub AskedStays : Type 0
 AskedStays =
     (past : List Entry) (e : Entry) → place_sent e ≡ None
@@ -156,7 +156,7 @@ AskedStays =
 abbrev pub LeavesState : Entry → Type 0
 LeavesState e = elim e [ Executed r n batch ↦ ⊥ | Installed r n root ↦ ⊥ | _ ↦ ⊤ ]
 
--- If it leaves the state too, what is open stays so.
+-- If it leaves the state too, the open transfer stays.
 abbrev pub OpenStays : Type 0
 OpenStays =
     (c : Configuration) (me : ℕ) (open_one : Option TransferData) (number : ℕ) (past : List Entry) (e : Entry)
@@ -171,9 +171,10 @@ OpenExecutes =
     → number ≤ later → FitsOpen c me open_one number past
     → FitsOpen c me (still_open later open_one) later (Executed me later batch ∷ past)
 
--- ---- laws: what is taken
+-- ---- laws: the parts that a transfer takes
 
--- Digests that are heard, and have the digest that their place is to have: what was got, and what is open.
+-- Received digests, with the digest that their place has to have, are taken: the aims of the transfer fit, and so does
+-- the open transfer.
 abbrev pub DigestsTaken : Type 0
 DigestsTaken =
     (c : Configuration) (me : ℕ) (t : TransferData) (past : List Entry) (bytes : List ℕ) (s n : ℕ) (place : Place)
@@ -193,7 +194,7 @@ DigestsOpen =
     → FitsOpen c me (Some t) number past
     → FitsOpen c me (Some (with_digests t place digests)) number (Got me bytes ∷ past)
 
--- Behind them the transfer may ask for any place: no page came.
+-- After them the transfer may ask for any place, since no page arrived.
 abbrev pub DigestsMayAsk : Type 0
 DigestsMayAsk =
     (c : Configuration) (me : ℕ) (t : TransferData) (number : ℕ) (past : List Entry) (bytes : List ℕ) (s n : ℕ)
@@ -204,7 +205,7 @@ DigestsMayAsk =
     → FitsOpen c me (Some t) number past
     → MayAsk c me (with_digests t place digests) number (Got me bytes ∷ past)
 
--- A page that is heard, and was asked for last, is taken by an event that goes on.
+-- A received page that was asked for last is taken by an event that goes on.
 abbrev pub PagesMayAsk : Type 0
 PagesMayAsk =
     (c : Configuration) (me : ℕ) (t : TransferData) (number : ℕ) (past : List Entry) (bytes : List ℕ)
@@ -214,7 +215,7 @@ PagesMayAsk =
     → FitsOpen c me (Some t) number past
     → MayAsk c me (with_page t index text) number (Got me bytes ∷ past)
 
--- Behind a tick the open transfer may ask again.
+-- After a tick the open transfer may ask again.
 abbrev pub TicksMayAsk : Type 0
 TicksMayAsk =
     (c : Configuration) (me : ℕ) (t : TransferData) (number : ℕ) (st : State) (past : List Entry)
@@ -227,7 +228,7 @@ PagesGiveBack =
     (t : TransferData) (index : ℕ) (text : List ℕ)
     → given_back (with_page t index text) (replaced_at t index) ≡ t
 
--- Pages that were not fetched are put anew.
+-- Pages that were not fetched may be put anew.
 abbrev pub PagesRested : Type 0
 PagesRested =
     (c : Configuration) (me : ℕ) (pages : List (List ℕ)) (old new : TransferData) (number : ℕ)
@@ -254,8 +255,8 @@ TransfersMove =
     (c : Configuration) (me k : ℕ) (root : List ℕ) (t : TransferData) (history : List Entry)
     → IsRootWanted c history k root → Aims c me t history → Aims c me (moved_to t k root) history
 
--- So a quorum above what is executed and open starts a transfer, or moves the open one; and any other above the
--- executed number is at or below what was fetched.
+-- So a quorum above the executed state and the open transfer starts a transfer, or moves the open one. Any other above
+-- the executed number is at or below what was fetched.
 abbrev pub QuorumsOpen : Type 0
 QuorumsOpen =
     (c : Configuration) (me : ℕ) (open_one : Option TransferData) (number k : ℕ) (root : List ℕ)
@@ -275,16 +276,16 @@ MayAskAny =
     (c : Configuration) (me : ℕ) (t : TransferData) (place : Option Place) (number : ℕ) (history : List Entry)
     → MayAsk c me t number history → MayAsk c me (asking place t) number history
 
--- If a transfer may ask, and no fetch was sent in the event, the first place that is missing is the next part.
+-- If a transfer may ask, and the event sent no fetch, the first missing place is the next part.
 abbrev pub NextsAreFirst : Type 0
 NextsAreFirst =
     (c : Configuration) (me : ℕ) (t : TransferData) (st : State) (history : List Entry) (place : Place)
-    → MayAsk c me t st.number history → RestsOn t st → length t.held ≡ 1024 → NoneAsked history → IsTold t
+    → MayAsk c me t st.number history → RestsOnState t st → length t.held ≡ 1024 → NoneAsked history → IsTold t
     → next_place t ≡ Some place
     → IsNext c me history (in_place c me t.number history st) t.number t.root place.level place.index
 
--- A transfer that may ask for its place asks for a part of a state that may be installed; and behind the fetch of its
--- place it is open.
+-- A transfer that may ask for its place asks for a part of a state that may be installed. After the fetch of its place
+-- it is open.
 abbrev pub TransfersMayFetch : Type 0
 TransfersMayFetch =
     (c : Configuration) (me : ℕ) (t : TransferData) (past : List Entry) (point : Point)
@@ -300,34 +301,34 @@ TransfersAsk =
 -- ---- laws: the pages that are not fetched are the state's
 
 abbrev pub StartedRests : Type 0
-StartedRests = (k : ℕ) (root : List ℕ) (st : State) → RestsOn (new_transfer k root (pages_of st)) st
+StartedRests = (k : ℕ) (root : List ℕ) (st : State) → RestsOnState (new_transfer k root (pages_of st)) st
 
 abbrev pub DigestsRest : Type 0
 DigestsRest =
-    (t : TransferData) (st : State) (place : Place) (digests : List (List ℕ)) → RestsOn t st
-    → RestsOn (with_digests t place digests) st
+    (t : TransferData) (st : State) (place : Place) (digests : List (List ℕ)) → RestsOnState t st
+    → RestsOnState (with_digests t place digests) st
 
 abbrev pub PagesRest : Type 0
 PagesRest =
     (t : TransferData) (st : State) (index : ℕ) (text : List ℕ) → length t.fetched ≡ 1024 → index < 1024
-    → RestsOn t st → RestsOn (with_page t index text) st
+    → RestsOnState t st → RestsOnState (with_page t index text) st
 
 abbrev pub RestedRests : Type 0
-RestedRests = (old new : TransferData) (st : State) → IsRested old (pages_of st) new → RestsOn new st
+RestedRests = (old new : TransferData) (st : State) → IsRested old (pages_of st) new → RestsOnState new st
 
 -- ---- law: a state is installed
 
--- the point behind it
+-- the point after it
 abbrev pub installed_point : Point → State → Point
 installed_point old st =
     record { state = st; snapshots = st ∷ old.snapshots; ran = old.ran; waiting = still_waiting st old.waiting }
 
--- If a transfer may ask, and all that it holds has the root and is the pages of a state of its number, that state may be
--- installed, and nothing above it was fetched.
+-- If a transfer may ask, and its held pages have the root and are those of a state of its number, that state may be
+-- installed. Then nothing above it was fetched.
 abbrev pub TransfersInstall : Type 0
 TransfersInstall =
     (c : Configuration) (me : ℕ) (t : TransferData) (past : List Entry) (point : Point) (st : State)
-    → MayAsk c me t point.state.number past → RestsOn t point.state → root_of_pages t.held ≡ t.root
-    → IsState st → st.number ≡ t.number → pages_of st ≡ t.held
+    → MayAsk c me t point.state.number past → RestsOnState t point.state → root_of_pages t.held ≡ t.root
+    → IsReplicatedState st → st.number ≡ t.number → pages_of st ≡ t.held
     → IsStep c me past point (Installed me t.number t.root) (installed_point point st)
     × FitsOpen c me None st.number (Installed me t.number t.root ∷ past)

@@ -1,5 +1,5 @@
--- The parts of kept states that others fetch: which answer a fetch gets, that it may be sent, and that no other is owed
--- (Castro and Liskov, TOCS 2002, on state transfer).
+-- The parts of kept states that others fetch: the answer to a fetch, that it may be sent, and that the replica owes no
+-- other (Castro and Liskov, TOCS 2002, on state transfer).
 use Rattle.std.specs.Prelude.{◌≡◌, ℕ, true, List, [], ◌∷◌, map, reverse, slice_index_or, ⊤}
 use Rattle.terms.specs.declared.state.Level.{Level}
 use Rattle.terms.specs.declared.state.Level.TheVariants as levels
@@ -17,7 +17,7 @@ use Rattle.protocol.specs.Replica.RightReplica.{Point, Leaves, MaySay, IsFor, Ke
 use Rattle.protocol.specs.Replica.Owed.{IsSayingTo, GivesTo, Counts}
 use Rattle.replica_histories.specs.Desk.{Snapshot, snapshot_of}
 
--- what a fetch of a place gets of a state, and the same of the state's pages: the digests below it, or the page
+-- the answer to a fetch of a place, from a state, and from its pages: the digests below the place, or the page
 abbrev pub answer_of : State → ℕ → Level → ℕ → Message
 answer_of st k levels.Root index = Meta k levels.Root index (digests_at st levels.Root index)
 answer_of st k levels.Inner index = Meta k levels.Inner index (digests_at st levels.Inner index)
@@ -32,13 +32,13 @@ answer_by pages k levels.Page index = Page k index (slice_index_or pages index [
 abbrev pub KeptPages : Configuration → ℕ → List Entry → Point → ℕ → List (List ℕ) → Type 0
 KeptPages c me past point k pages = KeptState c me past point k (λ st. pages_of st ≡ pages)
 
--- What an event owes to a fetch, as its input: of the kept state of the number, the answer to whoever asks.
+-- An event whose input is a fetch owes the answer from the kept state of the number, to whoever asks.
 abbrev pub AnswersFetches : Configuration → ℕ → List Entry → Entry → List Entry → Point → Type 0
 AnswersFetches c me before input outputs old =
     (s k index : ℕ) (level : Level) → Hears c me (record { sender = s; message = Fetch k level index }) before input
     → (st : State) → KeptState c me before old k (λ x. x ≡ st) → GivesTo me s (answer_of st k level index) outputs
 
--- ---- laws: what is kept
+-- ---- laws: kept states
 
 -- No two kept states have one number.
 abbrev pub KeptAreOne : Type 0
@@ -47,7 +47,7 @@ KeptAreOne =
     → Leaves c me history point → KeptState c me history point k (λ x. x ≡ st)
     → KeptState c me history point k (λ x. x ≡ other) → st ≡ other
 
--- A snapshot of what is kept has the pages of a kept state; and each kept state has its snapshot.
+-- Each kept snapshot has the pages of a kept state, and each kept state has its snapshot.
 abbrev pub SnapshotsAreKept : Type 0
 SnapshotsAreKept =
     (c : Configuration) (me : ℕ) (history : List Entry) (point : Point) (snapshots : List Snapshot)
@@ -70,7 +70,7 @@ FetchesCount =
     (pages : List (List ℕ))
     → KeptPages c me past point k pages → Counts c me past point bytes s (Fetch k level index)
 
--- Its answer may be said, to whoever asked; and what is posted so is said to that replica.
+-- Its answer may be sent, to whoever asked; and a frame sealed for that replica alone is said to it.
 abbrev pub AnswersMayGo : Type 0
 AnswersMayGo =
     (c : Configuration) (me : ℕ) (past : List Entry) (point : Point) (e : Entry) (bytes : List ℕ) (s k index : ℕ)
@@ -85,7 +85,7 @@ PostedToOne =
     (c : Configuration) (me s : ℕ) (message : Message) (bytes : List ℕ)
     → IsPosted c me message (s ∷ []) bytes → IsSayingTo me s message (Sent me bytes)
 
--- Where it is given, no more is owed; nor is anything where no state of the number is kept.
+-- If the replica sends it, it owes no more. If no state of the number is kept, it owes nothing.
 abbrev pub AnswersSuffice : Type 0
 AnswersSuffice =
     (c : Configuration) (me : ℕ) (before : List Entry) (input : Entry) (outputs : List Entry) (old : Point)
@@ -101,7 +101,7 @@ NoneIsOwed =
     → Hears c me (record { sender = s; message = Fetch k level index }) before input
     → (KeptState c me before old k (λ st. ⊤) → ⊥) → AnswersFetches c me before input outputs old
 
--- What is given stays given, in whatever order outputs stand.
+-- An answer among outputs stays there when outputs are added or reversed.
 abbrev pub AnswersStay : Type 0
 AnswersStay =
     (c : Configuration) (me : ℕ) (before : List Entry) (input e : Entry) (outputs : List Entry) (old : Point)
@@ -112,7 +112,7 @@ AnswersTurn =
     (c : Configuration) (me : ℕ) (before : List Entry) (input : Entry) (outputs : List Entry) (old : Point)
     → AnswersFetches c me before input outputs old → AnswersFetches c me before input (reverse outputs) old
 
--- It is what is owed of digests and of pages.
+-- It is exactly the answer that is owed to fetches of digests and of pages.
 abbrev pub AnswersInParts : Type 0
 AnswersInParts =
     (c : Configuration) (me : ℕ) (before : List Entry) (input : Entry) (outputs : List Entry) (old : Point)

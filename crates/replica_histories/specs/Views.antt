@@ -16,25 +16,25 @@ use Rattle.protocol.specs.System.Trace.Entry.{Got, Tick, Sent}
 use Rattle.protocol.specs.Replica.Selection.{is_within}
 use Rattle.protocol.specs.Replica.Certificates.{view, target, taken, latest_change}
 use Rattle.protocol.specs.Replica.RightReplica.{Point, HasSeen, SentBefore, HasOwnLeaf, IsPreparedList, IsPrePreparedList, TimesOut, JoinsOthers, sought_view, Leaves, IsNewViewChange, kept_states}
-use Rattle.protocol.specs.Replica.Owed.{Gives, Counts}
+use Rattle.protocol.specs.Replica.Owed.{SendsMessage, Counts}
 use Rattle.view_change.specs.ClaimsView.{ClaimsData}
 use Rattle.replica_histories.specs.Claims.{FitsClaims}
 use Rattle.replica_histories.specs.Desk.{Desk, Snapshot, desk_from, snapshot_of}
 use Rattle.replica_histories.specs.Logs.{FitsLog}
 use Rattle.replica_histories.specs.Transfers.{MayAsk, AsksNext, transfer_to, open_number}
-use Rattle.replica_histories.specs.Events.{Start, behind, Fits, Holds, start_at}
+use Rattle.replica_histories.specs.Events.{Start, after_outputs, Fits, Holds, start_at}
 
 -- ---- leaving a view
 
--- what a view change lists of kept states: their numbers and roots, ascending
+-- how a view change lists kept states: their numbers and roots, ascending
 abbrev pub entry_of : Snapshot → CheckpointEntry
 entry_of snapshot = record { number = snapshot.number; digest = root_of_pages snapshot.pages }
 
 abbrev pub entries_of : List Snapshot → List CheckpointEntry
 entries_of snapshots = reverse (map entry_of snapshots)
 
--- The view change says what the history says, for a view above the own one and above those that were said before. It
--- has a reason.
+-- The view change is that of the history, for a view above the current one and above the views of earlier view changes.
+-- It has a reason.
 pub record IsChange (c : Configuration) (me : ℕ) (desk : Desk) (log : LogData) (history : List Entry)
     (vc : ViewChangeData) : Type 0 where
   pub above : log.view < vc.view
@@ -46,25 +46,24 @@ pub record IsChange (c : Configuration) (me : ℕ) (desk : Desk) (log : LogData)
   pub pre_prepared : IsPrePreparedList c me history vc.pre_prepared
   pub reason : TimesOut c me history desk.waiting vc.view ⊎ JoinsOthers c me history vc.view
 
--- A tick began the event, and a request waits or the replica was inactive: this is a reason to move to the next view.
+-- If a tick began the event, and a request waits or the replica was inactive, it has a reason to move to the next view.
 abbrev pub TicksAreReasons : Type 0
 TicksAreReasons =
     (c : Configuration) (me v : ℕ) (s : Start) (desk : Desk) (log : LogData) (due : List Message) (outputs : List Entry)
     → s.input ≡ Tick me → (desk.waiting ≢ []) ⊎ (view c s.before < target s.before) → v ≡ suc (sought_view c s.before)
-    → Fits c me s desk log due outputs → TimesOut c me (behind s outputs) desk.waiting v
+    → Fits c me s desk log due outputs → TimesOut c me (after_outputs s outputs) desk.waiting v
 
--- Where the log asks for no commit, such a view change may be sent, by a leaf of its own, and the replica leaves its
--- view.
+-- If the log asks for no commit, the replica may send such a view change, by a leaf of its own, and leaves its view.
 abbrev pub ViewChangesFit : Type 0
 ViewChangesFit =
     (c : Configuration) (me : ℕ) (s : Start) (desk : Desk) (log : LogData) (due : List Message) (outputs : List Entry)
     (vc : ViewChangeData) (bytes : List ℕ)
     → ((i : ℕ) → logs.due_commit log i ≡ None)
-    → IsChange c me desk log (behind s outputs) vc
-    → IsPosted c me (ViewChange vc) [] bytes → HasOwnLeaf bytes (behind s outputs)
+    → IsChange c me desk log (after_outputs s outputs) vc
+    → IsPosted c me (ViewChange vc) [] bytes → HasOwnLeaf bytes (after_outputs s outputs)
     → Fits c me s desk log due outputs → Fits c me s desk (logs.left log) due (Sent me bytes ∷ outputs)
 
--- A new view change that a frame says is the one of what is held.
+-- A new view change that a frame spells has the replica's own data.
 abbrev pub NewChangesAreOne : Type 0
 NewChangesAreOne =
     (c : Configuration) (me : ℕ) (desk : Desk) (log : LogData) (history : List Entry) (point now : Point)
@@ -81,13 +80,13 @@ NewChangesAreOne =
       pre_prepared = claims.logged;
     }
 
--- The last one goes again while the replica is active no more, where the event has not sent it.
+-- An inactive replica may send its last view change again, if the event has not sent it.
 abbrev pub ViewChangesGoAgain : Type 0
 ViewChangesGoAgain =
     (c : Configuration) (me : ℕ) (s : Start) (desk : Desk) (log : LogData) (due : List Message) (outputs : List Entry)
     (vc : ViewChangeData) (bytes : List ℕ)
-    → log.view < target (behind s outputs) → vc.view ≡ target (behind s outputs)
-    → SentBefore bytes (behind s outputs) → (Gives me (ViewChange vc) outputs → ⊥)
+    → log.view < target (after_outputs s outputs) → vc.view ≡ target (after_outputs s outputs)
+    → SentBefore bytes (after_outputs s outputs) → (SendsMessage me (ViewChange vc) outputs → ⊥)
     → IsPosted c me (ViewChange vc) [] bytes
     → Fits c me s desk log due outputs → Fits c me s desk log due (Sent me bytes ∷ outputs)
 
@@ -99,16 +98,16 @@ with_batches log i [] = log
 with_batches log i (batch ∷ batches) =
     with_batches (if logs.is_in_marks log i then logs.with_batch log i batch else log) (suc i) batches
 
--- the log where a new view begins: in its view, cut at its start, with its batches
+-- the log when a new view begins: in its view, cut at its start, with its batches
 abbrev pub begun_log : LogData → NewViewData → LogData
 begun_log log new = with_batches (logs.cut_to (logs.entered log new.view) new.start) (suc new.start) new.batches
 
--- The state at its start is to be fetched, where that is above what is executed and open.
+-- The fetch of the state at its start is due, if that is above the executed state and the open transfer.
 abbrev pub start_due : Desk → NewViewData → List Message
 start_due desk new =
     if nat_lt (open_number desk.state.number desk.transfer) new.start then Fetch new.start levels.Root 0 ∷ [] else []
 
--- A new view that is got and taken begins an event.
+-- A received new view that the replica takes begins an event.
 abbrev pub NewViewsEnter : Type 0
 NewViewsEnter =
     (c : Configuration) (me : ℕ) (desk : Desk) (log : LogData) (past : List Entry) (s : ℕ) (new : NewViewData)
@@ -118,45 +117,46 @@ NewViewsEnter =
     → Fits c me (start_at c me desk log past held (Got me bytes)) (desk_from (begun_log log new).low desk)
     (begun_log log new) (start_due desk new) []
 
--- The primary of a view sends one where, got, it would be taken, over view changes and requests that it has seen, by a
--- leaf of its own, where nothing is due, the log asks for no commit, and no batch is committed for the next number.
+-- The primary of a view may send a new view that it would take if it received it. The new view is over view changes and
+-- requests that it has seen, and has a leaf of its own. Nothing is due, the log asks for no commit, and no batch is
+-- committed for the next number.
 abbrev pub NewViewsFit : Type 0
 NewViewsFit =
     (c : Configuration) (me : ℕ) (s : Start) (desk : Desk) (log : LogData) (outputs : List Entry) (new : NewViewData)
     (bytes : List ℕ)
     → ((i : ℕ) → logs.due_commit log i ≡ None) → logs.committed_batch log (suc desk.state.number) ≡ None
     → primary c new.view ≡ me
-    → taken c (behind s outputs) (Sent me bytes) ≡ Some new
-    → Each (λ frame. Once (HasSeen frame) (behind s outputs)) (carried (NewView new))
-    → IsPosted c me (NewView new) [] bytes → HasOwnLeaf bytes (behind s outputs)
+    → taken c (after_outputs s outputs) (Sent me bytes) ≡ Some new
+    → Each (λ frame. Once (HasSeen frame) (after_outputs s outputs)) (carried (NewView new))
+    → IsPosted c me (NewView new) [] bytes → HasOwnLeaf bytes (after_outputs s outputs)
     → Fits c me s desk log [] outputs
     → Fits c me s (desk_from (begun_log log new).low desk) (begun_log log new) (start_due desk new)
     (Sent me bytes ∷ outputs)
 
--- It goes again while the replica is active in its view, where the event has not sent it.
+-- It may send it again while it is active in its view, if the event has not sent it.
 abbrev pub NewViewsGoAgain : Type 0
 NewViewsGoAgain =
     (c : Configuration) (me : ℕ) (s : Start) (desk : Desk) (log : LogData) (due : List Message) (outputs : List Entry)
     (new : NewViewData) (bytes : List ℕ)
     → log.active ≡ true → new.view ≡ log.view → primary c new.view ≡ me
-    → SentBefore bytes (behind s outputs) → (Gives me (NewView new) outputs → ⊥)
+    → SentBefore bytes (after_outputs s outputs) → (SendsMessage me (NewView new) outputs → ⊥)
     → IsPosted c me (NewView new) [] bytes
     → Fits c me s desk log due outputs → Fits c me s desk log due (Sent me bytes ∷ outputs)
 
--- The start's state may be fetched then, by a new transfer or the open one, moved.
+-- Then a new transfer, or the open one, moved, may fetch the state at the start.
 abbrev pub StartsMayAsk : Type 0
 StartsMayAsk =
     (c : Configuration) (me : ℕ) (s : Start) (desk : Desk) (log : LogData) (due : List Message) (outputs : List Entry)
     (new : NewViewData) (pages : List (List ℕ))
-    → Once (λ past e. taken c past e ≡ Some new) (behind s outputs)
+    → Once (λ past e. taken c past e ≡ Some new) (after_outputs s outputs)
     → open_number desk.state.number desk.transfer < new.start
     → Fits c me s desk log due outputs
-    → MayAsk c me (transfer_to desk.transfer new.start new.root pages) desk.state.number (behind s outputs)
-    × AsksNext c me (transfer_to desk.transfer new.start new.root pages) desk.state (behind s outputs)
+    → MayAsk c me (transfer_to desk.transfer new.start new.root pages) desk.state.number (after_outputs s outputs)
+    × AsksNext c me (transfer_to desk.transfer new.start new.root pages) desk.state (after_outputs s outputs)
 
 -- ---- which messages count
 
--- A view change counts that is above the own view, within its bounds, and newer than its sender's last.
+-- A view change counts if it is above the current view, within its bounds, and newer than its sender's last.
 abbrev pub ViewChangesCount : Type 0
 ViewChangesCount =
     (c : Configuration) (me : ℕ) (log : LogData) (past : List Entry) (point : Point) (s : ℕ) (vc : ViewChangeData)

@@ -1,17 +1,17 @@
-//! Laws of what a replica holds for changes of its view.
+//! Laws of a replica's view-change data.
 
 ghost use Rattle.replica_histories.specs.Changes.{ChangesBegin, ChangesStay, CheckpointsAreNoted, CheckpointsAreLatest, CommitsAreClaimed, BatchesAreClaimed, ChangesAreSent, ChangesAreTaken, ViewsAreBegun, SentKeep, SilentKeep, GotKeep, HeardKeep, OthersBringNone, HeardAreSigned, OwnAreSigned, ClaimsAreAbove, OutputsPass, InputsEnter, AllAreSpent, NextLeafIsOwn};
 ghost use Rattle.replica_histories.specs.Primaries.{ClaimedSelectNothing, FewerSelectNothing, NoViewsAreLeft};
 
-/// The logs fit the histories before each entry and behind it.
+/// The logs fit the histories before and after each entry.
 pub fn entries_pass()
     ensures outputs { OutputsPass }
     ensures inputs { InputsEnter }
 {}
 
-/// Which entries bring nothing about for changes of the view: what is said that was said or logged before, what is
-/// silent, and what is got that is no pre-prepare, or of which the log takes no batch, and that is no view change. View
-/// changes that are heard are signed by their senders, and so are the own.
+/// Which entries change no view-change data: messages that were sent or logged before; silent entries; and received
+/// bytes that are no view change, and no pre-prepare or one of which the log takes no batch. The senders of received
+/// view changes signed them, and the replica signs its own.
 pub fn entries_keep_changes()
     ensures sent { SentKeep }
     ensures silent { SilentKeep }
@@ -22,8 +22,8 @@ pub fn entries_keep_changes()
     ensures own { OwnAreSigned }
 {}
 
-/// What a replica holds for changes of its view fits its history from entry to entry: it stays where an entry brings
-/// nothing about, and what is logged or committed is claimed (Castro and Liskov, TOCS 2002, on view changes).
+/// A replica's view-change data fit its history from entry to entry. They stay if an entry changes nothing, and claim
+/// each batch that is logged or committed (Castro and Liskov, TOCS 2002, on view changes).
 pub fn changes_stay()
     ensures begin { ChangesBegin }
     ensures stay { ChangesStay }
@@ -32,29 +32,28 @@ pub fn changes_stay()
     ensures batches { BatchesAreClaimed }
 {}
 
-/// The checkpoint of the executed state is the latest of the own once it is sent, and is noted as that.
+/// The checkpoint of the executed state is the replica's latest once it is sent, and the data note it.
 pub fn checkpoints_are_noted()
     ensures noted { CheckpointsAreNoted }
     ensures latest { CheckpointsAreLatest }
 {}
 
-/// So are the view changes that it sends and takes, and the new view that begins its view.
+/// The data have the view changes that the replica sends and takes, and the new view that begins its view.
 pub fn changes_are_made()
     ensures sent { ChangesAreSent }
     ensures taken { ChangesAreTaken }
     ensures begun { ViewsAreBegun }
 {}
 
-/// Leaves sign in their order: the next one has signed no frame that was sent. Each one before it has signed a frame
-/// that was sent; so the keys are spent once 64 are.
+/// Leaves sign in their order: the next one has signed no sent frame, and each one before it has signed one. So the
+/// keys are spent once 64 are.
 pub fn leaves_are_spent()
     ensures all { AllAreSpent }
     ensures next { NextLeafIsOwn }
 {}
 
-/// A primary that selects nothing over the view changes that it holds for the view that it moves to, with a batch of
-/// each digest that it claims, has no new view left to send by its history (Castro and Liskov, TOCS 2002, on view
-/// changes).
+/// A primary may select nothing over its stored view changes for the view that it moves to, with a batch of each
+/// claimed digest. Then it has no new view left to send by its history (Castro and Liskov, TOCS 2002, on view changes).
 pub fn no_views_are_left()
     ensures claimed { ClaimedSelectNothing }
     ensures fewer { FewerSelectNothing }

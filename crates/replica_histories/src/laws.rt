@@ -14,17 +14,18 @@ ghost use Rattle.replica_histories.specs.Fetching.{FetchesFit, DueFetchesFit, Qu
 ghost use Rattle.replica_histories.specs.Answering.{PartsFit, KeptFetchesCount, PartsSuffice, OtherNumbersOweNone, ReadsFit, ReadsSuffice, OtherOperationsOweNone};
 ghost use Rattle.replica_histories.specs.Numbers.{FirstNumbersFit, LogsAreOfNoLaterView, LaterNumberNothing, ViewsBegin, NumbersStay, OthersKeepNumbers, BatchesKeepNumbers, NumbersFit, NextIsFree, RequestsFit, InputsKeepNumbers, StatesFit, ExecutionsRaise, NumbersAreGiven, NumbersLeaveFewer, StatesLeaveNoMore};
 
-/// Where desk and log fit the history behind an event's outputs, nothing is due, nothing is left owed and what was
-/// asked is answered, they hold of that history, and so on at the next event. Between events nothing is left owed.
+/// An event ends if desk and log fit the history after its outputs, nothing is due, the replica owes nothing more and
+/// the input is answered. Then they fit that history between events, and the next event may begin. Between events the
+/// replica owes nothing.
 pub fn events_end()
     ensures end { EventsEnd }
     ensures settled { HeldAreSettled }
 {}
 
-/// What fits a history fits the one with an output more: the prepare or the commit that the log asks for, the primary's
-/// own batch for a free number, the execution of what the log has committed next, the first reply or checkpoint that is
-/// due, and the installation of the state whose pages the open transfer has (Castro and Liskov, TOCS 2002, on
-/// normal-case operation, garbage collection and state transfer).
+/// Desk and log that fit a history fit the one with an output more. It is a prepare or commit that the log asks for;
+/// the primary's own batch for a free number; the execution of the batch that the log has committed next; the first due
+/// reply or checkpoint; or the installation of the state whose pages the open transfer has (Castro and Liskov, TOCS
+/// 2002, on normal-case operation, garbage collection and state transfer).
 pub fn outputs_fit()
     ensures prepares { PreparesFit }
     ensures commits { CommitsFit }
@@ -35,8 +36,7 @@ pub fn outputs_fit()
     ensures installations { InstallationsFit }
 {}
 
-/// The replica's own votes and batches that stand in the log, and a checkpoint that it said, may be sent again, and
-/// change nothing.
+/// The replica may send again its own votes and batches in the log, and a checkpoint that it sent. They change nothing.
 pub fn own_go_again()
     ensures prepares { PreparesGoAgain }
     ensures commits { CommitsGoAgain }
@@ -44,16 +44,16 @@ pub fn own_go_again()
     ensures checkpoints { CheckpointsGoAgain }
 {}
 
-/// Desk and log behind an input fit, and begin an event.
+/// Desk and log after an input fit, and begin an event.
 pub fn inputs_fit()
     ensures got { InputsFit }
     ensures checkpoints { CheckpointsEnter }
     ensures ticked { TicksFit }
 {}
 
-/// An ordering message that the log has no fault for counts, and the log takes it; so does a checkpoint that is one of
-/// its sender's latest then. A request counts where its reply is kept, or where it is newer than what ran and not older
-/// than what waits.
+/// An ordering message without a fault counts, and the log takes it; so does a checkpoint that is one of its sender's
+/// latest then. A request counts if its reply is kept, or if it is newer than its client's last executed one and not
+/// older than its waiting one.
 pub fn messages_count()
     ensures batches { BatchesCount }
     ensures prepares { PreparesCount }
@@ -62,8 +62,8 @@ pub fn messages_count()
     ensures requests { RequestsCount }
 {}
 
-/// An ordering message or checkpoint that the log has a fault for changes nothing, nor does a checkpoint that isn't one
-/// of its sender's latest, or any other message.
+/// An ordering message or checkpoint with a fault changes nothing, nor does a checkpoint that isn't one of its sender's
+/// latest, or any other message.
 pub fn messages_drop()
     ensures batches { BatchesDrop }
     ensures prepares { PreparesDrop }
@@ -79,8 +79,8 @@ pub fn inputs_pass()
     ensures ticked { TicksPass }
 {}
 
-/// A checkpoint that becomes stable moves the marks, and cuts the log; so does an installation. A log that is cut asks
-/// for no more than before. Nothing above the low mark is stable (Castro and Liskov, TOCS 2002, on garbage collection).
+/// A checkpoint that becomes stable moves the marks, and cuts the log; so does an installation. A cut log asks for no
+/// more than before. Nothing above the low mark is stable (Castro and Liskov, TOCS 2002, on garbage collection).
 pub fn marks_move()
     ensures marks { MarksMove }
     ensures installations { InstallationsMove }
@@ -89,23 +89,23 @@ pub fn marks_move()
     ensures cut { StableAreCut }
 {}
 
-/// The opening state and a new log hold of the empty history, and each history of which desk and log hold is that of a
-/// correct replica.
+/// The opening state and a new log fit the empty history. Each history that desk and log fit between events is that of
+/// a correct replica.
 pub fn histories_are_replicas()
     ensures first { FirstHold }
     ensures replicas { HeldAreReplicas }
 {}
 
-/// What a transfer wants is what the history has for the parts of its state, and such parts count (Castro and Liskov,
-/// TOCS 2002, on state transfer).
+/// A transfer wants the digests that the history has for the parts of its state, and such parts count (Castro and
+/// Liskov, TOCS 2002, on state transfer).
 pub fn parts_count()
     ensures wanted { WantedByHistory }
     ensures digests { DigestsCount }
     ensures pages { PagesCount }
 {}
 
-/// Whatever comes leaves what is wanted and was got. An entry that asks for no part and leaves the state leaves what is
-/// open; an execution ends a transfer if it reaches the transfer's number.
+/// Any entry leaves the wanted root and the received digests. An entry that asks for no part and leaves the state
+/// leaves the open transfer. An execution ends a transfer if it reaches the transfer's number.
 pub fn transfers_stay()
     ensures aims { AimsStay }
     ensures asked { AskedStays }
@@ -113,9 +113,9 @@ pub fn transfers_stay()
     ensures executes { OpenExecutes }
 {}
 
-/// Digests that are heard are taken, and leave a transfer open that may ask on. A page that was asked for last is taken
-/// by an event that goes on; one that is given back leaves all as it was. Pages that were not fetched may be put anew,
-/// if the replica's own state changed.
+/// A transfer takes received digests, stays open and may ask on. A page that was asked for last is taken by an event
+/// that goes on; one that is given back leaves all as it was. Pages that were not fetched may be put anew, if the
+/// replica's own state changed.
 pub fn parts_are_taken()
     ensures digests { DigestsTaken }
     ensures digests_open { DigestsOpen }
@@ -125,8 +125,8 @@ pub fn parts_are_taken()
     ensures rested { PagesRested }
 {}
 
-/// Where a quorum of checkpoints has a root above what is executed and open, a transfer of it starts, or the open one
-/// moves to it; and nothing lower is owed.
+/// If a quorum of checkpoints has a root above the executed state and the open transfer, a transfer to it starts, or
+/// the open one moves to it. The replica owes nothing lower.
 pub fn transfers_begin()
     ensures wanted { QuorumsWant }
     ensures start { TransfersStart }
@@ -135,8 +135,8 @@ pub fn transfers_begin()
     ensures lower { LowerAreFetched }
 {}
 
-/// A transfer asks for parts of a state that may be installed, each the first that differs from what is in place, and
-/// is open behind the fetch of its place, also if it asks again at a tick.
+/// A transfer asks for parts of a state that may be installed, each the first that differs from what is in place. It is
+/// open after the fetch of its place, also if it asks again on a tick.
 pub fn transfers_ask()
     ensures again { TicksMayAsk }
     ensures any { MayAskAny }
@@ -145,8 +145,8 @@ pub fn transfers_ask()
     ensures ask { TransfersAsk }
 {}
 
-/// The pages that were not fetched stay those of the replica's state; and where all that is held has the root, a state
-/// of these pages may be installed.
+/// The pages that were not fetched stay those of the replica's state. If all held pages have the root, a state of these
+/// pages may be installed.
 pub fn transfers_install()
     ensures started { StartedRests }
     ensures digests { DigestsRest }
@@ -155,7 +155,7 @@ pub fn transfers_install()
     ensures install { TransfersInstall }
 {}
 
-/// No two kept states have one number, and the snapshots that are kept are theirs, none below the low mark.
+/// No two kept states have one number, and the kept snapshots are theirs, none below the low mark.
 pub fn kept_are_one()
     ensures one { KeptAreOne }
     ensures snapshots { SnapshotsAreKept }
@@ -163,8 +163,8 @@ pub fn kept_are_one()
     ensures above { KeptAreAbove }
 {}
 
-/// A fetch of a kept state counts, the part that it asks for may be sent to whoever asked, and nothing more is owed to
-/// it (Castro and Liskov, TOCS 2002, on state transfer).
+/// A fetch of a kept state counts, the requested part may be sent to whoever asked, and the replica owes nothing more
+/// to it (Castro and Liskov, TOCS 2002, on state transfer).
 pub fn fetches_are_answered()
     ensures counts { FetchesCount }
     ensures may { AnswersMayGo }
@@ -176,9 +176,9 @@ pub fn fetches_are_answered()
     ensures parts { AnswersInParts }
 {}
 
-/// An entry makes a quorum for the checkpoint alone that it brings; and each quorum above the executed number has its
-/// root fetched in the event that makes it, as has the start of a new view in the event that takes it (Castro and
-/// Liskov, TOCS 2002, on state transfer).
+/// An entry can complete a quorum only for the checkpoint that it brings. The replica fetches the root of each quorum
+/// above the executed number in the event that completes the quorum. It fetches the start of a new view in the event
+/// that takes the new view (Castro and Liskov, TOCS 2002, on state transfer).
 pub fn quorums_are_fetched()
     ensures grow { QuorumsGrow }
     ensures same { CountsStay }
@@ -190,9 +190,9 @@ pub fn quorums_are_fetched()
     ensures end { QuorumsEnd }
 {}
 
-/// A fetch fits that a transfer may ask, and leaves the transfer open; so does the one that is due where a quorum of
-/// checkpoints is above what is executed and open. Between events none is due (Castro and Liskov, TOCS 2002, on state
-/// transfer).
+/// The fetch of a transfer that may ask fits, and leaves the transfer open. So does the due fetch, if a quorum of
+/// checkpoints is above the executed state and the open transfer. Between events no fetch is due (Castro and Liskov,
+/// TOCS 2002, on state transfer).
 pub fn fetches_fit()
     ensures fetches { FetchesFit }
     ensures due { DueFetchesFit }
@@ -200,8 +200,8 @@ pub fn fetches_fit()
     ensures none { HeldOweNoFetch }
 {}
 
-/// A part that is heard begins an event in which the open transfer may ask on with it, and it counts if the transfer
-/// asked for it. In an event another transfer that fits may take the open one's place.
+/// A received part begins an event in which the open transfer may ask on with it. The part counts if the transfer asked
+/// for it. Within an event another transfer that fits may replace the open one.
 pub fn parts_enter()
     ensures digests { DigestsEnter }
     ensures pages { PagesEnter }
@@ -210,8 +210,8 @@ pub fn parts_enter()
     ensures change { TransfersChange }
 {}
 
-/// Nothing is owed to a part that no open transfer awaits. To any other it suffices that the next one is asked for; or,
-/// where all that is held has the root, that the state's number is reached, if the state can be installed (Castro and
+/// The replica owes nothing to a part that no open transfer awaits. For any other it is enough to ask for the next
+/// part; or, if all held pages have the root, to reach the state's number, if the state can be installed (Castro and
 /// Liskov, TOCS 2002, on state transfer).
 pub fn parts_bring_on()
     ensures digests { OtherDigestsOweNone }
@@ -220,8 +220,8 @@ pub fn parts_bring_on()
     ensures fetched { FetchedSuffice }
 {}
 
-/// The part of a kept snapshot may be given to whoever fetches it, whose fetch counts, and is all that is owed. Where
-/// no snapshot has the number, nothing is owed (Castro and Liskov, TOCS 2002, on state transfer).
+/// The part of a kept snapshot may be sent to whoever fetches it. The fetch counts, and the replica owes no more. If no
+/// snapshot has the number, it owes nothing (Castro and Liskov, TOCS 2002, on state transfer).
 pub fn parts_fit()
     ensures parts { PartsFit }
     ensures count { KeptFetchesCount }
@@ -229,9 +229,9 @@ pub fn parts_fit()
     ensures none { OtherNumbersOweNone }
 {}
 
-/// The reply to a read, from the executed state, may be given once the read was heard, and is all that is owed to it.
-/// Nothing is owed to an operation that is no read, or where nothing is asked (Castro and Liskov, TOCS 2002, on
-/// read-only operations).
+/// The reply to a read, from the executed state, may be sent once the read arrived, and the replica owes no more to it.
+/// It owes nothing to an operation that is no read, or if nothing is asked (Castro and Liskov, TOCS 2002, on read-only
+/// operations).
 pub fn reads_fit()
     ensures reads { ReadsFit }
     ensures suffice { ReadsSuffice }
@@ -240,19 +240,19 @@ pub fn reads_fit()
     ensures others { OthersOweNone }
 {}
 
-/// Where a request comes again that waits, the own new view, the own batches, votes and latest checkpoint, or the own
-/// view change, are all that is owed to it. To one that doesn't wait nothing goes again. What waits is newer than what
-/// ran.
+/// If a waiting request comes again, the replica owes its own new view, its own batches, votes and latest checkpoint,
+/// or its own view change. For a request that doesn't wait it sends nothing again. A waiting request is newer than its
+/// client's last executed one.
 pub fn requests_come_again()
     ensures suffice { ResendingSuffices }
     ensures others { NewRequestsOweNone }
     ensures new { WaitingAreNew }
 {}
 
-/// Which of the requests that wait have a number is known from the start, and from each new view on that begins a view:
-/// the requests in its batches have one. It stays so behind each entry at the view's primary that gives no number: all
-/// but a pre-prepare of a number that is free, as long as no new view is taken. In views above the own one nothing has
-/// a number (Castro and Liskov, TOCS 2002, on normal-case operation and view changes).
+/// Which waiting requests have a number is known from the start, and from each new view on that begins a view: the
+/// requests in its batches have one. It stays known after each entry at the view's primary that assigns no number: all
+/// but a pre-prepare of a free number, as long as no new view is taken. In views above the current one no request has a
+/// number (Castro and Liskov, TOCS 2002, on normal-case operation and view changes).
 pub fn numbers_stay()
     ensures first { FirstNumbersFit }
     ensures known { LogsAreOfNoLaterView }
@@ -263,8 +263,8 @@ pub fn numbers_stay()
     ensures batches { BatchesKeepNumbers }
 {}
 
-/// The next number, given to the oldest requests without one, numbers none of them twice; and where it may not be
-/// given, or all that waits has one, nothing is owed of numbers (Castro and Liskov, TOCS 2002, on normal-case
+/// The next number, assigned to the oldest requests without one, numbers none of them twice. If it may not be assigned,
+/// or all waiting requests have one, the replica owes no number (Castro and Liskov, TOCS 2002, on normal-case
 /// operation). All have one after as many numbers as requests wait.
 pub fn numbers_are_given()
     ensures fit { NumbersFit }
@@ -273,8 +273,8 @@ pub fn numbers_are_given()
     ensures fewer { NumbersLeaveFewer }
 {}
 
-/// It stays known where a newer request waits, and where another state comes in which no client's last timestamp is
-/// lower, such as that behind a batch.
+/// It stays known if a newer request waits, and if another state comes in which no client's last timestamp is lower,
+/// such as the one after a batch.
 pub fn waiting_keeps_numbers()
     ensures requests { RequestsFit }
     ensures inputs { InputsKeepNumbers }

@@ -1,4 +1,4 @@
--- An event of one party leaves each party fitting its history.
+-- After an event of one party each party fits its history.
 use Rattle.std.proofs.Common.{◌≡◌, ◌≢◌, ℕ, suc, ◌+◌, ◌<◌, ◌≤◌, Bool, true, false, not, ◌==◌, List, [], ◌∷◌, length, get_or, set, Option, Some, None, refl, sym, ap, ◌∙◌, subst, arith, eqb-true}
 use Rattle.std.specs.Prelude.{map, is_some}
 use Rattle.std.proofs.lemmas.List.{get_or-set_same, get_or-set_other}
@@ -12,7 +12,7 @@ use Rattle.protocol.specs.Replica.Owed.{IsReplica}
 use Rattle.protocol.specs.System.Run.{GaveNothingLast}
 use Rattle.events.specs.declared.output.Output.{Output}
 use Rattle.events.specs.declared.output.Output.TheVariants as outputs
-use Rattle.events.specs.Outputs.{entry_of, behind, after_event}
+use Rattle.events.specs.Outputs.{entry_of, after_entries, after_event}
 use Rattle.replica.specs.State.{ReplicaData, has_stopped}
 use Rattle.replica.specs.Fits as replica_fits
 use Rattle.replica.specs.Inputs as replica_inputs
@@ -59,7 +59,7 @@ are_replicas c trace rs seats d numbered attend q correct =
 
 pub attend_replica : (c : Configuration) (trace : List Entry) (rs new : List ReplicaData) (seats : List Seat) (p : ℕ) (event : ReplicaEvent) (outs : List Output)
     → IsConfiguration c → AreNumbered c rs → Attend c trace rs seats → is_correct_replica c p ≡ true → Moves rs p event outs new → AreOf p (map (entry_of p) outs)
-    → Attend c (behind (map (entry_of p) outs) (replica_inputs.input_of p event ∷ trace)) new seats
+    → Attend c (after_entries (map (entry_of p) outs) (replica_inputs.input_of p event ∷ trace)) new seats
 attend_replica c trace rs new seats p event outs valid numbered attend correct m of =
     record {
       replicas = λ q e h. fits q e h (q == p) refl;
@@ -76,7 +76,7 @@ attend_replica c trace rs new seats p event outs valid numbered attend correct m
     entries = map (entry_of p) outs
 
     after : List Entry
-    after = behind entries (input ∷ trace)
+    after = after_entries entries (input ∷ trace)
 
     below : p < replicas c
     below = replica_below c p correct
@@ -90,20 +90,20 @@ attend_replica c trace rs new seats p event outs valid numbered attend correct m
     number : replica_fits.me_of m.before ≡ p
     number = ap replica_fits.me_of (sym (m.was m.before)) ∙ numbered.1 p m.before within
 
-    mine : history_of p after ≡ behind entries (input ∷ history_of p trace)
-    mine = own_entries p entries (input ∷ trace) of ∙ ap (behind entries) (own_entry p input trace is.0)
+    mine : history_of p after ≡ after_entries entries (input ∷ history_of p trace)
+    mine = own_entries p entries (input ∷ trace) of ∙ ap (after_entries entries) (own_entry p input trace is.0)
 
     others : (q : ℕ) → p ≢ q → history_of q after ≡ history_of q trace
     others q apart = other_entries p q entries (input ∷ trace) apart of ∙ other_entry q input trace (λ e. apart (sym is.0 ∙ e))
 
-    silent : has_stopped m.after ≡ true → GaveNothingLast (behind entries (input ∷ history_of p trace))
-    silent stopped = subst (λ (xs : List Output). GaveNothingLast (behind (map (entry_of p) xs) (input ∷ history_of p trace))) (sym (m.silent stopped)) is.1
+    silent : has_stopped m.after ≡ true → GaveNothingLast (after_entries entries (input ∷ history_of p trace))
+    silent stopped = subst (λ (xs : List Output). GaveNothingLast (after_entries (map (entry_of p) xs) (input ∷ history_of p trace))) (sym (m.silent stopped)) is.1
 
     fits : (q : ℕ) (e : ReplicaData) → is_correct_replica c q ≡ true → (b : Bool) → (q == p) ≡ b → FitsReplica c (get_or new q e) (history_of q after)
     fits q e h true same =
         let fit : replica_fits.Fits c m.before (history_of p trace) = subst (λ r. replica_fits.Fits c r (history_of p trace)) (m.was m.before) (attend.replicas p m.before correct).0 in
         let leads : replica_fits.Leads m.before input outs m.after = subst (λ n. replica_fits.Leads m.before (replica_inputs.input_of n event) outs m.after) number m.leads in
-        let led : replica_fits.Fits c m.after (behind entries (input ∷ history_of p trace)) =
+        let led : replica_fits.Fits c m.after (after_entries entries (input ∷ history_of p trace)) =
         subst (λ n. replica_fits.Fits c m.after (after_event n input outs (history_of p trace))) number (leads c (history_of p trace) fit) in
         let got : get_or new p e ≡ m.after = ap (λ xs. get_or xs p e) m.becomes ∙ get_or-set_same rs p m.after e within in
         let there : FitsReplica c (get_or new p e) (history_of p after) = rw (got, mine) (led, silent) in
@@ -115,14 +115,14 @@ attend_replica c trace rs new seats p event outs valid numbered attend correct m
 
 -- ---- clients
 
-pub last_behind : (me : ℕ) (outs : List Output) (history : List Entry) → last_call (behind (map (entry_of me) outs) history) ≡ last_call history
+pub last_behind : (me : ℕ) (outs : List Output) (history : List Entry) → last_call (after_entries (map (entry_of me) outs) history) ≡ last_call history
 last_behind me [] history = refl
 last_behind me (outputs.Executed n b ∷ outs) history = last_behind me outs (entry_of me (outputs.Executed n b) ∷ history)
 last_behind me (outputs.Installed n b ∷ outs) history = last_behind me outs (entry_of me (outputs.Installed n b) ∷ history)
 last_behind me (outputs.Send t b ∷ outs) history = last_behind me outs (entry_of me (outputs.Send t b) ∷ history)
 last_behind me (outputs.Accepted t a ∷ outs) history = last_behind me outs (entry_of me (outputs.Accepted t a) ∷ history)
 
--- one of a client that is no call
+-- an input of a client that is no call
 abbrev pub IsBesideCalls : ℕ → Entry → Type 0
 IsBesideCalls p e = (party_of e ≡ p) × (is_output e ≡ false) × ((h : List Entry) → last_call (e ∷ h) ≡ last_call h)
 
@@ -130,10 +130,10 @@ pub client_input : (p : ℕ) (event : ClientEvent) → IsBesideCalls p (client_s
 client_input p (client_events.Got bytes) = (refl, refl, λ h. refl)
 client_input p client_events.Retry = (refl, refl, λ h. refl)
 
--- where one client's seat fits the longer history, all attend
+-- if one client's seat fits the longer history, all attend
 attend_seat : (c : Configuration) (trace : List Entry) (rs : List ReplicaData) (seats new : List Seat) (k : ℕ) (input : Entry) (entries : List Entry) (after : Seat)
     → IsConfiguration c → Attend c trace rs seats → k < length seats → new ≡ set seats k after → party_of input ≡ 256 + k → AreOf (256 + k) entries
-    → FitsSeat c after (behind entries (input ∷ history_of (256 + k) trace)) → Attend c (behind entries (input ∷ trace)) rs new
+    → FitsSeat c after (after_entries entries (input ∷ history_of (256 + k) trace)) → Attend c (after_entries entries (input ∷ trace)) rs new
 attend_seat c trace rs seats new k input entries after valid attend within becomes at of fit =
     record {
       replicas = λ q e h.
@@ -143,17 +143,17 @@ attend_seat c trace rs seats new k input entries after valid attend within becom
       clients = λ j d h. fits j d h (j == k) refl;
     }
   where
-    mine : history_of (256 + k) (behind entries (input ∷ trace)) ≡ behind entries (input ∷ history_of (256 + k) trace)
-    mine = own_entries (256 + k) entries (input ∷ trace) of ∙ ap (behind entries) (own_entry (256 + k) input trace at)
+    mine : history_of (256 + k) (after_entries entries (input ∷ trace)) ≡ after_entries entries (input ∷ history_of (256 + k) trace)
+    mine = own_entries (256 + k) entries (input ∷ trace) of ∙ ap (after_entries entries) (own_entry (256 + k) input trace at)
 
-    others : (q : ℕ) → (256 + k) ≢ q → history_of q (behind entries (input ∷ trace)) ≡ history_of q trace
+    others : (q : ℕ) → (256 + k) ≢ q → history_of q (after_entries entries (input ∷ trace)) ≡ history_of q trace
     others q apart = other_entries (256 + k) q entries (input ∷ trace) apart of ∙ other_entry q input trace (λ e. apart (sym at ∙ e))
 
-    fits : (j : ℕ) (d : Seat) → is_correct_client c (256 + j) ≡ true → (b : Bool) → (j == k) ≡ b → FitsSeat c (get_or new j d) (history_of (256 + j) (behind entries (input ∷ trace)))
+    fits : (j : ℕ) (d : Seat) → is_correct_client c (256 + j) ≡ true → (b : Bool) → (j == k) ≡ b → FitsSeat c (get_or new j d) (history_of (256 + j) (after_entries entries (input ∷ trace)))
     fits j d h true same =
         let got : get_or new k d ≡ after = ap (λ xs. get_or xs k d) becomes ∙ get_or-set_same seats k after d within in
-        let there : FitsSeat c (get_or new k d) (history_of (256 + k) (behind entries (input ∷ trace))) = rw (got, mine) fit in
-        subst (λ n. FitsSeat c (get_or new n d) (history_of (256 + n) (behind entries (input ∷ trace)))) (sym (eqb-true j k same)) there
+        let there : FitsSeat c (get_or new k d) (history_of (256 + k) (after_entries entries (input ∷ trace))) = rw (got, mine) fit in
+        subst (λ n. FitsSeat c (get_or new n d) (history_of (256 + n) (after_entries entries (input ∷ trace)))) (sym (eqb-true j k same)) there
     fits j d h false same =
         let apart : j ≢ k = apart_from k j same in
         let kept : get_or new j d ≡ get_or seats j d = ap (λ xs. get_or xs j d) becomes ∙ get_or-set_other seats k j after d apart in
@@ -162,7 +162,7 @@ attend_seat c trace rs seats new k input entries after valid attend within becom
 pub attend_client : (c : Configuration) (trace : List Entry) (rs : List ReplicaData) (seats new : List Seat) (k : ℕ) (event : ClientEvent) (outs : List Output)
     → IsConfiguration c → Attend c trace rs seats → k < length seats → ((d : Seat) → (get_or seats k d).client.number ≡ k) → is_correct_client c (256 + k) ≡ true
     → MovesClient seats k event outs new → AreOf (256 + k) (map (entry_of (256 + k)) outs)
-    → Attend c (behind (map (entry_of (256 + k)) outs) (client_steps.input_of (256 + k) event ∷ trace)) rs new
+    → Attend c (after_entries (map (entry_of (256 + k)) outs) (client_steps.input_of (256 + k) event ∷ trace)) rs new
 attend_client c trace rs seats new k event outs valid attend within numbers correct m of =
     attend_seat c trace rs seats new k (client_steps.input_of (256 + k) event) (map (entry_of (256 + k)) outs) m.after valid attend within m.becomes is.0 of
     (led, last_behind (256 + k) outs (client_steps.input_of (256 + k) event ∷ history) ∙ is.2 history ∙ fit.1 ∙ sym m.calls, silent)
@@ -179,11 +179,11 @@ attend_client c trace rs seats new k event outs valid attend within numbers corr
     fit : FitsSeat c m.before history
     fit = subst (λ (s : Seat). FitsSeat c s history) (m.was m.before) (attend.clients k m.before correct)
 
-    silent : m.after.client.stopped ≡ true → GaveNothingLast (behind (map (entry_of (256 + k)) outs) (client_steps.input_of (256 + k) event ∷ history))
+    silent : m.after.client.stopped ≡ true → GaveNothingLast (after_entries (map (entry_of (256 + k)) outs) (client_steps.input_of (256 + k) event ∷ history))
     silent stopped =
-        subst (λ (xs : List Output). GaveNothingLast (behind (map (entry_of (256 + k)) xs) (client_steps.input_of (256 + k) event ∷ history))) (sym (m.silent stopped)) is.1
+        subst (λ (xs : List Output). GaveNothingLast (after_entries (map (entry_of (256 + k)) xs) (client_steps.input_of (256 + k) event ∷ history))) (sym (m.silent stopped)) is.1
 
-    led : client_fits.Fits c m.after.client (behind (map (entry_of (256 + k)) outs) (client_steps.input_of (256 + k) event ∷ history))
+    led : client_fits.Fits c m.after.client (after_entries (map (entry_of (256 + k)) outs) (client_steps.input_of (256 + k) event ∷ history))
     led = subst (λ n. client_fits.Fits c m.after.client (after_event (256 + n) (client_steps.input_of (256 + n) event) outs history)) number (m.leads c history fit.0)
 
 closed : {A : Type 0} (o : Option A) → o ≡ None → is_some o ≡ false
@@ -193,7 +193,7 @@ closed (Some x) e = absurd cc
 pub attend_call : (c : Configuration) (trace : List Entry) (rs : List ReplicaData) (seats new : List Seat) (k : ℕ) (op : Operation) (timestamp : ℕ) (outs : List Output)
     → IsConfiguration c → Attend c trace rs seats → k < length seats → ((d : Seat) → (get_or seats k d).client.number ≡ k) → is_correct_client c (256 + k) ≡ true
     → open_call (history_of (256 + k) trace) ≡ None → Calls seats k op timestamp outs new → AreOf (256 + k) (map (entry_of (256 + k)) outs)
-    → Attend c (behind (map (entry_of (256 + k)) outs) (Invoke k timestamp op ∷ trace)) rs new
+    → Attend c (after_entries (map (entry_of (256 + k)) outs) (Invoke k timestamp op ∷ trace)) rs new
 attend_call c trace rs seats new k op timestamp outs valid attend within numbers correct none m of =
     attend_seat c trace rs seats new k (Invoke k timestamp op) (map (entry_of (256 + k)) outs) m.after valid attend within m.becomes refl of
     (led, last_behind (256 + k) outs (Invoke k timestamp op ∷ history) ∙ sym m.calls, silent)
@@ -213,10 +213,10 @@ attend_call c trace rs seats new k op timestamp outs valid attend within numbers
     next : suc m.before.client.calls ≡ timestamp
     next = ap suc (sym fit.0.last_is ∙ fit.1) ∙ sym m.timestamp_is
 
-    silent : m.after.client.stopped ≡ true → GaveNothingLast (behind (map (entry_of (256 + k)) outs) (Invoke k timestamp op ∷ history))
+    silent : m.after.client.stopped ≡ true → GaveNothingLast (after_entries (map (entry_of (256 + k)) outs) (Invoke k timestamp op ∷ history))
     silent stopped =
-        subst (λ (xs : List Output). GaveNothingLast (behind (map (entry_of (256 + k)) xs) (Invoke k timestamp op ∷ history))) (sym (m.silent is_closed stopped)) refl
+        subst (λ (xs : List Output). GaveNothingLast (after_entries (map (entry_of (256 + k)) xs) (Invoke k timestamp op ∷ history))) (sym (m.silent is_closed stopped)) refl
 
-    led : client_fits.Fits c m.after.client (behind (map (entry_of (256 + k)) outs) (Invoke k timestamp op ∷ history))
+    led : client_fits.Fits c m.after.client (after_entries (map (entry_of (256 + k)) outs) (Invoke k timestamp op ∷ history))
     led = subst (λ n. client_fits.Fits c m.after.client (after_event (256 + n) (Invoke n timestamp op) outs history)) number
         (subst (λ t. client_fits.Fits c m.after.client (after_event (256 + m.before.client.number) (Invoke m.before.client.number t op) outs history)) next (m.leads is_closed c history fit.0))

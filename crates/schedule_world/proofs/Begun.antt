@@ -1,4 +1,4 @@
--- How the world begins.
+-- The stage before the first step.
 use Rattle.std.proofs.Common.{◌≡◌, ℕ, ◌+◌, ◌<◌, Bool, true, false, ◌==◌, List, [], ◌∷◌, ◌++◌, length, get_or, refl, sym, ap, ◌∙◌, subst, arith, eqb-true}
 use Rattle.std.proofs.lemmas.List.{length-append, get_or_push, get_or_append_left}
 use Rattle.protocol.specs.System.Configuration.{Configuration, IsConfiguration}
@@ -12,7 +12,7 @@ use Rattle.schedule_world.proofs.Pools.{pool_new}
 use Rattle.schedule_world.proofs.Reached.{reaches_first}
 use Rattle.schedule_world.proofs.Standing.{client_below}
 
--- there are n, and each is right for its place
+-- there are n elements, and each is right for its place
 pub record AreFirst {X : Type 0} (P : ℕ → X → Type 0) (xs : List X) (n : ℕ) : Type 0 where
   pub count : length xs ≡ n
   pub each : (p : ℕ) (d : X) → p < n → P p (get_or xs p d)

@@ -1,4 +1,4 @@
--- What stands is a run's trace, and what is reached is fed.
+-- A stage that stands at a world has a run's trace, and the steps that reach it feed the trace.
 use Rattle.std.proofs.Common.{◌≡◌, ℕ, ◌+◌, ◌<◌, ◌≤◌, true, List, [], ◌∷◌, ◌++◌, length, sym, ap, ◌∙◌, subst, arith}
 use Rattle.std.specs.Prelude.{map, take, reverse, slice_get, Some}
 use Rattle.std.proofs.lemmas.List.{take_all, take_more, map-append}

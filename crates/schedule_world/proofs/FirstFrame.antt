@@ -9,15 +9,15 @@ use Rattle.protocol.specs.System.Schedule as schedules
 use Rattle.protocol.specs.System.Schedule.Step.{calls, deliver}
 use Rattle.protocol.specs.System.Run.{OnlyTheseStopped}
 use Rattle.protocol.specs.Client.RightClient.{Reacts, reaction}
-use Rattle.protocol.specs.Evidence.RefusedRuns.{IsInputOf, is_sent}
-use Rattle.protocol.proofs.Evidence.RefusingRunsSchedules.{feeds_each_step, allows_sent}
+use Rattle.protocol.specs.Laws.Schedules.{IsInputOf, is_sent}
+use Rattle.protocol.proofs.Words.Scheduling.{feeds_each_step, allows_sent}
 use Rattle.protocol.proofs.Words.Options.{some_injective}
 use Rattle.protocol.proofs.Words.Elements.{has_filter, has_filtered}
 use Rattle.schedule_text.specs.StepView.{step_of}
 use Rattle.schedule_world.specs.Reports.{trace_of}
 use Rattle.schedule_world.specs.Laws.{FirstFrameMayCome}
 
--- a frame is sent here
+-- a frame is sent in this entry
 abbrev IsSent : Entry → Type 0
 IsSent e = is_sent e ≡ true
 

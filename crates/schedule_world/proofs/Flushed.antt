@@ -1,13 +1,14 @@
 -- Deliveries, and flushes.
-use Rattle.std.proofs.Common.{◌≡◌, ℕ, true, List, [], ◌∷◌, map, reverse, Some, sym, ap, ◌∙◌, subst}
+use Rattle.std.proofs.Common.{◌≡◌, ℕ, suc, ◌⊎◌, inl, inr, Bool, true, false, not, cond, ◌&&◌, List, [], ◌∷◌, map, reverse, Some, refl, sym, ap, ◌∙◌, subst}
 use Rattle.std.specs.Prelude.{All, slice_get}
+use Rattle.std.proofs.lemmas.Bool.{and_parts}
 use Rattle.std.proofs.lemmas.Option.{slice_get_within}
 use Rattle.protocol.specs.System.Configuration.{Configuration, is_correct}
 use Rattle.protocol.specs.System.Trace.{Entry, AreOutputs}
 use Rattle.protocol.specs.System.Trace.Entry.{Got}
-use Rattle.protocol.specs.System.Schedule.{Step, Made, World, with_entry, pending}
+use Rattle.protocol.specs.System.Schedule.{Step, Made, World, with_entry, is_delivered, next_receiver, next_pair, pending}
 use Rattle.protocol.specs.System.Schedule.Step.{flush}
-use Rattle.protocol.proofs.Evidence.Flushing.{pending_next}
+use Rattle.protocol.proofs.Words.Options.{some_injective, or_else_cases}
 use Rattle.schedule_world.specs.declared.stage.Stage.{Stage}
 use Rattle.schedule_world.specs.Pooled.{HasBytes, IsNext, IsServed, noted}
 use Rattle.schedule_world.specs.Stages.{Stands, IsStanding, At, with_entries, acceptance_of}
@@ -57,15 +58,35 @@ at_behind c done left w s within behind = record {
 
 -- ---- flushes
 
--- what is led on from here, in the midst of a flush
+-- in the midst of a flush: any steps that lead to the old stage lead to this one, with the flush done in part
 abbrev pub Flushes : Configuration → Stage → Stage → Type 0
 Flushes c old s = (done : List Step) → At c done [] old → At c done (flush ∷ []) s
 
 pub flush_first : (c : Configuration) (s : Stage) → Flushes c s s
 flush_first c s done at = record { world = at.world; stands = at.stands; reaches = reaches_flush c done at.world at.reaches }
 
+-- what a flush delivers next is for a correct party
+receiver_is_correct : (c : Configuration) (delivered : List (ℕ × ℕ)) (frame : ℕ) (receivers : List ℕ) (x : ℕ × ℕ) → next_receiver c delivered frame receivers ≡ Some x → is_correct c x.1 ≡ true
+receiver_is_correct c delivered frame [] x h = absurd cc
+receiver_is_correct c delivered frame (q ∷ receivers) x h = go (is_correct c q && not (is_delivered delivered frame q)) refl h (receiver_is_correct c delivered frame receivers x)
+  where
+    go : (b : Bool) → (is_correct c q && not (is_delivered delivered frame q)) ≡ b → cond b (Some (frame, q)) (next_receiver c delivered frame receivers) ≡ Some x
+        → (next_receiver c delivered frame receivers ≡ Some x → is_correct c x.1 ≡ true) → is_correct c x.1 ≡ true
+    go true e here later = subst (λ (y : ℕ × ℕ). is_correct c y.1 ≡ true) (some_injective (frame, q) x here) (and_parts (is_correct c q) (not (is_delivered delivered frame q)) e).0
+    go false e here later = later here
+
+pair_is_correct : (c : Configuration) (delivered : List (ℕ × ℕ)) (frame : ℕ) (frames : List Made) (x : ℕ × ℕ) → next_pair c delivered frame frames ≡ Some x → is_correct c x.1 ≡ true
+pair_is_correct c delivered frame [] x h = absurd cc
+pair_is_correct c delivered frame (made ∷ frames) x h =
+    go (or_else_cases (next_receiver c delivered frame made.receivers) (next_pair c delivered (suc frame) frames) x h) (pair_is_correct c delivered (suc frame) frames x)
+  where
+    go : (next_receiver c delivered frame made.receivers ≡ Some x) ⊎ (next_pair c delivered (suc frame) frames ≡ Some x)
+        → (next_pair c delivered (suc frame) frames ≡ Some x → is_correct c x.1 ≡ true) → is_correct c x.1 ≡ true
+    go (inl here) later = receiver_is_correct c delivered frame made.receivers x here
+    go (inr there) later = later there
+
 pub next_is_correct : (c : Configuration) (s : Stage) (n p : ℕ) → IsStanding c s → IsNext s.pool n p → is_correct c p ≡ true
-next_is_correct c s n p st next = (pending_next c st.0 n p (pool_next c st.0 s.pool n p st.1.shows.frames next)).1.is_left.0
+next_is_correct c s n p st next = pair_is_correct c st.0.delivered 0 st.0.frames (n, p) (pool_next c st.0 s.pool n p st.1.shows.frames next)
 
 pub flush_more : (c : Configuration) (old s new : Stage) (n p : ℕ) → IsNext s.pool n p → Delivers c n p s new → Flushes c old s → Flushes c old new
 flush_more c old s new n p next delivery h done first =

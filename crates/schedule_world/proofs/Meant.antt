@@ -1,4 +1,4 @@
--- Whom frames are for, and the correct ones of them.
+-- The receivers of frames, and the correct ones among them.
 use Rattle.std.proofs.Common.{◌≡◌, ℕ, zero, suc, ◌+◌, ◌-◌, ◌<◌, ◌≤◌, Bool, true, false, cond, List, [], ◌∷◌, ◌++◌, length, map, refl, sym, ap, ◌∙◌, arith, append_assoc, Option, Some, None, get_or, ltb-true, lt-ltb}
 use Rattle.std.specs.Prelude.{AllPairs, nat_lt, ◌&&◌}
 use Rattle.std.specs.List.{list_all, range_with_len}
@@ -73,7 +73,7 @@ none_meant c sender bytes none = go (frame_of bytes) refl
     go None e = ap (λ o. option_map_or (λ f. meant_for c sender f.authenticator) o []) e
     go (Some f) e = absurd (none f ((reads_frames bytes f).0 e))
 
--- ---- whom a faulty party may make a frame for
+-- ---- the receivers for whom a faulty party may make a frame
 
 above : (x : ℕ) (xs : List ℕ) → leads nat_lt x xs ≡ true → ascends nat_lt xs ≡ true → (j d : ℕ) → j < length xs → x < get_or xs j d
 above x [] l a j d b = absurd (omega (arith, b))

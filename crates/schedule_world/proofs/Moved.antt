@@ -1,4 +1,4 @@
--- What a step does to the list of the parties.
+-- How a step changes the list of the parties.
 use Rattle.std.proofs.Common.{◌≡◌, ℕ, suc, ◌<◌, true, false, List, [], length, get_or, set, sym, ap, ◌∙◌}
 use Rattle.std.specs.Prelude.{is_some}
 use Rattle.std.proofs.lemmas.List.{get_or_default}

@@ -55,7 +55,7 @@ left_out true false true = refl
 left_out true false false = refl
 left_out false e b = refl
 
--- ---- what a delivery changes
+-- ---- changes by a delivery
 
 module _ (c : Configuration) (delivered : List (ℕ × ℕ)) (n p : ℕ) where
   -- of another frame
@@ -90,7 +90,7 @@ module _ (c : Configuration) (delivered : List (ℕ × ℕ)) (n p : ℕ) where
   noted_from k (suc i) (m ∷ ms) e =
       λ t. other_frame k m (λ s. let f : ⊥ = omega (arith, e, s) in f) t ∷ noted_from (suc k) i ms (omega (arith, e)) t
 
--- ---- what a frame more changes
+-- ---- changes by one more frame
 
 module _ (c : Configuration) (delivered : List (ℕ × ℕ)) where
   one_more : (k n : ℕ) (ms : List Made) (m : Made) → n ≡ k + length ms
@@ -102,7 +102,7 @@ pooled_length : (c : Configuration) (delivered : List (ℕ × ℕ)) (k : ℕ) (m
 pooled_length c delivered k [] = refl
 pooled_length c delivered k (m ∷ ms) = ap suc (pooled_length c delivered (suc k) ms)
 
--- what was not made was not delivered
+-- a frame that was not made was not delivered
 not_delivered : (delivered : List (ℕ × ℕ)) (n q : ℕ) → All (λ (x : ℕ × ℕ). x.0 < n) delivered → is_delivered delivered n q ≡ false
 not_delivered [] n q h = refl
 not_delivered (x ∷ delivered) n q h =
@@ -185,13 +185,13 @@ bytes_from c delivered k zero (m ∷ ms) bytes h = (m, refl, h.same (record { by
 bytes_from c delivered k (suc n) (m ∷ ms) bytes h =
     bytes_from c delivered (suc k) n ms bytes (record { there = omega (arith, h.there); same = λ d. h.same d })
 
--- the bytes that the pool has of a frame are those that were made
+-- the pool has the bytes with which a frame was made
 pub pool_bytes : (c : Configuration) (w : World) (pool : List Frame) (n : ℕ) (bytes : List ℕ) → IsPool c w pool → HasBytes pool n bytes
     → (made : Made) × (slice_get w.frames n ≡ Some made) × (made.bytes ≡ bytes)
 pool_bytes c w pool n bytes h has =
     bytes_from c w.delivered 0 n w.frames bytes (subst (λ fs. HasBytes fs n bytes) h.frames has)
 
--- ---- what comes next
+-- ---- the next delivery
 
 due_case : (c : Configuration) (delivered : List (ℕ × ℕ)) (k p q : ℕ) (ws later : List ℕ) (rs : List ℕ) (b : Bool)
     → (ws ≡ p ∷ later → next_receiver c delivered k rs ≡ Some (k, p))
@@ -240,11 +240,11 @@ none_from c delivered k (m ∷ ms) h =
 pub pool_next : (c : Configuration) (w : World) (pool : List Frame) (n p : ℕ) → IsPool c w pool → IsNext pool n p → pending c w ≡ Some (n, p)
 pool_next c w pool n p h next = next_from c w.delivered 0 n n p w.frames (omega arith) (subst (λ fs. IsNext fs n p) h.frames next)
 
--- nothing is left where nobody waits
+-- nothing is left if nobody waits
 pub pool_served : (c : Configuration) (w : World) (pool : List Frame) → IsPool c w pool → All IsServed pool → pending c w ≡ None
 pool_served c w pool h served = none_from c w.delivered 0 w.frames (subst (All IsServed) h.frames served)
 
--- the pool that a delivery of a frame that was made leaves
+-- the pool after a delivery of a frame that was made
 pub pool_forgets : (c : Configuration) (w : World) (pool new : List Frame) (n p : ℕ) (bytes : List ℕ) → HasBytes pool n bytes → new ≡ noted pool n p → IsPool c w pool
     → IsPool c (record w { delivered = (n, p) ∷ w.delivered }) new
 pool_forgets c w pool new n p bytes has is h =

@@ -24,7 +24,7 @@ pub onto_reverse : (past entries : List Entry) → onto past entries ≡ reverse
 onto_reverse [] entries = refl
 onto_reverse (e ∷ past) entries = onto_reverse past (e ∷ entries) ∙ associates (reverse past) e entries ∙ ap (λ (xs : List Entry). xs ++ entries) (sym (reverse_onto past e []))
 
--- the world behind a delivery
+-- the world after a delivery
 delivered_to : Configuration → World → ℕ → ℕ → List ℕ → World
 delivered_to c w frame party bytes = record (with_entry c w (Got party bytes)) { delivered = (frame, party) ∷ w.delivered }
 
@@ -76,7 +76,7 @@ module _ (c : Configuration) (done : List Step) where
 
     -- ---- the end
 
-    -- what a report says of the trace
+    -- the steps done lead to the world, as a report promises
     pub reaches_end : Goes c new_world done (reverse w.past) w
     reaches_end = subst (λ (entries : List Entry). Goes c new_world done entries w) (onto_reverse w.past [] ∙ append-nil (reverse w.past)) (subst (λ (xs : List Step). Goes c new_world xs (onto w.past []) w) (append-nil done) (h [] [] w tt ends))
 

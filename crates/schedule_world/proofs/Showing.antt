@@ -1,4 +1,4 @@
--- What an entry does to trace, frames and acceptances.
+-- Trace, frames and acceptances after an entry.
 use Rattle.std.proofs.Common.{◌≡◌, ℕ, List, [], ◌∷◌, ◌++◌, map, length, reverse, refl, sym, ap, ◌∙◌, subst}
 use Rattle.std.specs.Prelude.{filter}
 use Rattle.std.proofs.lemmas.List.{reverse-append, length-reverse, map-append}
@@ -18,7 +18,7 @@ use Rattle.schedule_world.specs.Stages.{Shows, acceptance_of, with_entries}
 use Rattle.schedule_world.specs.Moving.{Adds, AddsAll, AreOf, IsOutputOf, IsPlain, KeepsRecords}
 use Rattle.schedule_world.proofs.Pools.{pool_kept, pool_sent}
 
--- one more behind
+-- one more at the end
 reverse_more : {X : Type 0} (xs : List X) (x : X) → reverse (xs ++ x ∷ []) ≡ x ∷ reverse xs
 reverse_more xs x = reverse-append xs (x ∷ [])
 
@@ -81,7 +81,7 @@ adds_accepted c k t a x old new position client timestamp answer trace pool acce
     same = ap (λ i. of i x.client.number x.timestamp.0 (acceptance_of x).answer) long ∙ ap (λ j. of (length w.past) j x.timestamp.0 (acceptance_of x).answer) client
         ∙ ap (λ u. of (length w.past) k u (acceptance_of x).answer) timestamp ∙ ap (of (length w.past) k t) answer
 
--- ---- all that a party gave
+-- ---- all outputs of a party
 
 pub entries_more : (c : Configuration) (me : ℕ) (w : World) (outs : List Output) (output : Output)
     → with_entries c w (map (entry_of me) (outs ++ output ∷ [])) ≡ with_entry c (with_entries c w (map (entry_of me) outs)) (entry_of me output)

@@ -1,18 +1,17 @@
--- An event leaves the program's world one of the definition.
+-- After an event the stage still stands at a world.
 use Rattle.std.proofs.Common.{◌≡◌, ℕ, ◌+◌, ◌<◌, ◌≤◌, ◌-◌, ◌⊎◌, inl, inr, Bool, true, false, not, List, [], ◌∷◌, length, get_or, set, refl, sym, ap, ◌∙◌, subst, arith, eqb-true}
 use Rattle.std.specs.Prelude.{map, filter, reverse, ◌==◌, ◌||◌, nat_le, nat_lt}
 use Rattle.std.proofs.lemmas.List.{length-set, get_or-set_same, get_or-set_other}
-use Rattle.std.proofs.lemmas.Bool.{and_parts, ltb-true, leb-true}
+use Rattle.std.proofs.lemmas.Bool.{and_parts, or_cases, ltb-true, leb-true}
 use Rattle.tuple_codec.specs.Operations.{Operation}
 use Rattle.quorum.specs.Quorum.{member}
 use Rattle.protocol.specs.System.Configuration.{Configuration, IsConfiguration, is_client, is_correct_replica, is_correct_client, is_correct}
 use Rattle.protocol.specs.System.Trace.{Entry, party_of, is_output, Always, AreOutputs}
 use Rattle.protocol.specs.System.Trace.Entry.{Invoke}
-use Rattle.protocol.specs.System.Run.{Follows}
+use Rattle.protocol.specs.System.Run.{OutputFollows}
 use Rattle.protocol.specs.System.Schedule.{World, with_entry, with_frame}
-use Rattle.protocol.proofs.Evidence.Presuming.{correct_are_both}
 use Rattle.events.specs.declared.output.Output.{Output}
-use Rattle.events.specs.Outputs.{entry_of, behind}
+use Rattle.events.specs.Outputs.{entry_of, after_entries}
 use Rattle.replica.specs.State.{ReplicaData}
 use Rattle.replica.specs.Fits as replica_fits
 use Rattle.replica.specs.Inputs as replica_inputs
@@ -32,32 +31,32 @@ use Rattle.schedule_world.proofs.Attending.{AreNumbered, replica_below, replica_
 
 -- ---- which parties are correct
 
-pub replica_is_correct : (c : Configuration) (p : ℕ) → p < 256 → is_correct c p ≡ true → is_correct_replica c p ≡ true
-replica_is_correct c p low h = go ((correct_are_both c p).0 h)
-  where
-    go : (is_correct_replica c p ≡ true) ⊎ ((k : ℕ) × (p ≡ 256 + k) × (is_correct_client c (256 + k) ≡ true)) → is_correct_replica c p ≡ true
-    go (inl r) = r
-    go (inr k) = let is = k.1 in absurd (omega (arith, is, low))
-
-pub client_is_correct : (c : Configuration) (k : ℕ) → IsConfiguration c → is_correct c (256 + k) ≡ true → is_correct_client c (256 + k) ≡ true
-client_is_correct c k valid h = go ((correct_are_both c (256 + k)).0 h)
-  where
-    go : (is_correct_replica c (256 + k) ≡ true) ⊎ ((j : ℕ) × (256 + k ≡ 256 + j) × (is_correct_client c (256 + j) ≡ true)) → is_correct_client c (256 + k) ≡ true
-    go (inl r) = let below = replica_below c (256 + k) r in let most = valid.most in absurd (omega (arith, below, most))
-    go (inr j) = subst (λ p. is_correct_client c p ≡ true) (sym j.1) j.2
-
-pub client_below : (c : Configuration) (k : ℕ) → is_correct_client c (256 + k) ≡ true → k < c.clients
-client_below c k h =
-    let w = and_parts (is_client c (256 + k)) (not (member c.faulty_clients (256 + k - 256))) h in
-    let l : 256 + k < 256 + c.clients = ltb-true (256 + k) (256 + c.clients) (and_parts (nat_le 256 (256 + k)) (nat_lt (256 + k) (256 + c.clients)) w.0).1 in
-    omega (arith, l)
-
 pub client_of : (c : Configuration) (p : ℕ) → is_correct_client c p ≡ true → (k : ℕ) × (p ≡ 256 + k) × (is_correct_client c (256 + k) ≡ true)
 client_of c p h =
     let w = and_parts (is_client c p) (not (member c.faulty_clients (p - 256))) h in
     let l : 256 ≤ p = leb-true 256 p (and_parts (nat_le 256 p) (nat_lt p (256 + c.clients)) w.0).0 in
     let same : p ≡ 256 + (p - 256) = omega arith in
     (p - 256, same, subst (λ q. is_correct_client c q ≡ true) same h)
+
+pub replica_is_correct : (c : Configuration) (p : ℕ) → p < 256 → is_correct c p ≡ true → is_correct_replica c p ≡ true
+replica_is_correct c p low h = go (or_cases (is_correct_replica c p) (is_correct_client c p) h)
+  where
+    go : (is_correct_replica c p ≡ true) ⊎ (is_correct_client c p ≡ true) → is_correct_replica c p ≡ true
+    go (inl r) = r
+    go (inr k) = let is = (client_of c p k).1 in absurd (omega (arith, is, low))
+
+pub client_is_correct : (c : Configuration) (k : ℕ) → IsConfiguration c → is_correct c (256 + k) ≡ true → is_correct_client c (256 + k) ≡ true
+client_is_correct c k valid h = go (or_cases (is_correct_replica c (256 + k)) (is_correct_client c (256 + k)) h)
+  where
+    go : (is_correct_replica c (256 + k) ≡ true) ⊎ (is_correct_client c (256 + k) ≡ true) → is_correct_client c (256 + k) ≡ true
+    go (inl r) = let below = replica_below c (256 + k) r in let most = valid.most in absurd (omega (arith, below, most))
+    go (inr j) = j
+
+pub client_below : (c : Configuration) (k : ℕ) → is_correct_client c (256 + k) ≡ true → k < c.clients
+client_below c k h =
+    let w = and_parts (is_client c (256 + k)) (not (member c.faulty_clients (256 + k - 256))) h in
+    let l : 256 + k < 256 + c.clients = ltb-true (256 + k) (256 + c.clients) (and_parts (nat_le 256 (256 + k)) (nat_lt (256 + k) (256 + c.clients)) w.0).1 in
+    omega (arith, l)
 
 pub or_true : (x y : Bool) → x ≡ true → (x || y) ≡ true
 or_true true y h = refl
@@ -67,9 +66,9 @@ pub or_other : (x y : Bool) → y ≡ true → (x || y) ≡ true
 or_other true y h = refl
 or_other false y h = h
 
--- ---- the world behind entries
+-- ---- the world after entries
 
-pub past_behind : (c : Configuration) (w : World) (entries : List Entry) → (with_entries c w entries).past ≡ behind entries w.past
+pub past_behind : (c : Configuration) (w : World) (entries : List Entry) → (with_entries c w entries).past ≡ after_entries entries w.past
 past_behind c w [] = refl
 past_behind c w (e ∷ entries) = past_behind c (with_entry c w e) entries
 
@@ -82,7 +81,7 @@ outputs_of p (e ∷ entries) of = (of.0.1, outputs_of p entries of.1)
 pub behind_event : (c : Configuration) (w : World) (old mid late new : Stage) (p : ℕ) (input : Entry) (entries : List Entry)
     → Stands c w old → is_correct c p ≡ true → party_of input ≡ p → is_output input ≡ false
     → KeepsRecords old mid → Adds c input mid late → KeepsParties mid late → AddsAll c entries late new → AreOf p entries → KeepsParties late new
-    → Attend c (behind entries (input ∷ w.past)) mid.replicas.items mid.seats.items → Behind c (with_entry c w input) new
+    → Attend c (after_entries entries (input ∷ w.past)) mid.replicas.items mid.seats.items → Behind c (with_entry c w input) new
 behind_event c w old mid late new p input entries st correct at in_first records adds first all of last attend = record {
   outputs = entries;
   are = outputs_of p entries of;
@@ -94,7 +93,7 @@ behind_event c w old mid late new p input entries st correct at in_first records
     orderly = record {
       parties = subst (Always (λ past e. is_correct c (party_of e) ≡ true)) (sym past)
           (parties c p entries (input ∷ w.past) correct of (ap (is_correct c) at ∙ correct, st.orderly.parties));
-      events = subst (Always Follows) (sym past) (follow p entries input w.past at of (input_follows input w.past in_first st.orderly.events));
+      events = subst (Always OutputFollows) (sym past) (follow p entries input w.past at of (input_follows input w.past in_first st.orderly.events));
     };
   };
 }
@@ -102,7 +101,7 @@ behind_event c w old mid late new p input entries st correct at in_first records
     v : World
     v = with_entries c (with_entry c w input) entries
 
-    past : v.past ≡ behind entries (input ∷ w.past)
+    past : v.past ≡ after_entries entries (input ∷ w.past)
     past = past_behind c (with_entry c w input) entries
 
     replicas_are : new.replicas.items ≡ mid.replicas.items
@@ -127,7 +126,7 @@ pub comes_replica : (c : Configuration) (old mid late new : Stage) (p : ℕ) (ev
 comes_replica c old mid late new p event outs seated low correct m seats records adds first all of last w st =
     let is = replica_input p event in
     behind_event c w old mid late new p (replica_inputs.input_of p event) (map (entry_of p) outs) st correct is.0 is.1 records adds first all of last
-    (subst (λ (xs : List Seat). Attend c (behind (map (entry_of p) outs) (replica_inputs.input_of p event ∷ w.past)) mid.replicas.items xs) (ap (λ x. x.items) (sym seats))
+    (subst (λ (xs : List Seat). Attend c (after_entries (map (entry_of p) outs) (replica_inputs.input_of p event ∷ w.past)) mid.replicas.items xs) (ap (λ x. x.items) (sym seats))
     (attend_replica c w.past old.replicas.items mid.replicas.items old.seats.items p event outs seated.valid (numbered c old seated) st.attend (replica_is_correct c p low correct) m of))
 
 pub comes_client : (c : Configuration) (old mid late new : Stage) (k : ℕ) (event : ClientEvent) (outs : List Output)
@@ -138,7 +137,7 @@ comes_client c old mid late new k event outs seated correct m kept records adds 
     let is = client_input (256 + k) event in
     let within = client_within c old k seated correct in
     behind_event c w old mid late new (256 + k) (client_steps.input_of (256 + k) event) (map (entry_of (256 + k)) outs) st (or_other (is_correct_replica c (256 + k)) (is_correct_client c (256 + k)) correct) is.0 is.1 records adds first all of last
-    (subst (λ (xs : List ReplicaData). Attend c (behind (map (entry_of (256 + k)) outs) (client_steps.input_of (256 + k) event ∷ w.past)) xs mid.seats.items) (ap (λ x. x.items) (sym kept))
+    (subst (λ (xs : List ReplicaData). Attend c (after_entries (map (entry_of (256 + k)) outs) (client_steps.input_of (256 + k) event ∷ w.past)) xs mid.seats.items) (ap (λ x. x.items) (sym kept))
     (attend_client c w.past old.replicas.items old.seats.items mid.seats.items k event outs seated.valid st.attend within (λ d. seated.client_numbers k d within) correct m of))
 
 pub comes_call : (c : Configuration) (old mid late new : Stage) (k : ℕ) (op : Operation) (timestamp : ℕ) (outs : List Output)
@@ -149,11 +148,11 @@ comes_call c old mid late new k op timestamp outs seated correct m kept records 
     let within = client_within c old k seated correct in (
       timestamp,
       behind_event c w old mid late new (256 + k) (Invoke k timestamp op) (map (entry_of (256 + k)) outs) st (or_other (is_correct_replica c (256 + k)) (is_correct_client c (256 + k)) correct) refl refl records adds first all of last
-          (subst (λ (xs : List ReplicaData). Attend c (behind (map (entry_of (256 + k)) outs) (Invoke k timestamp op ∷ w.past)) xs mid.seats.items) (ap (λ x. x.items) (sym kept))
+          (subst (λ (xs : List ReplicaData). Attend c (after_entries (map (entry_of (256 + k)) outs) (Invoke k timestamp op ∷ w.past)) xs mid.seats.items) (ap (λ x. x.items) (sym kept))
           (attend_call c w.past old.replicas.items old.seats.items mid.seats.items k op timestamp outs seated.valid st.attend within (λ d. seated.client_numbers k d within) correct allowed.1 m of)),
     )
 
--- the same of the steps in which the program makes it
+-- the same of the single steps by which the program makes the event
 pub from_replica : (c : Configuration) (old mid step late new : Stage) (p q : ℕ) (event : ReplicaEvent) (outs given : List Output) (input : Entry)
     → IsSeated c old → p ≡ q → q < 256 → is_correct c p ≡ true → Moves old.replicas.items q event given step.replicas.items → step.seats ≡ old.seats → KeepsRecords old step
     → mid ≡ step → outs ≡ given → input ≡ replica_inputs.input_of q event

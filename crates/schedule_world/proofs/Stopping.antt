@@ -1,4 +1,4 @@
--- Which parties have stopped, as the program finds them, and that no others have.
+-- The parties that have stopped, as the program finds them; and that no others have.
 use Rattle.std.proofs.Common.{◌≡◌, ℕ, zero, suc, ◌+◌, ◌-◌, ◌<◌, ◌≤◌, ◌⊎◌, inl, inr, Bool, true, false, cond, ◌||◌, List, [], ◌∷◌, ◌++◌, length, get_or, Option, Some, None, refl, sym, ap, ◌∙◌, subst, arith, append_assoc, eq-eqb, lt-ltb}
 use Rattle.std.specs.Prelude.{filter, slice_get, ◌==◌, nat_lt, AllPairs}
 use Rattle.std.specs.List.{range_with_len}
@@ -148,7 +148,7 @@ parties_ascend c s valid =
 
 -- ---- the program's tests
 
--- what the list has at the place, where it passes
+-- the element of the list at the place, if the test passes there
 read_place : {X : Type 0} (test : X → Bool) (xs : List X) (i : ℕ) → option_map_or test (slice_get xs i) false ≡ true
     → (x : X) × (slice_get xs i ≡ Some x) × (test x ≡ true)
 read_place {X} test xs i h = go (slice_get xs i) refl h

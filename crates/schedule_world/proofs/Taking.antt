@@ -1,4 +1,4 @@
--- Which steps may come, and what each leads to.
+-- The steps that are allowed, and the stages to which they lead.
 use Rattle.std.proofs.Common.{◌≡◌, ℕ, ◌+◌, ◌<◌, Bool, true, false, List, [], ◌∷◌, ◌++◌, length, get_or, Option, Some, None, refl, sym, ◌∙◌, subst, arith}
 use Rattle.std.specs.Prelude.{is_some}
 use Rattle.std.proofs.lemmas.Option.{slice_get_within}
@@ -82,7 +82,7 @@ leads_call c old new k op allowed comes done at =
     let d = comes at.world at.stands a in
     at_behind c (done ++ calls k op ∷ []) [] (with_entry c at.world (Invoke k d.0 op)) new (within_call c done at.world at.reaches k d.0 op a) d.1
 
--- ---- what may not come
+-- ---- steps that are not allowed
 
 pub differ : (b : Bool) → b ≡ false → b ≡ true → ⊥
 differ true f t = cc

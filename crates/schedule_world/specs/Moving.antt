@@ -1,4 +1,4 @@
--- What functions of the world do to it.
+-- How the functions of the stage change it.
 use Rattle.std.specs.Prelude.{◌≡◌, ℕ, suc, Bool, true, false, List, [], ◌∷◌, ◌++◌, map, is_some, slice_index_or, slice_set, slice_get, Some, ⊤, Vec}
 use Rattle.std.specs.declared.alloc.Global.{Global}
 use Rattle.terms.specs.Parties.{party_number}
@@ -26,14 +26,14 @@ use Rattle.schedule_world.specs.declared.stage.Stage.{Stage}
 use Rattle.schedule_world.specs.Pooled.{Frame, IsNext}
 use Rattle.schedule_world.specs.Stages.{Shows, Stands, At, with_entries}
 
--- ---- what is kept
+-- ---- parts that stay the same
 
--- the parties are as they were
+-- the parties stay the same
 pub record KeepsParties (old new : Stage) : Type 0 where
   pub replicas : new.replicas ≡ old.replicas
   pub seats : new.seats ≡ old.seats
 
--- trace, frames and acceptances are as they were
+-- trace, frames and acceptances stay the same
 pub record KeepsRecords (old new : Stage) : Type 0 where
   pub trace : new.trace ≡ old.trace
   pub pool : new.pool ≡ old.pool
@@ -41,30 +41,30 @@ pub record KeepsRecords (old new : Stage) : Type 0 where
 
 -- ---- entries
 
--- one that neither makes a frame nor accepts an answer
+-- the entry neither makes a frame nor accepts an answer
 abbrev pub IsPlain : Entry → Type 0
 IsPlain (Sent p bytes) = ⊥
 IsPlain (Accepted client timestamp answer) = ⊥
 IsPlain _ = ⊤
 
--- the entry comes
+-- the new stage has the entry more
 abbrev pub Adds : Configuration → Entry → Stage → Stage → Type 0
 Adds c e old new = (w : World) → Shows c w old → Shows c (with_entry c w e) new
 
--- what a party gave, as entries
+-- a party's outputs, as entries
 abbrev pub entry_by : Party → Output → Entry
 entry_by party output = entry_of (party_number party) output
 
 abbrev pub entries_by : Party → Vec Output Global → List Entry
 entries_by party outs = map (entry_by party) outs.items
 
--- an acceptance comes
+-- the new stage has the acceptance more
 abbrev pub AddsAccepted :
     {A : Type 0} → Configuration → ClientId → Timestamp → Answer A → Stage → Stage → Type 0
 AddsAccepted c client timestamp answer old new =
     Adds c (Accepted client.number timestamp.0 (outcome_of answer)) old new
 
--- the entries come, the oldest first
+-- the new stage has these entries more, the oldest first
 abbrev pub AddsAll : Configuration → List Entry → Stage → Stage → Type 0
 AddsAll c entries old new = (w : World) → Shows c w old → Shows c (with_entries c w entries) new
 
@@ -77,7 +77,7 @@ AreOf p entries = Each (IsOutputOf p) entries
 
 -- ---- the parties' steps
 
--- The replica of this number takes the event, gives the outputs, and no other moves. If it has stopped then, it gives
+-- Replica p takes the event and gives the outputs, and no other replica moves. If it has stopped then, it gives
 -- nothing.
 pub record Moves (old : List ReplicaData) (p : ℕ) (event : ReplicaEvent) (outs : List Output)
     (new : List ReplicaData) : Type 0 where
@@ -89,7 +89,7 @@ pub record Moves (old : List ReplicaData) (p : ℕ) (event : ReplicaEvent) (outs
   pub leads : replica_fits.EventLeads before event outs after
   pub silent : has_stopped after ≡ true → outs ≡ []
 
--- the client of this number takes the event, gives the outputs, and no other moves
+-- client k takes the event and gives the outputs, and no other client moves
 pub record MovesClient (old : List Seat) (k : ℕ) (event : ClientEvent) (outs : List Output)
     (new : List Seat) : Type 0 where
   pub before : Seat
@@ -101,7 +101,7 @@ pub record MovesClient (old : List Seat) (k : ℕ) (event : ClientEvent) (outs :
   pub leads : client_steps.EventLeads before.client event outs after.client
   pub silent : after.client.stopped ≡ true → outs ≡ []
 
--- the client of this number calls the operation, with the timestamp, gives the outputs, and no other moves
+-- client k calls the operation, with this timestamp, and gives the outputs, and no other client moves
 pub record Calls (old : List Seat) (k : ℕ) (op : Operation) (timestamp : ℕ) (outs : List Output)
     (new : List Seat) : Type 0 where
   pub before : Seat
@@ -115,7 +115,7 @@ pub record Calls (old : List Seat) (k : ℕ) (op : Operation) (timestamp : ℕ) 
       → client_steps.Leads before.client (Invoke before.client.number (suc before.client.calls) op) outs after.client
   pub silent : is_some before.client.call ≡ false → after.client.stopped ≡ true → outs ≡ []
 
--- the same of the world that they are in
+-- the same of the stage that they are in
 abbrev pub StepsReplica : Stage → ℕ → ReplicaEvent → List Output → Stage → Type 0
 StepsReplica old p event outs new = Moves old.replicas.items p event outs new.replicas.items
 
@@ -125,30 +125,30 @@ StepsClient old k event outs new = MovesClient old.seats.items k event outs new.
 abbrev pub Invokes : Stage → ℕ → Operation → Stage → Timestamp × Vec Output Global → Type 0
 Invokes old k op new given = Calls old.seats.items k op given.0.0 given.1.items new.seats.items
 
--- the party is the first that waits, for the first frame that one waits for
+-- the frame is the first that a party waits for, and the party is the first that waits for it
 abbrev pub WaitsFirst : List Frame → ℕ × Party → Type 0
 WaitsFirst pool next = IsNext pool next.0 (party_number next.1)
 
 -- ---- events
 
--- the world behind an input, and outputs
+-- the stage stands at the world after this one and some outputs
 pub record Behind (c : Configuration) (w : World) (s : Stage) : Type 0 where
   pub outputs : List Entry
   pub are : AreOutputs outputs
   pub stands : Stands c (with_entries c w outputs) s
 
--- the input comes, and then outputs
+-- the party takes the input, and then gives outputs
 abbrev pub Comes : Configuration → Entry → Stage → Stage → Type 0
 Comes c input old new = (w : World) → Stands c w old → Behind c (with_entry c w input) new
 
--- the frame comes to the party, and then outputs
+-- the party takes the frame, and then gives outputs
 abbrev pub Delivers : Configuration → ℕ → ℕ → Stage → Stage → Type 0
 Delivers c frame party old new =
     (w : World) → Stands c w old
     → (made : Made) × (slice_get w.frames frame ≡ Some made)
     × Behind c (record (with_entry c w (Got party made.bytes)) { delivered = (frame, party) ∷ w.delivered }) new
 
--- the call comes where it may, and then outputs
+-- the client calls if it may, and then gives outputs
 abbrev pub CallComes : Configuration → ℕ → Operation → Stage → Stage → Type 0
 CallComes c k op old new =
     (w : World) → Stands c w old → IsAllowed c w (calls k op)
@@ -170,11 +170,11 @@ seal_of sender receivers body = seal (party_number sender) (map party_number rec
 abbrev pub sign_of : Party → ℕ → List Party → List ℕ → Step
 sign_of signer leaf receivers body = sign (party_number signer) leaf (map party_number receivers) body
 
--- the step leads from the one to the other
+-- the step leads from the old stage to the new one
 abbrev pub LeadsBy : Configuration → Step → Stage → Stage → Type 0
 LeadsBy c step old new = (done : List Step) → At c done [] old → At c (done ++ step ∷ []) [] new
 
--- the step was taken, or it may not come and nothing happened
+-- the step was taken; or it is not allowed, and nothing happened
 abbrev pub Takes : Configuration → Step → Stage → Stage → Bool → Type 0
 Takes c step old new true = LeadsBy c step old new
 Takes c step old new false = (new ≡ old) × ((w : World) → Stands c w old → IsAllowed c w step → ⊥)

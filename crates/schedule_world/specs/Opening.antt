@@ -1,4 +1,4 @@
--- What the world begins with.
+-- The parties before the first step.
 use Rattle.std.specs.Prelude.{◌≡◌, ℕ, ◌<◌, false, List, [], length, slice_index_or}
 use Rattle.protocol.specs.System.Configuration.{Configuration, replicas}
 use Rattle.replica.specs.State.{ReplicaData, has_stopped}
@@ -6,18 +6,18 @@ use Rattle.replica.specs.Fits as replica_fits
 use Rattle.schedule_world.specs.declared.stage.Seat.{Seat}
 use Rattle.schedule_world.specs.Stages.{FitsSeat}
 
--- a replica of this number, to which nothing happened
+-- a replica of number p, with an empty history
 pub record IsNewReplica (c : Configuration) (p : ℕ) (r : ReplicaData) : Type 0 where
   pub number : replica_fits.me_of r ≡ p
   pub fits : replica_fits.Fits c r []
   pub runs : has_stopped r ≡ false
 
--- so is a client
+-- a client of number k, with an empty history
 pub record IsNewSeat (c : Configuration) (k : ℕ) (seat : Seat) : Type 0 where
   pub number : seat.client.number ≡ k
   pub fits : FitsSeat c seat []
 
--- each number has its own
+-- each number has such a party
 pub record AreNewReplicas (c : Configuration) (rs : List ReplicaData) : Type 0 where
   pub count : length rs ≡ replicas c
   pub each : (p : ℕ) (d : ReplicaData) → p < length rs → IsNewReplica c p (slice_index_or rs p d)

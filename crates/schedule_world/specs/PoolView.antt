@@ -1,4 +1,4 @@
--- What a pool is seen as.
+-- The model of a pool.
 use Rattle.std.specs.Prelude.{List, map}
 use Rattle.terms.specs.Parties.{party_number}
 use Rattle.schedule_world.specs.declared.pool.Made.{Made}

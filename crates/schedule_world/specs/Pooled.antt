@@ -6,21 +6,21 @@ pub record Frame : Type 0 where
   pub bytes : List ℕ
   pub waiting : List ℕ
 
--- with one more
+-- the frames with one more
 abbrev pub added : List Frame → List ℕ → List ℕ → List Frame
 added fs bytes waiting = fs ++ record { bytes = bytes; waiting = waiting } ∷ []
 
--- those of the numbers that are not this one
+-- the numbers without p
 abbrev pub others : ℕ → List ℕ → List ℕ
 others p = filter (λ q. not (q == p))
 
--- The party doesn't wait for the frame of this number any more, where it was made.
+-- Party p no longer waits for the frame of number n, if that was made.
 abbrev pub noted : List Frame → ℕ → ℕ → List Frame
 noted [] n p = []
 noted (f ∷ fs) zero p = record f { waiting = others p f.waiting } ∷ fs
 noted (f ∷ fs) (suc n) p = f ∷ noted fs n p
 
--- nobody waits for it
+-- nobody waits for the frame
 abbrev pub IsServed : Frame → Type 0
 IsServed f = f.waiting ≡ []
 

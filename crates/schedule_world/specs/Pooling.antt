@@ -1,4 +1,4 @@
--- What a pool has of the world of a schedule.
+-- The pool of the world of a schedule.
 use Rattle.std.specs.Prelude.{◌≡◌, ℕ, suc, ◌<◌, Bool, ◌&&◌, not, List, [], ◌∷◌, length, filter, All}
 use Rattle.protocol.specs.System.Configuration.{Configuration, is_correct}
 use Rattle.protocol.specs.System.Schedule.{Made, World, is_delivered}
@@ -8,7 +8,7 @@ use Rattle.schedule_world.specs.Pooled.{Frame}
 abbrev pub is_due : Configuration → List (ℕ × ℕ) → ℕ → ℕ → Bool
 is_due c delivered number party = is_correct c party && not (is_delivered delivered number party)
 
--- a frame of the world, which has this number, and those of its receivers that it is due to
+-- a frame of the world, of this number, with the receivers to which it is due
 abbrev pub pooled : Configuration → List (ℕ × ℕ) → ℕ → Made → Frame
 pooled c delivered number made =
     record { bytes = made.bytes; waiting = filter (is_due c delivered number) made.receivers }

@@ -1,4 +1,4 @@
--- The correct ones of those for whom frames are.
+-- The correct receivers of frames.
 use Rattle.std.specs.Prelude.{◌≡◌, ℕ, List, ◌++◌, map, filter, Vec, Result, OnOk}
 use Rattle.std.specs.declared.alloc.Global.{Global}
 use Rattle.terms.specs.Parties.{party_number}
@@ -13,7 +13,7 @@ correct_in c = filter (is_correct c)
 abbrev pub AreCorrectOf : Configuration → List ℕ → Vec Party Global → Type 0
 AreCorrectOf c numbers parties = map party_number parties.items ≡ correct_in c numbers
 
--- The correct ones of these stand behind the parties that were there, unless the function fails.
+-- Unless it fails, the function adds the correct ones of these parties after those that were there.
 abbrev pub AddsCorrect : {U E : Type 0} → Configuration → List ℕ → Vec Party Global → Vec Party Global → Result U E
     → Type 0
 AddsCorrect c numbers old new result =

@@ -1,4 +1,4 @@
--- What a run comes to, and what a refusal tells.
+-- The promises of a report and of a refusal.
 use Rattle.std.specs.Prelude.{◌≡◌, ◌<◌, ℕ, List, map, take, reverse, slice_get, Some, AllPairs, Vec, ⊤}
 use Rattle.std.specs.declared.alloc.Global.{Global}
 use Rattle.terms.specs.Parties.{party_number}
@@ -25,10 +25,9 @@ trace_of report = reverse report.trace.items
 abbrev pub numbers_of : Vec Party Global → List ℕ
 numbers_of parties = map party_number parties.items
 
--- The steps feed the trace, which is a run's. Only the parties that are reported as stopped did stop: each other correct
--- party does all that it owes. The acceptances are reported with their positions, and the points. Where the trace is
--- unforged and its texts do not collide, the points are those of one sequential tuple space: they are legal, cover the
--- trace and are placed in it.
+-- The report is right. The steps feed its trace, which is a run. Only the parties that it names as stopped did stop:
+-- each other correct party does all that it owes. Its acceptances, with their positions, and its points are those of
+-- the trace. If the trace is unforged and its texts do not collide, the points linearize it.
 pub record Tells (c : Configuration) (steps : List Step) (report : Report) : Type 0 where
   pub feeds : Feeds c (map step_of steps) (trace_of report)
   pub run : IsRun c (trace_of report)
@@ -39,8 +38,8 @@ pub record Tells (c : Configuration) (steps : List Step) (report : Report) : Typ
   pub linear : Unforged c (trace_of report) → NoCollision c (trace_of report)
       → IsLinear c (items_of report.points.items) (trace_of report)
 
--- The report tells the run of the steps before this index. The step of this index may not come in the world to which they
--- led in that run.
+-- The report is right for a run of the steps before this index. The step of this index is not allowed in the world to
+-- which they led in that run.
 pub record StopsHere (c : Configuration) (steps : List Step) (n : ℕ) (before : Report) : Type 0 where
   pub tells : Tells c (take n steps) before
   pub world : World

@@ -1,9 +1,9 @@
--- The world of the program beside that of the definition, and what holds of both between events.
+-- The program's stage beside the world of the definitions, and their invariant between events.
 use Rattle.std.specs.Prelude.{◌≡◌, ℕ, ◌+◌, ◌<◌, true, List, [], ◌∷◌, map, length, reverse, is_some, slice_index_or, Bool}
 use Rattle.tuple_codec.specs.OperationView.{outcome_of}
 use Rattle.protocol.specs.System.Configuration.{Configuration, IsConfiguration, replicas, is_correct, is_correct_replica, is_correct_client}
 use Rattle.protocol.specs.System.Trace.{Entry, party_of, history_of, Always}
-use Rattle.protocol.specs.System.Run.{Follows, GaveNothingLast}
+use Rattle.protocol.specs.System.Run.{OutputFollows, GaveNothingLast}
 use Rattle.protocol.specs.System.Schedule as schedules
 use Rattle.protocol.specs.System.Schedule.{Step, World, with_entry, acceptances, meant_for}
 use Rattle.protocol.specs.Client.RightClient.{last_call}
@@ -16,7 +16,7 @@ use Rattle.schedule_world.specs.declared.stage.Stage.{Stage}
 use Rattle.schedule_world.specs.Pooling.{IsPool}
 use Rattle.schedule_world.specs.Reaching.{Reaches}
 
--- what an acceptance of the program stands for
+-- an acceptance of the program, as that of the definitions
 abbrev pub acceptance_of : Acceptance → schedules.Acceptance
 acceptance_of a = record {
   position = a.position;
@@ -41,13 +41,13 @@ IsOpen s k b = (d : Seat) → b ≡ is_some (slice_index_or s.seats.items k d).c
 
 -- ---- at any entry, also within an event
 
--- The trace, the frames and the acceptances are those of the world.
+-- The stage has the trace, the frames and the acceptances of the world.
 pub record Shows (c : Configuration) (w : World) (s : Stage) : Type 0 where
   pub past : reverse s.trace.items ≡ w.past
   pub frames : IsPool c w s.pool
   pub accepted : map acceptance_of s.accepted.items ≡ reverse (acceptances w.past)
 
--- the world behind entries, the oldest first
+-- the world after these entries, the oldest first
 abbrev pub with_entries : Configuration → World → List Entry → World
 with_entries c w [] = w
 with_entries c w (e ∷ entries) = with_entries c (with_entry c w e) entries
@@ -58,7 +58,7 @@ with_entries c w (e ∷ entries) = with_entries c (with_entry c w e) entries
 abbrev pub FitsReplica : Configuration → ReplicaData → List Entry → Type 0
 FitsReplica c r history = replica_fits.Fits c r history × (has_stopped r ≡ true → GaveNothingLast history)
 
--- So does the client, and its seat knows the last call.
+-- The client fits the history in the same way, and its seat knows the last timestamp.
 abbrev pub FitsSeat : Configuration → Seat → List Entry → Type 0
 FitsSeat c seat history =
     client_fits.Fits c seat.client history × (last_call history ≡ seat.calls)
@@ -72,22 +72,22 @@ pub record Attend (c : Configuration) (trace : List Entry) (rs : List ReplicaDat
   pub clients : (k : ℕ) (d : Seat) → is_correct_client c (256 + k) ≡ true
       → FitsSeat c (slice_index_or seats k d) (history_of (256 + k) trace)
 
--- what holds of a trace at any entry: its parties are correct, and outputs follow their inputs
+-- the trace's parties are correct, and outputs follow their inputs
 pub record IsOrderly (c : Configuration) (trace : List Entry) : Type 0 where
   pub parties : Always (λ past e. is_correct c (party_of e) ≡ true) trace
-  pub events : Always Follows trace
+  pub events : Always OutputFollows trace
 
--- The program's world is this one.
+-- The stage stands at this world: it shows it, its parties fit their histories, and the trace is orderly.
 pub record Stands (c : Configuration) (w : World) (s : Stage) : Type 0 where
   pub shows : Shows c w s
   pub attend : Attend c w.past s.replicas.items s.seats.items
   pub orderly : IsOrderly c w.past
 
--- It is some world of the definition.
+-- The stage stands at some world.
 abbrev pub IsStanding : Configuration → Stage → Type 0
 IsStanding c s = (w : World) × Stands c w s
 
--- Steps that are done have led here, where so much of a step is left.
+-- The stage stands at a world to which the steps done lead, with these steps done in part.
 pub record At (c : Configuration) (done left : List Step) (s : Stage) : Type 0 where
   pub world : World
   pub stands : Stands c world s

@@ -29,7 +29,7 @@ stopped_clients c s = filter (is_stopped_client c s.seats.items) (range_with_len
 abbrev pub stopped_parties : Configuration → Stage → List ℕ
 stopped_parties c s = stopped_replicas c s ++ stopped_clients c s
 
--- The parties of these numbers come after those that were there, unless the function fails.
+-- Unless it fails, the function adds the parties of these numbers after those that were there.
 abbrev pub AddsParties : {U E : Type 0} → List ℕ → Vec Party Global → Vec Party Global → Result U E → Type 0
 AddsParties numbers old new result =
     OnOk result (map party_number new.items ≡ map party_number old.items ++ numbers)

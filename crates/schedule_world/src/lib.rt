@@ -1,18 +1,30 @@
-//! The world of schedules: correct replicas and clients, which get what a schedule says and nothing else.
+//! The world of schedules: correct replicas and clients, which receive the inputs of a schedule and nothing else.
 //!
 //! # What is proved
 //!
-//! [`run`] gives a trace that the schedule feeds, and that is a run's (`IsRun`): in it each correct replica's history
-//! and each correct client's is that of a correct one. The report names the correct parties that stopped for want of
-//! memory; each other one does all that it owes (`OnlyTheseStopped`). With it come the acceptances in it, at their
-//! positions, and its points. If no message of a correct party is forged and no two different texts of the run have one
-//! digest (`NoCollision` lists them, the pages of the executed states among them), the points are those of one
-//! sequential tuple space: they are legal, cover the trace, and stand between invocations and acceptances.
+//! [`run`] returns a trace that the schedule feeds and that is a run (`IsRun`): each correct party's history in it is a
+//! correct party's. The report names the correct parties that ran out of memory and stopped. Each other correct party
+//! does all that it owes (`OnlyTheseStopped`). With the trace come its acceptances, with their positions, and its
+//! points. If no message of a correct party is forged and no two different texts of the run have one digest
+//! (`NoCollision` lists them, the pages of the executed states among them), the points are those of one sequential
+//! tuple space: they are legal, cover the trace, and stand between invocations and acceptances.
 //!
-//! A schedule is refused exactly at its first step that may not come. All steps before it came, and the refusal has the
-//! report of the run that they made, in whose world that step may not come. So if no party stopped by that report, no
-//! step is refused as though a party that owes a frame had not sent it: [`first_frame_may_come`] shows that of a call's
-//! first frame.
+//! `run` refuses a schedule exactly at its first step that is not allowed. The refusal has the report of a run of all
+//! steps before it, in whose world that step is not allowed. So if the report names no stopped party, `run` refuses no
+//! step as if a party had not sent a frame that it owes: [`first_frame_may_come`] shows this of a call's first frame.
+//!
+//! # How it is made
+//!
+//! - `run` plays steps on a `Stage` (`src/stage.rt`): the correct replicas and clients, the trace, and a `Pool` of
+//!   frames. Each frame has the correct receivers that didn't get it yet.
+//! - A step either moves the stage as the definitions' `World` moves (`Takes` in `specs/Moving.antt`, over `Goes` of
+//!   the protocol's `Schedule.antt`), or may not come (`IsAllowed`).
+//! - Beside the stage lies a tree of keys for each faulty replica that has signed (`ReplicaKeys` in `src/making.rt`).
+//! - `IsStanding` ties the stage to its trace: each correct replica and each correct client fits its part of the trace.
+//!   A party that gives outputs hands that on by its own contract (`Leads`). So nothing here looks into a replica or a
+//!   client.
+//! - `flush` takes frames by number and receivers by party number, from the place where it stopped before. So it is
+//!   linear in its deliveries.
 #![tactic(auto)]
 
 mod laws;

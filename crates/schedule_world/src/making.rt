@@ -74,7 +74,8 @@ fn key_between(seed: &[u8; 32], from: Party, to: Party) -> [u8; 32]
     hmac(seed, &[b'M', from_high, from_low, to_high, to_low])
 }
 
-/// The key tree of a replica, with what it is derived from. To make one takes some 115,000 blocks of SHA-256.
+/// The key tree of a replica, with the seed and number that it comes from. Making one takes some 115,000 blocks of
+/// SHA-256.
 #[derive(Drop)]
 pub(crate) struct ReplicaKeys {
     seed: [u8; 32],
@@ -94,7 +95,7 @@ impl ReplicaKeys {
         }
     }
 
-    // The tree, where it is this replica's under this seed.
+    // The tree, if it is this replica's under this seed.
     fn tree_of(&self, seed: &[u8; 32], signer: Party) -> Option<&KeyTree>
         ensures { IfSome result (λ tree. tree.now ≡ seed_of seed.now signer) }
     {

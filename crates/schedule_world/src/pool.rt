@@ -19,7 +19,7 @@ struct Made {
 #[derive(Drop)]
 pub(crate) struct Pool {
     frames: Vec<Made>,
-    /// For those in front of this one nobody waits.
+    /// Nobody waits for the frames before this one.
     first: usize,
 }
 
@@ -56,14 +56,14 @@ impl Pool {
         Ok(())
     }
 
-    /// The bytes of a frame, from 0, where it was made.
+    /// The bytes of the frame of this number, from 0, if it was made.
     pub(crate) fn bytes(&self, frame: usize) -> Option<&[u8]>
         ensures { MatchOption result (length self.now ≤ frame) (λ bytes. HasBytes self.now frame bytes.now) }
     {
         Some(self.frames.get(frame)?.bytes.as_slice())
     }
 
-    /// The party doesn't wait for the frame any more.
+    /// The party no longer waits for the frame.
     pub(crate) fn note_delivered(&mut self, frame: usize, party: Party)
         ensures { self.new ≡ noted self.old frame (party_number party) }
     {

@@ -1,4 +1,4 @@
-//! For whom frames are.
+//! The receivers of frames.
 
 ghost use Rattle.std.specs.Prelude.{◌≡◌, ◌↔◌, ◌-◌, ◌∷◌, [], ◌≤◌, nat_lt, length, map, IfOk, IsTrue};
 ghost use Rattle.std.specs.List.{list_all, range_with_len};
@@ -70,8 +70,8 @@ fn ascend(parties: &[Party]) -> bool
     first.number() < next.number() && ascend(rest)
 }
 
-/// The correct parties that the frame of these bytes is for: those with a MAC in it, of a signed one all replicas but
-/// its sender. Bytes that are no frame are for nobody.
+/// The correct parties that the frame of these bytes is for: those with a MAC in it or, if it is signed, all replicas
+/// but its sender. Bytes that are no frame are for nobody.
 pub(crate) fn correct_receivers(
     alloc: Global,
     config: &Config,

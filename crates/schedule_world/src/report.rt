@@ -1,4 +1,4 @@
-//! What a run comes to.
+//! The report of a run.
 
 use events::Entry;
 use points::Point;
@@ -16,15 +16,15 @@ pub struct Acceptance {
     pub answer: Answer<Global>,
 }
 
-/// What a run comes to.
+/// The report of a run.
 #[derive(Drop)]
 pub struct Report {
     /// The entries of all correct parties, oldest first.
     pub trace: Vec<Entry>,
     /// In order of position.
     pub accepted: Vec<Acceptance>,
-    /// What acted, in the order of one sequential space.
+    /// The operations that acted, in the order of one sequential space.
     pub points: Vec<Point>,
-    /// The correct parties that stopped for want of memory, ascending by number.
+    /// The correct parties that ran out of memory and stopped, ascending by number.
     pub stopped: Vec<Party>,
 }

@@ -28,7 +28,7 @@ use tuple_codec::Op;
 /// Why a schedule was not run.
 #[derive(Drop, Error)]
 pub enum RunFault {
-    /// The step of this index, from 0, may not come where it stands. The report tells the run of the steps before it.
+    /// The step of this index, from 0, is not allowed at its place. The report is that of the steps before it.
     #[error("step {step} may not come")]
     BadSchedule { step: usize, before: Report },
     #[error("out of memory")]
@@ -55,17 +55,18 @@ impl From<NoMemory> for RunFault {
     }
 }
 
-/// Plays the steps, each where those before it have led. Over every schedule in which at most `f` of the `3f + 1`
-/// replicas and any clients are faulty, what correct clients accept, of reads and writes alike, is what one sequential
-/// tuple space answers, in which each operation acts at most once, an accepted one exactly once, at a position between
-/// its invocation and its acceptance (Herlihy and Wing, Linearizability, TOPLAS 1990).
+/// Plays the steps in order. If at most `f` of the `3f + 1` replicas and any clients are faulty, the answers that
+/// correct clients accept, of reads and writes alike, are those of one sequential tuple space. Each operation acts at
+/// most once there, an accepted one exactly once, at a position between its invocation and its acceptance (Herlihy and
+/// Wing, Linearizability, TOPLAS 1990).
 ///
-/// The report names the correct parties that stopped for want of memory. Each other one does all that it owes.
+/// The report names the correct parties that ran out of memory and stopped. Each other correct party does all that it
+/// owes.
 ///
 /// # Errors
 ///
-/// BadSchedule with the first step that may not come and the report of the steps before it, and NoMemory where memory
-/// runs out.
+/// BadSchedule with the first step that is not allowed and the report of the steps before it; NoMemory if memory runs
+/// out.
 pub fn run(alloc: Global, config: &Config, steps: &[Step]) -> Result<Report, RunFault>
     ensures tells { IfOk result (Tells config.now steps.now) }
     ensures stops { IfErr result (TellsFault config.now steps.now) }
@@ -81,7 +82,7 @@ pub fn run(alloc: Global, config: &Config, steps: &[Step]) -> Result<Report, Run
     Ok(report_of(stage, alloc, config)?)
 }
 
-// What the steps came to that led here.
+// The report of the steps that led here.
 fn report_of(stage: Stage, alloc: Global, config: &Config) -> Result<Report, NoMemory>
     requires { IsSeated config.now stage }
     ensures { IfOk result (IsReportOf config.now stage) }
@@ -101,7 +102,7 @@ fn report_of(stage: Stage, alloc: Global, config: &Config) -> Result<Report, NoM
     })
 }
 
-// Plays a step, and answers whether it may come; one that may not changes nothing. By the keys faulty replicas sign.
+// Plays a step, and returns whether it is allowed; one that is not changes nothing. Faulty replicas sign by the keys.
 fn take_step(
     stage: &mut Stage,
     alloc: Global,

@@ -37,7 +37,7 @@ struct Seat {
     calls: u64,
 }
 
-/// The parties, the frames that were made, and the trace. Faulty parties are there too, and get nothing.
+/// The parties, the frames that were made, and the trace. Faulty parties are there too, and receive nothing.
 #[derive(Drop)]
 pub(crate) struct Stage {
     replicas: Vec<Replica>,
@@ -53,7 +53,7 @@ impl Stage {
         ensures seated { IfOk result (λ s. IsSeated config.now s) }
         ensures stands { IfOk result (λ s. At config.now [] [] s) }
     {
-        // It is valid.
+        // The call shows that the configuration is valid.
         let _faults = config.faults();
         let publics = PublicKeys::new(alloc, config.seed())?;
         Ok(Stage {
@@ -80,7 +80,7 @@ impl Stage {
         self.pool.bytes(frame).is_some()
     }
 
-    /// A call of a correct client that has none open.
+    /// A correct client without an open call calls an operation.
     pub(crate) fn call(
         &mut self,
         alloc: Global,
@@ -101,7 +101,7 @@ impl Stage {
         Ok(())
     }
 
-    /// A frame that was made is got by a correct party.
+    /// Delivers a frame that was made to a correct party.
     pub(crate) fn deliver(
         &mut self,
         alloc: Global,
@@ -132,7 +132,7 @@ impl Stage {
         }
     }
 
-    /// Bytes are got by a correct party.
+    /// Delivers bytes to a correct party.
     pub(crate) fn feed(
         &mut self,
         alloc: Global,
@@ -158,7 +158,7 @@ impl Stage {
         Ok(())
     }
 
-    /// A correct party is told that time went by.
+    /// Tells a correct party that time went by.
     pub(crate) fn tick(
         &mut self,
         alloc: Global,
@@ -179,7 +179,7 @@ impl Stage {
         Ok(())
     }
 
-    /// A frame of a faulty party for these receivers.
+    /// Adds a frame of a faulty party for these receivers.
     pub(crate) fn add_made(
         &mut self,
         alloc: Global,
@@ -196,7 +196,7 @@ impl Stage {
         Ok(())
     }
 
-    /// Each frame goes to each of its correct receivers that didn't get it yet, also those that are made meanwhile.
+    /// Delivers each frame to each of its correct receivers that didn't get it yet, also those that are made meanwhile.
     pub(crate) fn flush(&mut self, alloc: Global, config: &Config) -> Result<(), NoMemory>
         requires seated { IsSeated config.now self.old }
         requires stands { IsStanding config.now self.old }
@@ -335,7 +335,7 @@ impl Stage {
         }
     }
 
-    // A client's call, with its timestamp. At a refusal the client has stopped, and the call is open for good.
+    // A client calls, with its timestamp. If it returns an error, it has stopped, and the call stays open for good.
     fn invoke(
         &mut self,
         alloc: Global,
@@ -360,7 +360,7 @@ impl Stage {
         }
     }
 
-    // An entry that makes no frame, and accepts nothing.
+    // Adds an entry that makes no frame, and accepts nothing.
     fn add(&mut self, config: &Config, kind: EntryKind) -> Result<(), NoMemory>
         requires plain { IsPlain (entry_of_kind kind) }
         ensures adds { OnOk result (Adds config.now (entry_of_kind kind) self.old self.new) }
@@ -370,7 +370,7 @@ impl Stage {
         Ok(())
     }
 
-    // What a party gave, in order.
+    // Adds a party's outputs, in order.
     fn add_outputs(
         &mut self,
         alloc: Global,
@@ -388,7 +388,7 @@ impl Stage {
         Ok(())
     }
 
-    // One thing that it gave. Only replicas execute, and only clients accept.
+    // Adds one output. Only replicas execute, and only clients accept.
     fn add_output(
         &mut self,
         alloc: Global,
@@ -416,7 +416,7 @@ impl Stage {
         }
     }
 
-    // A frame, with the correct ones of those that it is for.
+    // Adds a frame that a party sent, with its correct receivers.
     fn add_sent(
         &mut self,
         alloc: Global,
@@ -434,7 +434,7 @@ impl Stage {
         Ok(())
     }
 
-    // An acceptance, with its position in the trace.
+    // Adds an acceptance, with its position in the trace.
     fn add_accepted(
         &mut self,
         alloc: Global,

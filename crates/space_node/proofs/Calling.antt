@@ -5,7 +5,7 @@ use Rattle.wire.specs.Lists.{Each}
 use Rattle.protocol.specs.System.Trace.{Entry}
 use Rattle.protocol.specs.System.Trace.Entry.{Invoke, Got, Tick, Executed, Installed, Sent, Accepted}
 use Rattle.protocol.specs.Client.RightClient.{last_call}
-use Rattle.events.specs.Outputs.{behind, entry_of}
+use Rattle.events.specs.Outputs.{after_entries, entry_of}
 use Rattle.events.specs.declared.output.Output.{Output}
 use Rattle.events.specs.declared.output.Output.TheVariants as outputs
 use Rattle.space_node.specs.Calls.{AcceptNothing, Accepts, Begins, Called, Ends, GoesOn, IsQuiet, IsUnanswered, Refused}
@@ -17,11 +17,11 @@ each_append : {A : Type 0} (P : A → Type 0) (xs ys : List A) → Each P xs →
 each_append P [] ys h k = k
 each_append P (x ∷ xs) ys h k = (h.0, each_append P xs ys h.1 k)
 
-each_behind : (P : Entry → Type 0) (es past : List Entry) → Each P es → Each P past → Each P (behind es past)
+each_behind : (P : Entry → Type 0) (es past : List Entry) → Each P es → Each P past → Each P (after_entries es past)
 each_behind P [] past h k = k
 each_behind P (e ∷ es) past h k = each_behind P es (e ∷ past) h.1 (h.0, k)
 
-behind_append : (es xs past : List Entry) → behind es (xs ++ past) ≡ behind es xs ++ past
+behind_append : (es xs past : List Entry) → after_entries es (xs ++ past) ≡ after_entries es xs ++ past
 behind_append [] xs past = refl
 behind_append (e ∷ es) xs past = behind_append es (e ∷ xs) past
 
@@ -59,26 +59,26 @@ unanswered (Accepted client timestamp answer ∷ more) quiet = absurd quiet.0
 
 pub begins : (old new : Seated) (k timestamp : ℕ) (op : Operation) (outs : List Output) (es : List Entry)
     → k ≡ old.party - 256 → timestamp ≡ suc (last_call old.history) → es ≡ Invoke k timestamp op ∷ map (entry_of old.party) outs → AcceptNothing outs
-    → new ≡ record { party = old.party; history = behind es old.history; stopped = false } → Begins old op new
+    → new ≡ record { party = old.party; history = after_entries es old.history; stopped = false } → Begins old op new
 begins old new k timestamp op outs es who when are none is =
     let invoke : Invoke k timestamp op ≡ Invoke (old.party - 256) (suc (last_call old.history)) op =
     ap (λ (j : ℕ). Invoke j timestamp op) who ∙ ap (λ (t : ℕ). Invoke (old.party - 256) t op) when in
     record {
-      more = behind (map (entry_of old.party) outs) [];
+      more = after_entries (map (entry_of old.party) outs) [];
       quiet = each_behind IsQuiet (map (entry_of old.party) outs) [] (quiet_outputs old.party outs none) tt;
-      history = ap (λ (s : Seated). s.history) is ∙ (ap (λ (xs : List Entry). behind xs old.history) are
+      history = ap (λ (s : Seated). s.history) is ∙ (ap (λ (xs : List Entry). after_entries xs old.history) are
           ∙ (behind_append (map (entry_of old.party) outs) [] (Invoke k timestamp op ∷ old.history)
-          ∙ ap (λ (e : Entry). behind (map (entry_of old.party) outs) [] ++ e ∷ old.history) invoke));
+          ∙ ap (λ (e : Entry). after_entries (map (entry_of old.party) outs) [] ++ e ∷ old.history) invoke));
       party = ap (λ (s : Seated). s.party) is;
       running = ap (λ (s : Seated). s.stopped) is;
     }
 
 pub goes_on : (old new : Seated) (input : Entry) (outs : List Output) (es : List Entry) → IsQuiet input → es ≡ input ∷ map (entry_of old.party) outs → AcceptNothing outs
-    → new ≡ record { party = old.party; history = behind es old.history; stopped = false } → GoesOn old new
+    → new ≡ record { party = old.party; history = after_entries es old.history; stopped = false } → GoesOn old new
 goes_on old new input outs es quiet are none is = record {
-  more = behind (map (entry_of old.party) outs) (input ∷ []);
+  more = after_entries (map (entry_of old.party) outs) (input ∷ []);
   quiet = each_behind IsQuiet (map (entry_of old.party) outs) (input ∷ []) (quiet_outputs old.party outs none) (quiet, tt);
-  history = ap (λ (s : Seated). s.history) is ∙ (ap (λ (xs : List Entry). behind xs old.history) are
+  history = ap (λ (s : Seated). s.history) is ∙ (ap (λ (xs : List Entry). after_entries xs old.history) are
       ∙ behind_append (map (entry_of old.party) outs) (input ∷ []) old.history);
   party = ap (λ (s : Seated). s.party) is;
   running = ap (λ (s : Seated). s.stopped) is;
@@ -86,11 +86,11 @@ goes_on old new input outs es quiet are none is = record {
 
 pub ends : (old new : Seated) (input : Entry) (timestamp : ℕ) (answer : Outcome) (es : List Entry) → IsQuiet input → timestamp ≡ last_call old.history
     → es ≡ input ∷ Accepted (old.party - 256) timestamp answer ∷ []
-    → new ≡ record { party = old.party; history = behind es old.history; stopped = false } → Ends old answer new
+    → new ≡ record { party = old.party; history = after_entries es old.history; stopped = false } → Ends old answer new
 ends old new input timestamp answer es quiet when are is = record {
   more = input ∷ [];
   quiet = (quiet, tt);
-  history = ap (λ (s : Seated). s.history) is ∙ (ap (λ (xs : List Entry). behind xs old.history) are
+  history = ap (λ (s : Seated). s.history) is ∙ (ap (λ (xs : List Entry). after_entries xs old.history) are
       ∙ ap (λ (t : ℕ). Accepted (old.party - 256) t answer ∷ input ∷ old.history) when);
   party = ap (λ (s : Seated). s.party) is;
   running = ap (λ (s : Seated). s.stopped) is;

@@ -1,4 +1,4 @@
--- A closure may go to another thread where all may that it holds.
+-- A closure may go to another thread if all values that it holds may.
 use mathlib.Core.List.{List, [], ◌∷◌}
 use mir.Syntax.{Sym}
 use denote.RattleType.{RattleType}

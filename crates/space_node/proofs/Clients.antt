@@ -1,4 +1,4 @@
--- Clients and their histories, behind an event.
+-- Clients and their histories, after an event.
 use Rattle.std.proofs.Common.{◌≡◌, ℕ, suc, ◌+◌, ◌≤◌, ◌^◌, Bool, true, false, ◌||◌, List, [], ◌∷◌, map, refl, sym, ap, ◌∙◌, subst, arith, nat_le}
 use Rattle.std.specs.Prelude.{is_some}
 use Rattle.std.proofs.lemmas.Bool.{leb-true, true≢false}
@@ -7,7 +7,7 @@ use Rattle.protocol.specs.System.Configuration.{Configuration}
 use Rattle.protocol.specs.System.Trace.{Entry}
 use Rattle.protocol.specs.System.Trace.Entry.{Invoke}
 use Rattle.protocol.specs.Client.RightClient.{IsClient, IsPromptClient, last_call, open_call}
-use Rattle.events.specs.Outputs.{behind, entry_of}
+use Rattle.events.specs.Outputs.{after_entries, entry_of}
 use Rattle.events.specs.declared.output.Output.{Output}
 use Rattle.events.specs.declared.output.Output.TheVariants as outputs
 use Rattle.journal.specs.Histories.{IsRight}
@@ -46,7 +46,7 @@ last_output p (outputs.Installed number root) past = refl
 last_output p (outputs.Send receivers frame) past = refl
 last_output p (outputs.Accepted timestamp answer) past = refl
 
-last_outputs : (p : ℕ) (outs : List Output) (past : List Entry) → last_call (behind (map (entry_of p) outs) past) ≡ last_call past
+last_outputs : (p : ℕ) (outs : List Output) (past : List Entry) → last_call (after_entries (map (entry_of p) outs) past) ≡ last_call past
 last_outputs p [] past = refl
 last_outputs p (output ∷ outs) past = last_outputs p outs (entry_of p output ∷ past) ∙ last_output p output past
 
@@ -68,11 +68,11 @@ client_stops c id calls client later share kept was seats same is =
 
 -- ---- a client that did not stop, and its share
 
--- no call is open where its history has none
+-- no call of the client is open if its history has none open
 pub never_busy : (c : Configuration) (id calls : ℕ) (client : ClientState) (share : Part) → SeatsClient c id client calls false share → is_some (open_call share.history) ≡ false → is_some client.call ≡ true → ⊥
 never_busy c id calls client share seats none busy = true≢false (sym busy ∙ sym (seats.fits refl).open_is ∙ none)
 
--- it is spent where its history has all calls that there may be
+-- the client made all calls if its history has as many as there may be
 pub spent_calls : (c : Configuration) (id calls : ℕ) (client : ClientState) (share : Part) → SeatsClient c id client calls false share → IsSpent client → 2 ^ 62 ≤ last_call share.history
 spent_calls c id calls client share seats spent =
     let late : nat_le (2 ^ 62) client.calls ≡ true = subst (λ (b : Bool). (b || nat_le (2 ^ 62) client.calls) ≡ true) (seats.runs refl) spent.1 in
@@ -84,16 +84,16 @@ module _ (c : Configuration) (id calls : ℕ) (client later : ClientState) (shar
   fits : Fits c client share.history
   fits = seats.fits refl
 
-  pub client_right : (es : List Entry) → Fits c later (behind es share.history) → IsRight c share.party (behind es share.history)
+  pub client_right : (es : List Entry) → Fits c later (after_entries es share.history) → IsRight c share.party (after_entries es share.history)
   client_right es after =
-      right_client c share.party (behind es share.history) seats.no_replica
-      (subst (λ (p : ℕ). IsClient c p (behind es share.history)) (ap (λ (k : ℕ). 256 + k) (same ∙ seats.number_is) ∙ sym seats.party_is) after.right)
+      right_client c share.party (after_entries es share.history) seats.no_replica
+      (subst (λ (p : ℕ). IsClient c p (after_entries es share.history)) (ap (λ (k : ℕ). 256 + k) (same ∙ seats.number_is) ∙ sym seats.party_is) after.right)
 
-  prompt_after : (es : List Entry) → Fits c later (behind es share.history) → later.stopped ≡ false → IsPromptClient c (256 + id) (behind es share.history)
+  prompt_after : (es : List Entry) → Fits c later (after_entries es share.history) → later.stopped ≡ false → IsPromptClient c (256 + id) (after_entries es share.history)
   prompt_after es after on =
-      subst (λ (p : ℕ). IsPromptClient c p (behind es share.history)) (ap (λ (k : ℕ). 256 + k) (same ∙ seats.number_is)) (after.running on).gave
+      subst (λ (p : ℕ). IsPromptClient c p (after_entries es share.history)) (ap (λ (k : ℕ). 256 + k) (same ∙ seats.number_is)) (after.running on).gave
 
-  pub client_after : (es : List Entry) (timestamp : ℕ) → last_call (behind es share.history) ≡ timestamp → Fits c later (behind es share.history) → later.stopped ≡ false → SeatsClient c id later timestamp false (longer_part share es)
+  pub client_after : (es : List Entry) (timestamp : ℕ) → last_call (after_entries es share.history) ≡ timestamp → Fits c later (after_entries es share.history) → later.stopped ≡ false → SeatsClient c id later timestamp false (longer_part share es)
   client_after es timestamp last after on = record {
     party_is = seats.party_is;
     no_replica = seats.no_replica;
@@ -101,55 +101,55 @@ module _ (c : Configuration) (id calls : ℕ) (client later : ClientState) (shar
     number_is = same ∙ seats.number_is;
     runs = λ _. on;
     fits = λ _. after;
-    prompt = subst (λ (p : ℕ). IsPromptClient c p (behind es share.history)) (ap (λ (k : ℕ). 256 + k) (same ∙ seats.number_is) ∙ sym seats.party_is) (after.running on).gave;
+    prompt = subst (λ (p : ℕ). IsPromptClient c p (after_entries es share.history)) (ap (λ (k : ℕ). 256 + k) (same ∙ seats.number_is) ∙ sym seats.party_is) (after.running on).gave;
   }
 
   -- ---- a call
 
   module _ (timestamp : ℕ) (op : Operation) (outs : List Output) (es : List Entry) (next : timestamp ≡ calls + 1)
       (are : es ≡ Invoke id timestamp op ∷ map (entry_of (256 + id)) outs) where
-    pub fits_invoke : Leads client (Invoke client.number (suc client.calls) op) outs later → Fits c later (behind es share.history)
+    pub fits_invoke : Leads client (Invoke client.number (suc client.calls) op) outs later → Fits c later (after_entries es share.history)
     fits_invoke leads =
         let when : suc client.calls ≡ timestamp = omega (arith, fits.last_is, seats.calls_are, next) in
-        subst (λ (xs : List Entry). Fits c later (behind xs share.history)) (sym are)
-        (subst (λ (k : ℕ). Fits c later (behind (Invoke k timestamp op ∷ map (entry_of (256 + k)) outs) share.history)) seats.number_is
-        (subst (λ (t : ℕ). Fits c later (behind (Invoke client.number t op ∷ map (entry_of (256 + client.number)) outs) share.history)) when
+        subst (λ (xs : List Entry). Fits c later (after_entries xs share.history)) (sym are)
+        (subst (λ (k : ℕ). Fits c later (after_entries (Invoke k timestamp op ∷ map (entry_of (256 + k)) outs) share.history)) seats.number_is
+        (subst (λ (t : ℕ). Fits c later (after_entries (Invoke client.number t op ∷ map (entry_of (256 + client.number)) outs) share.history)) when
         (leads c share.history fits)))
 
-    pub waits : Fits c later (behind es share.history) → later.stopped ≡ false → AcceptNothing outs
+    pub waits : Fits c later (after_entries es share.history) → later.stopped ≡ false → AcceptNothing outs
     waits after on =
         call_waits c (256 + id) id timestamp op outs share.history
-        (subst (λ (xs : List Entry). IsPromptClient c (256 + id) (behind xs share.history)) are (prompt_after es after on))
+        (subst (λ (xs : List Entry). IsPromptClient c (256 + id) (after_entries xs share.history)) are (prompt_after es after on))
 
-    pub last_invoke : last_call (behind es share.history) ≡ timestamp
+    pub last_invoke : last_call (after_entries es share.history) ≡ timestamp
     last_invoke =
-        ap (λ (xs : List Entry). last_call (behind xs share.history)) are ∙ last_outputs (256 + id) outs (Invoke id timestamp op ∷ share.history)
+        ap (λ (xs : List Entry). last_call (after_entries xs share.history)) are ∙ last_outputs (256 + id) outs (Invoke id timestamp op ∷ share.history)
 
   -- ---- an input
 
   module _ (input : Input) (outs : List Output) (es : List Entry) (are : es ≡ input_of (256 + id) input ∷ map (entry_of (256 + id)) outs) where
-    pub fits_input : ClientLeads client input outs later → Fits c later (behind es share.history)
+    pub fits_input : ClientLeads client input outs later → Fits c later (after_entries es share.history)
     fits_input leads =
-        subst (λ (xs : List Entry). Fits c later (behind xs share.history)) (sym are)
-        (subst (λ (k : ℕ). Fits c later (behind (input_of (256 + k) input ∷ map (entry_of (256 + k)) outs) share.history)) seats.number_is
+        subst (λ (xs : List Entry). Fits c later (after_entries xs share.history)) (sym are)
+        (subst (λ (k : ℕ). Fits c later (after_entries (input_of (256 + k) input ∷ map (entry_of (256 + k)) outs) share.history)) seats.number_is
         (leads c share.history fits))
 
-    pub turns_on : Fits c later (behind es share.history) → later.stopped ≡ false → MakesTurn calls outs
+    pub turns_on : Fits c later (after_entries es share.history) → later.stopped ≡ false → MakesTurn calls outs
     turns_on after on =
         subst (λ (t : ℕ). MakesTurn t outs) (last_input (256 + id) input share.history ∙ seats.calls_are)
         (event_turns c (256 + id) outs (input_of (256 + id) input) share.history (is_input (256 + id) input).1
-        (subst (λ (xs : List Entry). IsPromptClient c (256 + id) (behind xs share.history)) are (prompt_after es after on)))
+        (subst (λ (xs : List Entry). IsPromptClient c (256 + id) (after_entries xs share.history)) are (prompt_after es after on)))
 
-    pub last_after : last_call (behind es share.history) ≡ calls
+    pub last_after : last_call (after_entries es share.history) ≡ calls
     last_after =
-        ap (λ (xs : List Entry). last_call (behind xs share.history)) are
+        ap (λ (xs : List Entry). last_call (after_entries xs share.history)) are
         ∙ (last_outputs (256 + id) outs (input_of (256 + id) input ∷ share.history) ∙ (last_input (256 + id) input share.history ∙ seats.calls_are))
 
--- ---- what an event comes to
+-- ---- the consequence of an event
 
 pub comes : (old new : Seated) (id calls : ℕ) (input : Input) (outs : List Output) (es : List Entry) (turn : Turn) → old.party ≡ 256 + id → calls ≡ last_call old.history
     → es ≡ input_of (256 + id) input ∷ map (entry_of (256 + id)) outs → TurnsTo calls outs turn
-    → new ≡ record { party = old.party; history = behind es old.history; stopped = false } → Comes old turn new
+    → new ≡ record { party = old.party; history = after_entries es old.history; stopped = false } → Comes old turn new
 comes old new id calls input outs es (turns.Waits given) who when are turned is =
     goes_on old new (input_of old.party input) outs es (quiet_input old.party input)
     (are ∙ ap (λ (p : ℕ). input_of p input ∷ map (entry_of p) outs) (sym who)) turned.1 is
@@ -160,7 +160,7 @@ comes old new id calls input outs es (turns.Answered answer) who when are turned
 
 pub begins_with : (old new : Seated) (id calls timestamp : ℕ) (op : Operation) (outs : List Output) (es : List Entry) → old.party ≡ 256 + id → calls ≡ last_call old.history → timestamp ≡ calls + 1
     → es ≡ Invoke id timestamp op ∷ map (entry_of (256 + id)) outs → AcceptNothing outs
-    → new ≡ record { party = old.party; history = behind es old.history; stopped = false } → Begins old op new
+    → new ≡ record { party = old.party; history = after_entries es old.history; stopped = false } → Begins old op new
 begins_with old new id calls timestamp op outs es who when next are none is =
     begins old new id timestamp op outs es (omega (arith, who)) (omega (arith, when, next))
     (are ∙ ap (λ (p : ℕ). Invoke id timestamp op ∷ map (entry_of p) outs) (sym who)) none is

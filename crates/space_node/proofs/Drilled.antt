@@ -128,7 +128,8 @@ without_drills c faultless = (
   },
 )
 
--- what is refused exactly where drills are none that may start is, without drills, refused exactly of faulty parties
+-- if drills are refused exactly if they may not start, then without drills exactly configurations with faulty parties
+-- are refused
 pub refused_alike : (P : Type 0) (c : Configuration) (drills : List (ℕ × Drill)) → drills ≡ [] → P ↔ (MayStart c (replicas_of drills) → ⊥) → P ↔ (IsFaultless c → ⊥)
 refused_alike P c drills none is =
     let same : P ↔ (MayStart c [] → ⊥) = subst (λ (ds : List (ℕ × Drill)). P ↔ (MayStart c (replicas_of ds) → ⊥)) none is in

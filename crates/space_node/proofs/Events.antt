@@ -9,7 +9,7 @@ use Rattle.protocol.specs.System.Reads.{orders, without_reads}
 use Rattle.protocol.specs.System.Trace.{Entry}
 use Rattle.protocol.specs.Replica.Owed.{IsReplica}
 use Rattle.protocol.specs.Client.RightClient.{IsClient}
-use Rattle.events.specs.Outputs.{behind}
+use Rattle.events.specs.Outputs.{after_entries}
 use Rattle.journal.specs.Histories.{IsOutputOf, IsRight}
 
 -- one more output
@@ -51,11 +51,11 @@ replica_correct c p low correct = left (is_correct_replica c p) (is_correct_clie
     left true b e none = refl
     left false b e none = sym none ∙ e
 
--- behind an event there is of ordering what the event has of it
-pub ordering_behind : (es past : List Entry) → without_reads (behind es past) ≡ behind (without_reads es) (without_reads past)
+-- the entries of ordering, after an event
+pub ordering_behind : (es past : List Entry) → without_reads (after_entries es past) ≡ after_entries (without_reads es) (without_reads past)
 ordering_behind [] past = refl
 ordering_behind (e ∷ es) past = ordering_behind es (e ∷ past) ∙ one (orders e) e (without_reads es) (without_reads past)
   where
-    one : (b : Bool) (e : Entry) (xs past : List Entry) → behind xs (cond b (e ∷ past) past) ≡ behind (cond b (e ∷ xs) xs) past
+    one : (b : Bool) (e : Entry) (xs past : List Entry) → after_entries xs (cond b (e ∷ past) past) ≡ after_entries (cond b (e ∷ xs) xs) past
     one true e xs past = refl
     one false e xs past = refl

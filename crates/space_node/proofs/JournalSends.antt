@@ -1,4 +1,4 @@
--- What a journal and shares own may go to another thread.
+-- The values that a journal and shares own may go to another thread.
 use denote.RattleType.{RattleType}
 use denote.Param.Send.{IsSend, sendable}
 use denote.Param.SendFields.{declared_send}

@@ -39,7 +39,7 @@ a_client p high =
     let yes : nat_le 256 p ≡ true = grind (arith, nat_tests) in
     ap (λ b. step b p []) yes
 
--- what passes another test among low numbers is no client
+-- no low number is a client's, whatever its test says
 low_ones : (t : ℕ → Bool) (a n : ℕ) → a + n ≤ 256 → clients_among (filter t (range_with_len a n)) ≡ []
 low_ones t a zero low = refl
 low_ones t a (suc n) low = one (t a) (low_ones t (a + 1) n (omega arith))
@@ -52,7 +52,7 @@ or_right : (a b : Bool) → b ≡ true → (a || b) ≡ true
 or_right true b e = refl
 or_right false b e = e
 
--- where no client is faulty, the clients among the correct parties are all of the configuration's
+-- if no client is faulty, the clients among the correct parties are all of the configuration's
 pub all_clients : (c : Configuration) → IsConfiguration c → c.faulty_clients ≡ [] → clients_among (correct_parties c) ≡ clients_of c
 all_clients c valid none =
     let most = valid.most in

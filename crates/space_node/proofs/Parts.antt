@@ -1,4 +1,4 @@
--- Parts of a replica behind an event.
+-- Parts of a replica after an event.
 use Rattle.std.proofs.Common.{◌≡◌, ◌<◌, ℕ, false, List, [], ◌∷◌, map, Option, Some, None, refl, sym, ap, ◌∙◌, subst}
 use Rattle.std.specs.Prelude.{is_none, Result, Ok, Err}
 use Rattle.protocol.specs.System.Configuration.{Configuration}
@@ -7,7 +7,7 @@ use Rattle.protocol.specs.System.Trace.{Entry}
 use Rattle.protocol.specs.System.Trace.Entry.{Got}
 use Rattle.protocol.specs.Replica.Owed.{IsPromptReplica}
 use Rattle.protocol.specs.Replica.RightReplica.{first_point}
-use Rattle.events.specs.Outputs.{behind, entry_of, after_event}
+use Rattle.events.specs.Outputs.{after_entries, entry_of, after_event}
 use Rattle.events.specs.declared.output.Output.{Output}
 use Rattle.journal.specs.Histories.{IsRight}
 use Rattle.journal.specs.Parts.{Part, AreAlike, fresh, longer_part}
@@ -29,23 +29,23 @@ module _ (c : Configuration) (o later_o : OrdererPart) (d later_d : DeskPart) (s
     subst (FitsOrderer c share.party o) (sym alike.1) (subst (λ (p : ℕ). FitsOrderer c p o order.history) (sym alike.0) fits),
   )
 
-  after : behind es share.history ≡ after_event share.party (input_of share.party input) outs share.history
-  after = ap (λ (xs : List Entry). behind xs share.history) are
+  after : after_entries es share.history ≡ after_event share.party (input_of share.party input) outs share.history
+  after = ap (λ (xs : List Entry). after_entries xs share.history) are
 
-  pub order_right : IsRight c share.party (behind es share.history)
+  pub order_right : IsRight c share.party (after_entries es share.history)
   order_right = subst (IsRight c share.party) (sym after) (right_replica c share.party _ seats.replica both.0.right)
 
   pub desk_after : is_none later_d.holds ≡ false → SeatsDesk c later_d (longer_part share es)
   desk_after on = record {
     replica = seats.replica;
     fits = subst (FitsDesk c share.party later_d) (sym after) both.0;
-    prompt = desks_are_prompt c share.party later_d (behind es share.history) (subst (FitsDesk c share.party later_d) (sym after) both.0) on;
+    prompt = desks_are_prompt c share.party later_d (after_entries es share.history) (subst (FitsDesk c share.party later_d) (sym after) both.0) on;
   }
 
-  pub orderer_after : FitsOrderer c order.party later_o (behind (without_reads es) order.history)
+  pub orderer_after : FitsOrderer c order.party later_o (after_entries (without_reads es) order.history)
   orderer_after =
-      subst (λ (p : ℕ). FitsOrderer c p later_o (behind (without_reads es) order.history)) alike.0
-      (subst (λ (h : List Entry). FitsOrderer c share.party later_o (behind (without_reads es) h)) alike.1
+      subst (λ (p : ℕ). FitsOrderer c p later_o (after_entries (without_reads es) order.history)) alike.0
+      (subst (λ (h : List Entry). FitsOrderer c share.party later_o (after_entries (without_reads es) h)) alike.1
       (subst (FitsOrderer c share.party later_o) (ordering_behind es share.history)
       (subst (λ (h : List Entry). FitsOrderer c share.party later_o (without_reads h)) (sym after) both.1)))
 
@@ -53,22 +53,22 @@ module _ (c : Configuration) (o later_o : OrdererPart) (d later_d : DeskPart) (s
 
 module _ (c : Configuration) (d later : DeskPart) (share : Part) (bytes : List ℕ) (outs : List Output) (es : List Entry) (leads : ReadLeads d bytes outs later) (seats : SeatsDesk c d share)
     (are : es ≡ Got share.party bytes ∷ map (entry_of share.party) outs) where
-  read_fits : FitsDesk c share.party later (behind es share.history)
-  read_fits = subst (λ (xs : List Entry). FitsDesk c share.party later (behind xs share.history)) (sym are) (leads c share.party share.history seats.fits).0
+  read_fits : FitsDesk c share.party later (after_entries es share.history)
+  read_fits = subst (λ (xs : List Entry). FitsDesk c share.party later (after_entries xs share.history)) (sym are) (leads c share.party share.history seats.fits).0
 
-  pub read_right : IsRight c share.party (behind es share.history)
+  pub read_right : IsRight c share.party (after_entries es share.history)
   read_right = right_replica c share.party _ seats.replica read_fits.right
 
   pub desk_after_read : is_none later.holds ≡ false → SeatsDesk c later (longer_part share es)
   desk_after_read on = record {
     replica = seats.replica;
     fits = read_fits;
-    prompt = desks_are_prompt c share.party later (behind es share.history) read_fits on;
+    prompt = desks_are_prompt c share.party later (after_entries es share.history) read_fits on;
   }
 
 -- ---- a desk that was stopped
 
--- a part that did not stop: what it answers with is no refusal
+-- a part whose answer is no refusal did not stop
 pub runs_on : {A E : Type 0} (d : DeskPart) (result : Result A E) (stop : E) (x : A) → (d.holds ≡ None → result ≡ Err stop) → result ≡ Ok x → is_none d.holds ≡ false
 runs_on d result stop x before is = go d.holds refl
   where

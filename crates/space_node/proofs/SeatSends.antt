@@ -1,4 +1,4 @@
--- What the threads of a cluster share may be reached from each of them.
+-- The state that the threads of a cluster share may be reached from each of them.
 use denote.RattleType.{RattleType}
 use denote.Hole.{as_row}
 use denote.Param.Send.{IsSend, IsSync, sendable}
@@ -58,7 +58,7 @@ inboxes_sync = declared_sync inboxes.the_type (to_inbox_sync, (to_inbox_sync, tt
 pub inbox_send : IsSend (receiver.the_row note.the_row heap.the_row ghosts)
 inbox_send = receiver_send note.the_row heap.the_row ghosts note_send heap_send heap_sync heap_frees
 
--- ---- what lies behind the locks
+-- ---- the values behind the locks
 
 module _ (N : RattleType) (g : Ghosts N.Denot) where
   in_order_seat_send : IsSend (in_order_seat.the_row N g)

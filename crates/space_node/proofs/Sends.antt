@@ -1,5 +1,5 @@
--- What operations, answers and entries own may go to another thread. The prover finds that of most types by itself; not
--- of those that reach the recursive trees, so they are taken apart here, each once.
+-- The values that operations, answers and entries own may go to another thread. The prover finds that for most types
+-- by itself, but not for those that reach the recursive trees. So these are taken apart here, each once.
 use denote.RattleType.{RattleType}
 use denote.Builtin.{u8}
 use denote.Hole.{as_row}
@@ -28,7 +28,7 @@ use Rattle.events.specs.contracts.entry.EntryKind as entry_kind
 use Rattle.events.specs.contracts.entry.Entry as entry
 use Rattle.events.specs.contracts.entry.Entry.TheInside as in_entry
 
--- ---- trees, operations and answers, where their allocator may
+-- ---- trees, operations and answers, if their allocator may go
 
 module _ (A : RattleType) (g : Ghosts A.Denot) (s : IsSend A) (f : Frees g g.dealloc_token) where
   field : (R : RattleType) → IsSend R → IsSend (as_row (vec.the_field R A g))

@@ -1,4 +1,4 @@
--- What a stale replica answers.
+-- The answers of a stale replica.
 use Rattle.std.proofs.Common.{◌≡◌, ℕ, ◌+◌, List, [], ◌∷◌, Option, sym, ap, ◌∙◌, subst}
 use Rattle.std.specs.Prelude.{Result, Ok, Err, IfOk, IfSome}
 use Rattle.std.specs.Result.{result_ok}
@@ -17,7 +17,7 @@ use Rattle.posting.specs.Endpoint.{IsSealedPost, SealsForOne}
 use Rattle.events.specs.declared.output.Output.{Output}
 use Rattle.space_node.specs.Drills.{IsStale}
 
--- what holds of what is given holds of it where it is kept as an option
+-- a property of the result holds of it as an option
 pub if_some : {T E : Type 0} (r : Result T E) (o : Option T) (P Q : T → Type 0) → o ≡ result_ok r → ((x : T) → P x → Q x) → IfOk r P → IfSome o Q
 if_some (Ok x) o P Q is f p = subst (λ o. IfSome o Q) (sym is) (f x p)
 if_some (Err e) o P Q is f p = subst (λ o. IfSome o Q) (sym is) tt

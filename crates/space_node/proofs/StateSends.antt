@@ -1,4 +1,4 @@
--- What a replica's desk owns may go to another thread: its replies, its space, and what it executed.
+-- The values that a replica's desk owns may go to another thread: its replies, its space, and its executed batches.
 use denote.Builtin.{u64}
 use denote.Param.Send.{IsSend, sendable}
 use denote.Param.SendFields.{as_row_send, declared_send}
@@ -77,7 +77,7 @@ in_watched_send = declared_send in_watched.the_type (space_send, (search sendabl
 watched_send : IsSend watched.the_row
 watched_send = search (sendable, in_watched_send)
 
--- ---- what was executed
+-- ---- executed states
 
 in_executed_send : IsSend in_executed.the_row
 in_executed_send = declared_send in_executed.the_type (

@@ -1,4 +1,4 @@
--- What a client gives in an event makes a turn.
+-- The outputs of a client's event make a turn.
 use Rattle.std.proofs.Common.{◌≡◌, ℕ, zero, suc, ◌+◌, ◌-◌, ◌<◌, inl, inr, Bool, true, false, cond, ◌&&◌, not, List, [], ◌∷◌, ◌++◌, length, get_or, Option, Some, None, map, refl, sym, ap, ◌∙◌, subst, arith}
 use Rattle.std.proofs.lemmas.List.{append-nil}
 use Rattle.std.specs.Option.{option_map_or}
@@ -11,7 +11,7 @@ use Rattle.protocol.specs.System.Trace.{Entry, either, is_output}
 use Rattle.protocol.specs.System.Trace.Entry.{Invoke, Got, Tick, Executed, Installed, Sent, Accepted}
 use Rattle.protocol.specs.Client.RightClient.{IsReaction, MayInput, OpenCall, Reacts, Reaction, Vote, fallback, is_answered, is_complete, last_call, newest_vote, on_got, on_reply, open_call, reaction, went_ordered}
 use Rattle.protocol.specs.Client.RightClient.Reaction.{nothing, asks, accepts}
-use Rattle.events.specs.Outputs.{behind, entry_of}
+use Rattle.events.specs.Outputs.{after_entries, entry_of}
 use Rattle.events.specs.declared.output.Output.{Output}
 use Rattle.events.specs.declared.output.Output.TheVariants as outputs
 use Rattle.wire.specs.Lists.{Each}
@@ -34,7 +34,7 @@ gives_output p (outputs.Send receivers frame) = refl
 gives_output p (outputs.Accepted timestamp answer) = refl
 
 module _ (c : Configuration) (me : ℕ) (react : List Entry → Reaction) where
-  gathered : (outs : List Output) (given past : List Entry) → Reacts c me react given (behind (map (entry_of me) outs) past) → Reacts c me react (map (entry_of me) outs ++ given) past
+  gathered : (outs : List Output) (given past : List Entry) → Reacts c me react given (after_entries (map (entry_of me) outs) past) → Reacts c me react (map (entry_of me) outs ++ given) past
   gathered [] given past r = r
   gathered (output ∷ outs) given past r =
       let e = entry_of me output in
@@ -42,7 +42,7 @@ module _ (c : Configuration) (me : ℕ) (react : List Entry → Reaction) where
       when_true (is_output e) (Reacts c me react (e ∷ rest) past) (MayInput past e × IsReaction c me (react (e ∷ past)) rest × Reacts c me react [] past) (gives_output me output)
       (gathered outs given (e ∷ past) r).1
 
-  pub reacted : (outs : List Output) (input : Entry) (past : List Entry) → is_output input ≡ false → Reacts c me react [] (behind (map (entry_of me) outs) (input ∷ past))
+  pub reacted : (outs : List Output) (input : Entry) (past : List Entry) → is_output input ≡ false → Reacts c me react [] (after_entries (map (entry_of me) outs) (input ∷ past))
       → IsReaction c me (react (input ∷ past)) (map (entry_of me) outs)
   reacted outs input past begins r =
       let given = map (entry_of me) outs ++ [] in
@@ -125,16 +125,16 @@ makes_turn c me t nothing (output ∷ outs) last is = absurd cc
 makes_turn c me t (asks mode call) outs last is = inl (sends_nothing me is.0 outs is.1)
 makes_turn c me t (accepts k a) outs last is = subst (λ (n : ℕ). MakesTurn n outs) (last k a refl) (accepts_one me is.0 k a outs is.1)
 
--- What a client gives in an event that begins with this input.
+-- The outputs of a client's event that begins with this input.
 pub event_turns : (c : Configuration) (me : ℕ) (outs : List Output) (input : Entry) (past : List Entry) → is_output input ≡ false
-    → Reacts c me (reaction c me) [] (behind (map (entry_of me) outs) (input ∷ past)) → MakesTurn (last_call (input ∷ past)) outs
+    → Reacts c me (reaction c me) [] (after_entries (map (entry_of me) outs) (input ∷ past)) → MakesTurn (last_call (input ∷ past)) outs
 event_turns c me outs input past begins r =
     makes_turn c me (last_call (input ∷ past)) (reaction c me (input ∷ past)) outs (λ k a is. accepts_last c me (input ∷ past) k a is)
     (reacted c me (reaction c me) outs input past begins r)
 
 -- a call is asked for, and nothing is accepted yet
 pub call_waits : (c : Configuration) (me k t : ℕ) (op : Operation) (outs : List Output) (past : List Entry)
-    → Reacts c me (reaction c me) [] (behind (map (entry_of me) outs) (Invoke k t op ∷ past)) → AcceptNothing outs
+    → Reacts c me (reaction c me) [] (after_entries (map (entry_of me) outs) (Invoke k t op ∷ past)) → AcceptNothing outs
 call_waits c me k t op outs past r =
     let asked = reacted c me (reaction c me) outs (Invoke k t op) past refl r in
     sends_nothing me asked.0 outs asked.1

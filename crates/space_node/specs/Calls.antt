@@ -1,4 +1,4 @@
--- What a call leaves in its client's history, whose newest entry stands first.
+-- The entries of a call in its client's history, whose newest entry stands first.
 use Rattle.std.specs.Prelude.{◌≡◌, ℕ, suc, ◌-◌, ◌^◌, ◌≤◌, ◌⊎◌, true, false, List, [], ◌∷◌, ◌++◌, ⊤}
 use Rattle.std.specs.declared.alloc.Global.{Global}
 use Rattle.tuple_codec.specs.OperationView.{outcome_of}
@@ -19,7 +19,7 @@ abbrev pub IsUnanswered : Entry → Type 0
 IsUnanswered (Accepted client timestamp answer) = ⊥
 IsUnanswered _ = ⊤
 
--- nor does a call begin
+-- no call begins, and no answer is accepted
 abbrev pub IsQuiet : Entry → Type 0
 IsQuiet (Invoke client timestamp op) = ⊥
 IsQuiet (Accepted client timestamp answer) = ⊥
@@ -29,7 +29,7 @@ IsQuiet _ = ⊤
 abbrev pub IsSpent : Seated → Type 0
 IsSpent s = (s.stopped ≡ true) ⊎ (2 ^ 62 ≤ last_call s.history)
 
--- The call was answered: the history went on by its invocation, with the next timestamp, and its last entry is the
+-- The call was answered. The history grew by its invocation, with the next timestamp, and its last entry is the
 -- acceptance of this answer. Between them no call begins and none is answered.
 pub record Called (old : Seated) (op : Operation) (answer : Outcome) (new : Seated) : Type 0 where
   pub between : List Entry
@@ -40,7 +40,7 @@ pub record Called (old : Seated) (op : Operation) (answer : Outcome) (new : Seat
   pub party : new.party ≡ old.party
   pub running : new.stopped ≡ false
 
--- The call was not answered: the history went on, if at all, without an acceptance, and the client has stopped.
+-- The call was not answered. The history grew, if at all, without an acceptance, and the client has stopped.
 pub record Refused (old new : Seated) : Type 0 where
   pub more : List Entry
   pub unanswered : Each IsUnanswered more
@@ -48,9 +48,9 @@ pub record Refused (old new : Seated) : Type 0 where
   pub party : new.party ≡ old.party
   pub stopped : new.stopped ≡ true
 
--- ---- of private functions
+-- ---- for private functions
 
--- none of the outputs accepts an answer
+-- the output accepts an answer
 abbrev pub Accepts : Output → Type 0
 Accepts (outputs.Accepted timestamp answer) = ⊤
 Accepts _ = ⊥
@@ -63,7 +63,7 @@ abbrev pub AcceptsAnswer : Output → Answer Global → Type 0
 AcceptsAnswer (outputs.Accepted timestamp answer) given = answer ≡ given
 AcceptsAnswer _ given = ⊥
 
--- the outputs make a turn of a call of this timestamp: none of them accepts, or there is one, which accepts
+-- the outputs are a turn of a call of this timestamp: none accepts, or there is one, which accepts
 abbrev pub MakesTurn : ℕ → List Output → Type 0
 MakesTurn timestamp outs =
     AcceptNothing outs
@@ -78,7 +78,7 @@ pub record Begins (old : Seated) (op : Operation) (new : Seated) : Type 0 where
   pub party : new.party ≡ old.party
   pub running : new.stopped ≡ false
 
--- it goes on
+-- the call goes on
 pub record GoesOn (old new : Seated) : Type 0 where
   pub more : List Entry
   pub quiet : Each IsQuiet more
@@ -86,7 +86,7 @@ pub record GoesOn (old new : Seated) : Type 0 where
   pub party : new.party ≡ old.party
   pub running : new.stopped ≡ false
 
--- it ends with an answer
+-- the call ends with this answer
 pub record Ends (old : Seated) (answer : Outcome) (new : Seated) : Type 0 where
   pub more : List Entry
   pub quiet : Each IsQuiet more
@@ -94,12 +94,12 @@ pub record Ends (old : Seated) (answer : Outcome) (new : Seated) : Type 0 where
   pub party : new.party ≡ old.party
   pub running : new.stopped ≡ false
 
--- what outputs come to, in a call of this timestamp
+-- the turn of these outputs, in a call of this timestamp
 abbrev pub TurnsTo : ℕ → List Output → Turn → Type 0
 TurnsTo timestamp outs (turns.Waits given) = (outs ≡ given.items) × AcceptNothing outs
 TurnsTo timestamp outs (turns.Answered answer) = outs ≡ outputs.Accepted (record { 0 = timestamp }) answer ∷ []
 
--- what an event comes to
+-- the event's consequence for the seat
 abbrev pub Comes : Seated → Turn → Seated → Type 0
 Comes old (turns.Waits given) new = GoesOn old new
 Comes old (turns.Answered answer) new = Ends old (outcome_of answer) new

@@ -1,4 +1,4 @@
--- The code of what contracts see of seats, by which a proof tells them apart.
+-- The code of the values of seats that contracts see. A proof tells them apart by it.
 use Rattle.std.specs.Prelude.{◌≡◌, ℕ, Bool, List, refl}
 use Rattle.std.specs.Coded.{Coded, code_by, coded×, coded_ℕ, coded_bool}
 use Rattle.protocol.specs.System.Trace.{Entry}

@@ -1,4 +1,4 @@
--- Which drills a cluster starts with, and what a stale replica answers.
+-- The drills that a cluster may start with, and the answers of a stale replica.
 use Rattle.std.specs.Prelude.{◌≡◌, ◌≢◌, ℕ, ◌+◌, Bool, true, ◌&&◌, not, List, [], ◌∷◌, All, AllPairs, Some, map}
 use Rattle.quorum.specs.Quorum.{member}
 use Rattle.tuple_codec.specs.Operations.{Operation}
@@ -12,34 +12,34 @@ use Rattle.posting.specs.Endpoint.{IsSealedPost}
 use Rattle.events.specs.declared.output.Output.{Output}
 use Rattle.space_node.specs.declared.drill.Drill.{Drill}
 
--- whose drills they are
+-- the replicas of the drills
 abbrev pub replicas_of : List (ℕ × Drill) → List ℕ
 replicas_of = map (λ d. d.0)
 
--- each is of a faulty replica, and no two are of one
+-- each is a faulty replica, and no two are the same
 abbrev pub AreOfFaulty : Configuration → List ℕ → Type 0
 AreOfFaulty c replicas = All (λ r. is_faulty_replica c r ≡ true) replicas × AllPairs (λ r s. r ≢ s) replicas
 
--- each faulty replica has one
+-- each faulty replica has a drill
 abbrev pub IsDrilled : Configuration → List ℕ → Type 0
 IsDrilled c replicas = All (λ r. member replicas r ≡ true) c.faulty_replicas
 
--- The drills of these replicas are those of the configuration's faulty ones: each of these has one, and nobody else.
+-- These replicas are the configuration's faulty ones, each once.
 pub record AreDrillsOf (c : Configuration) (replicas : List ℕ) : Type 0 where
   pub of_faulty : AreOfFaulty c replicas
   pub each : IsDrilled c replicas
 
--- With them a cluster may start if no client is faulty.
+-- With drills of these replicas a cluster may start, if no client is faulty.
 abbrev pub MayStart : Configuration → List ℕ → Type 0
 MayStart c replicas = (c.faulty_clients ≡ []) × AreDrillsOf c replicas
 
--- whether each is of a faulty replica, and of one that no later one is of
+-- whether each is a faulty replica and differs from all later ones
 abbrev pub each_once : Configuration → List ℕ → Bool
 each_once c [] = true
 each_once c (r ∷ rs) = (is_faulty_replica c r && not (member rs r)) && each_once c rs
 
--- The replica hears a client's read in the bytes, and what it gives for the client says what the read comes to in no
--- tuples, as those of the state of number 0.
+-- The replica hears a client's read in the bytes. Its output for the client has the read's outcome on no tuples, as
+-- from the state of number 0.
 pub record IsStale (m : Membership) (me : ℕ) (bytes : List ℕ) (output : Output) : Type 0 where
   pub client : ℕ
   pub timestamp : ℕ

@@ -1,4 +1,4 @@
--- Which refusal of a call a refusal of the journal is.
+-- The refusals of the journal, as refusals of a call.
 use Rattle.journal.specs.declared.fault.AppendFault.{AppendFault}
 use Rattle.journal.specs.declared.fault.AppendFault.TheVariants as appends
 use Rattle.space_node.specs.declared.fault.CallFault.{CallFault}

@@ -9,25 +9,25 @@ use Rattle.space_node.specs.Seats.{Seated, new_seat}
 abbrev pub clients_of : Configuration → List ℕ
 clients_of c = range_with_len 256 c.clients
 
--- one of the party's is taken, and all others are left
+-- one handle of the party is taken, and all others are left
 pub record Takes (old : List ℕ) (p : ℕ) (new : List ℕ) : Type 0 where
   pub before : List ℕ
   pub later : List ℕ
   pub old_is : old ≡ before ++ p ∷ later
   pub new_is : new ≡ before ++ later
 
--- Where there is a handle of the party it is handed out, and it is new; else nothing changes.
+-- If there is a handle of the party, it is handed out, and it is new. Otherwise nothing changes.
 abbrev pub HandsOut : List ℕ → ℕ → Option Seated → List ℕ → Type 0
 HandsOut old p result new =
     MatchOption result ((¬ Contains old p) × (new ≡ old)) (λ handle. (handle ≡ new_seat p) × Takes old p new)
 
--- ---- of private functions
+-- ---- for private functions
 
 -- the clients among parties: their numbers begin at 256
 abbrev pub clients_among : List ℕ → List ℕ
 clients_among = filter (nat_le 256)
 
--- and the replicas among them
+-- the replicas among parties
 abbrev pub replicas_among : List ℕ → List ℕ
 replicas_among = filter (λ p. nat_lt p 256)
 
@@ -40,13 +40,13 @@ abbrev pub later_of : List Part → List Part
 later_of [] = []
 later_of (order ∷ orders) = orders
 
--- which of them are left once the party has its seat
+-- the shares of ordering that are left after the party has its seat
 abbrev pub left_after : ℕ → List Part → List Part
 left_after p orders = cond (nat_lt p 256) (later_of orders) orders
 
 abbrev pub parties_of : List Seated → List ℕ
 parties_of handles = map (λ s. s.party) handles
 
--- the handle of the party lies there
+-- the handle of the party is at this place
 abbrev pub HandleAt : List Seated → ℕ → ℕ → Type 0
 HandleAt handles p at = (s : Seated) × (slice_get handles at ≡ Some s) × (s.party ≡ p)

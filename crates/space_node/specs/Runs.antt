@@ -1,4 +1,4 @@
--- What a cluster comes to. A trace and a history have the newest entry first.
+-- The result of a cluster. A trace and a history have the newest entry first.
 use Rattle.std.specs.Prelude.{◌≡◌, ◌++◌, ℕ, List, [], All, filter, map, reverse, slice_get, Some, ◌⊎◌, ⊤}
 use Rattle.terms.specs.Parties.{party_number}
 use Rattle.terms.specs.declared.parties.ReplicaId.{ReplicaId}
@@ -36,19 +36,19 @@ pub record LacksHistory (trace : List Entry) (seats : List Seated) (p : ℕ) : T
   pub party_is : seat.party ≡ p
   pub differs : ¬ (history_of seat.party trace ≡ seat.history)
 
--- What was compared: the trace is a run's, in which what was got was sent, and has the histories of the shares and of
--- the clients.
+-- The result of the comparison: the trace is a run's in which received frames were sent, and it has the histories of
+-- the shares and of the clients.
 pub record IsWhole (c : Configuration) (trace : List Entry) (shares clients : List Seated) : Type 0 where
   pub run : IsRun c trace
   pub carried : Carried c trace
   pub shares_are : HasHistories trace shares
   pub clients_are : HasHistories trace clients
 
--- Each correct replica is prompt to the end of its share,
+-- Each correct replica is prompt, up to the end of its share.
 abbrev pub ReplicasArePrompt : Configuration → List Seated → Type 0
 ReplicasArePrompt c shares = All (λ s. IsPromptReplica c s.party s.history) shares
 
--- and so is each client that was handed in.
+-- Each given client is prompt, up to the end of its history.
 abbrev pub ClientsArePrompt : Configuration → List Seated → Type 0
 ClientsArePrompt c clients = All (λ s. IsPromptClient c s.party s.history) clients
 
@@ -56,17 +56,17 @@ ClientsArePrompt c clients = All (λ s. IsPromptClient c s.party s.history) clie
 abbrev pub stopped_of : List Seated → List ℕ
 stopped_of seats = map (λ s. s.party) (filter (λ s. s.stopped) seats)
 
--- These numbers are those of the replicas that had stopped, and then those of the clients that have, each once for its
--- seat, and no others.
+-- These are the numbers of the replicas that had stopped, and then of the clients that have, each once for its seat,
+-- and no others.
 abbrev pub AreNamed : List ℕ → List Seated → List Seated → Type 0
 AreNamed stopped shares clients = stopped ≡ stopped_of shares ++ stopped_of clients
 
--- The trace is a run's, in which each frame that was got was sent before, save those of faulty senders. It has just the
--- histories of the shares, one of each correct replica, and of the clients that were handed in; each of these parties
--- does all that it owes in it. What a party got after it had stopped is not in the trace. Exactly the parties that
--- stopped are named. If no party is faulty, the trace is unforged. If it is unforged and its texts do not collide, it is
--- linear: the answers that clients accept, of reads and writes alike, are those of one sequential tuple space, in which
--- each operation acts at most once, an accepted one exactly once, at a position between its invocation and its
+-- The trace is a run's. Each frame that a party got was sent before, except those of faulty senders. The trace has
+-- just the histories of the shares, one of each correct replica, and of the given clients. In it each of these
+-- parties does all that it owes. It has no input that came to a party after it had stopped. Exactly the parties that
+-- stopped are named. If no party is faulty, the trace is unforged. If it is unforged and its texts do not collide, it
+-- is linear: the answers that clients accept, of reads and writes alike, are those of one sequential tuple space. In
+-- it each operation acts at most once, an accepted one exactly once, at a position between its invocation and its
 -- acceptance.
 pub record IsFinished (c : Configuration) (trace : List Entry) (shares : List Seated) (stopped : List ℕ)
     (clients : List Seated) : Type 0 where
@@ -78,8 +78,8 @@ pub record IsFinished (c : Configuration) (trace : List Entry) (shares : List Se
   pub unforged : IsFaultless c → Unforged c trace
   pub linear : Unforged c trace → NoCollision c trace → IsLinear c (points c trace) trace
 
--- Where the histories differ, the trace has another one of this party than its share or its handle. The run names
--- exactly the parties that stopped all the same.
+-- If the histories differ, the trace has another one of this party than its share or its handle. The run still names
+-- exactly the parties that stopped.
 pub record TellsOther (trace : List Entry) (shares : List Seated) (stopped : List ℕ) (clients : List Seated) (p : ℕ)
     : Type 0 where
   pub lacks : LacksHistory trace shares p ⊎ LacksHistory trace clients p

@@ -1,5 +1,5 @@
--- The seats of parties: what contracts see of them, what they keep, and what an event does to them. The newest entry of
--- a history stands first.
+-- The seats of parties: their values in contracts, their invariants, and their changes by an event. The newest entry
+-- of a history stands first.
 use Rattle.std.specs.Prelude.{◌≡◌, ℕ, ◌+◌, ◌<◌, Bool, true, false, ◌||◌, List, [], ◌∷◌, map, is_some}
 use Rattle.protocol.specs.System.Configuration.{Configuration, is_correct_replica}
 use Rattle.protocol.specs.System.Reads.{without_reads}
@@ -23,45 +23,45 @@ pub record Seated : Type 0 where
   pub history : List Entry
   pub stopped : Bool
 
--- the seat of a party that did nothing yet, and runs
+-- the seat of a party that has done nothing and hasn't stopped
 abbrev pub new_seat : ℕ → Seated
 new_seat p = record { party = p; history = []; stopped = false }
 
 abbrev pub IsNew : Seated → Type 0
 IsNew s = s ≡ new_seat s.party
 
--- it stopped, with the history as it is
+-- the stopped seat, with its history as it is
 abbrev pub stopped_at : Seated → Seated
 stopped_at s = record s { stopped = true }
 
--- what the replica of these two seats leaves, the orderer's and the desk's: it has stopped if one of them has
+-- the replica of these two seats at the end, the orderer's and the desk's: it has stopped if one of them has
 abbrev pub left_by : Seated → Seated → Seated
 left_by order shelf = record shelf { stopped = order.stopped || shelf.stopped }
 
--- what a replica without seats leaves
+-- a replica without seats at the end: it has stopped
 abbrev pub absent : ℕ → Seated
 absent p = stopped_at (new_seat p)
 
--- no call is open, unless it stopped
+-- no call is open, unless the client stopped
 abbrev pub IsIdle : Seated → Type 0
 IsIdle s = s.stopped ≡ false → is_some (open_call s.history) ≡ false
 
 -- ---- events
 
--- the entry with which the party's event begins
+-- the entry that begins the party's event
 abbrev pub input_of : ℕ → Input → Entry
 input_of p (inputs.Got bytes from) = Got p bytes.items
 input_of p inputs.Tick = Tick p
 
--- an event of the party may begin with it
+-- an event of the party may begin with this entry
 abbrev pub IsInputOf : ℕ → Entry → Type 0
 IsInputOf p e = (party_of e ≡ p) × (is_output e ≡ false)
 
--- the party's history behind the event
+-- the party's history after the event
 abbrev pub history_after : Part → Entry → List Output → List Entry
 history_after share input outs = after_event share.party input outs share.history
 
--- its share, and its share of ordering
+-- the party's share and its share of ordering after the event
 abbrev pub part_after : Part → Entry → List Output → Part
 part_after share input outs = longer_part share (input ∷ map (entry_of share.party) outs)
 
@@ -69,7 +69,7 @@ abbrev pub ordering_after : Part → Entry → List Output → Part → Part
 ordering_after share input outs order =
     longer_part order (without_reads (input ∷ map (entry_of share.party) outs))
 
--- the seat, whose party goes on
+-- the seat after the event; its party hasn't stopped
 abbrev pub seat_after : Seated → Entry → List Output → Seated
 seat_after s input outs = record {
   party = s.party;
@@ -77,15 +77,16 @@ seat_after s input outs = record {
   stopped = false;
 }
 
--- ---- what seats keep
+-- ---- invariants of seats
 
--- The desk goes with the history of a replica, which is prompt to its end: an event in which the replica stops is not in it.
+-- The desk fits the history of a replica, which is prompt to its end. If the replica stops in an event, the history
+-- doesn't have that event.
 pub record SeatsDesk (c : Configuration) (desk : DeskPart) (share : Part) : Type 0 where
   pub replica : share.party < 256
   pub fits : FitsDesk c share.party desk share.history
   pub prompt : IsPromptReplica c share.party share.history
 
--- Unless it stopped, the client of this number runs, and goes with the history, which has as many calls. The history is
+-- Unless it stopped, the client of this number runs and fits the history, which has as many calls. The history is
 -- prompt to its end.
 pub record SeatsClient (c : Configuration) (number : ℕ) (client : ClientState) (calls : ℕ) (stopped : Bool)
     (share : Part) : Type 0 where
@@ -99,7 +100,7 @@ pub record SeatsClient (c : Configuration) (number : ℕ) (client : ClientState)
 
 -- ---- steps
 
--- whatever history the parts of a replica fit, they fit that behind the input then
+-- if the parts of a replica fit a history, they fit the one after the input
 abbrev pub InputLeads :
     OrdererPart → DeskPart → Input → List Output → OrdererPart → DeskPart → Type 0
 InputLeads o d input outs later_o later_d =

@@ -1,4 +1,4 @@
-//! What a client's handle keeps.
+//! The state that a client's handle keeps.
 
 ghost use Rattle.std.specs.Prelude.{◌≡◌, ◌↔◌, ◌+◌, Err, [], true, false, IfOk, OnErr, IsTrue};
 ghost use Rattle.tuple_codec.specs.OperationView.{operation_of};
@@ -22,7 +22,7 @@ use std::sync::{Mutex, Wait};
 use terms::{ClientId, Party, Timestamp};
 use tuple_codec::Op;
 
-/// How many calls a client makes at the most.
+/// Most calls of a client.
 const MAX_CALLS: u64 = 1 << 62;
 
 /// A client, with the share of its history and the timestamp of its last call.
@@ -86,7 +86,7 @@ impl<N: Naming> ClientSeat<N> {
         self.stopped = true;
     }
 
-    /// Whether the client has stopped. To the end of its history it does all that it owes.
+    /// Whether the client has stopped. It has done all that it owes, up to the end of its history.
     pub(crate) fn is_stopped(&self) -> bool
         ensures value { result ≡ self.now.stopped }
         ensures prompt { IsPromptClient N.config self.now.party self.now.history }
@@ -101,11 +101,11 @@ impl<N: Naming> ClientSeat<N> {
         self.stopped || self.calls >= MAX_CALLS
     }
 
-    /// Begins a call where none is open, and gives its request once that is in the journal.
+    /// Begins a call if none is open, and gives its request after the event is in the journal.
     ///
     /// # Errors
     ///
-    /// NoMemory, and what the journal refuses with. The client has stopped then.
+    /// NoMemory, or the journal's refusal. The client has stopped then.
     pub(crate) fn invoke<R: Wait>(
         &mut self,
         rt: &R,
@@ -118,7 +118,7 @@ impl<N: Naming> ClientSeat<N> {
         ensures begins { IfOk result (λ _. Begins self.old (operation_of op) self.new) }
         ensures stops { OnErr result (self.new ≡ stopped_at self.old) }
     {
-        // Until the event is in the journal.
+        // The client counts as stopped until the event is in the journal.
         self.stopped = true;
         let told = op.copy_in(alloc)?;
         let outputs = match self.client.invoke(alloc, op) {
@@ -137,11 +137,11 @@ impl<N: Naming> ClientSeat<N> {
         Ok(Given { outputs, first })
     }
 
-    /// Takes an input, and gives what it comes to once that is in the journal, with the position of its first entry.
+    /// Takes an input, and gives its turn after the event is in the journal, with the position of its first entry.
     ///
     /// # Errors
     ///
-    /// NoMemory, and what the journal refuses with. The client has stopped then.
+    /// NoMemory, or the journal's refusal. The client has stopped then.
     pub(crate) fn take<R: Wait>(
         &mut self,
         rt: &R,
@@ -153,12 +153,12 @@ impl<N: Naming> ClientSeat<N> {
         ensures comes { IfOk result (λ taken. Comes self.old taken.0 self.new) }
         ensures stops { OnErr result (self.new ≡ stopped_at self.old) }
     {
-        // Until the event is in the journal.
+        // The client counts as stopped until the event is in the journal.
         self.stopped = true;
         let outputs = match step_client(&mut self.client, alloc, &input) {
             Ok(outputs) => outputs,
             Err(Stop::NoMemory) => return Err(AppendFault::NoMemory),
-            // It runs.
+            // The client hasn't stopped.
             Err(Stop::Stopped) => unreachable!(),
         };
         let party = Party::Client(self.id);
@@ -171,7 +171,7 @@ impl<N: Naming> ClientSeat<N> {
     }
 }
 
-// What the client gives.
+// The outputs of the client.
 fn step_client(client: &mut Client, alloc: Global, input: &Input) -> Result<Outputs, Stop>
     ensures leads { IfOk result (λ outs. ClientLeads client.old input.now outs.items client.new) }
     ensures runs { IfOk result (λ _. client.new.stopped ≡ false) }

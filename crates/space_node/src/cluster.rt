@@ -30,7 +30,7 @@ use terms::{NoMemory, Party, ReplicaId};
 
 /// A running cluster, which has to be finished.
 pub struct Cluster<N: Naming> {
-    // The correct ones, in the order of their numbers.
+    // The correct replicas, in the order of their numbers.
     replicas: Vec<ReplicaId>,
     shared: Arc<Shared<N>, Global>,
     threads: Vec<JoinHandle<()>>,
@@ -39,7 +39,7 @@ pub struct Cluster<N: Naming> {
     ghost are_new: { All IsNew handles.items },
 }
 
-/// Contracts see of it the parties whose handles were not handed out.
+/// Contracts see the parties whose handles were not handed out.
 impl<N: Naming> Model for Cluster<N> {
     ghost use Rattle.std.specs.Prelude.{ℕ, List};
     ghost use Rattle.space_node.specs.Places.{parties_of};
@@ -50,13 +50,13 @@ impl<N: Naming> Model for Cluster<N> {
 }
 
 impl<N: Naming + Send + Sync + 'static> Cluster<N> {
-    /// Starts the threads of each replica, and makes a handle for each client. The journal takes up to `limit` entries,
-    /// 1 to 65,536 in the program.
+    /// Starts the threads of each replica, and makes a handle for each client. The journal takes at most `limit`
+    /// entries, 1 to 65,536 in the program.
     ///
     /// # Errors
     ///
-    /// BadConfig exactly where the configuration names a faulty party, NoThread where a thread could not be started,
-    /// and NoMemory. No thread is left then.
+    /// BadConfig exactly if the configuration names a faulty party, NoThread if a thread could not be started, and
+    /// NoMemory. No thread is left then.
     pub fn start<G: Gate + Send + Sync + Drop + 'static, R: Threads + Wait + Copy + Send + 'static>(
         rt: &R,
         alloc: Global,
@@ -74,12 +74,12 @@ impl<N: Naming + Send + Sync + 'static> Cluster<N> {
         Self::start_with_drills(rt, alloc, opened, config, limit, gate, none)
     }
 
-    /// The same where replicas may be faulty: each of them does its drill, named by its number, in place of its part.
+    /// The same if replicas may be faulty: each faulty one does the drill with its number, in place of its part.
     ///
     /// # Errors
     ///
-    /// BadConfig exactly where the drills are not those of the configuration's faulty replicas, each once and in any
-    /// order, or a client is faulty; NoThread where a thread could not be started; and NoMemory. No thread is left
+    /// BadConfig exactly if the drills are not those of the configuration's faulty replicas, each once and in any
+    /// order, or if a client is faulty. NoThread if a thread could not be started, and NoMemory. No thread is left
     /// then.
     pub fn start_with_drills<
         G: Gate + Send + Sync + Drop + 'static,
@@ -137,7 +137,7 @@ impl<N: Naming + Send + Sync + 'static> Cluster<N> {
         }
     }
 
-    /// The handle of the client of this number, the first time that it is asked for. It made no call.
+    /// The handle of the client of this number, at the first request for it. The client has made no call.
     pub fn client(&mut self, number: u16) -> Option<ClientHandle<N>>
         ensures { HandsOut self.old (256 + number) result self.new }
     {
@@ -145,31 +145,31 @@ impl<N: Naming + Send + Sync + 'static> Cluster<N> {
         Some(self.handles.remove(at))
     }
 
-    /// Tells the party that time went by: a replica's timeout, or a client's time to send its request again. Nothing
-    /// happens where there is no such party.
+    /// Tells the party that time went by: a replica's timeout, or a client's time to send its request again. Does
+    /// nothing if there is no such party.
     pub fn pulse<R: Wait>(&self, rt: &R, party: Party) {
         self.shared.pulse(rt, party);
     }
 
-    /// How many replicas have stopped by now, since memory ran out or the journal refused an event of theirs.
+    /// How many replicas have stopped by now, because memory ran out or the journal refused an event.
     pub fn count_stopped<R: Wait>(&self, rt: &R) -> u8 {
         self.shared.count_stopped(rt)
     }
 
-    /// Ends the nodes before the cluster is finished: calls that wait, and those that come, are refused.
+    /// Ends the nodes before the cluster is finished. Calls that wait, and later ones, are refused.
     pub fn end<R: Wait>(&self, rt: &R) {
         self.shared.end(rt);
     }
 
     /// Ends the nodes and joins them, takes out the journal, and compares it with the replicas' shares and with the
-    /// clients that are handed in. A call that is waiting on another handle is refused. In the trace each of these
-    /// parties does all that it owes. The run names exactly those that had stopped: the replicas by their shares, by
-    /// number, and then the clients by their handles, in order. The trace has no later event of them.
+    /// given clients. A call that waits on another handle is refused. In the trace each of these parties does all
+    /// that it owes. The run names exactly those that had stopped: the replicas by their shares, by number, and then
+    /// the clients by their handles, in order. The trace has no later event of a stopped party.
     ///
     /// # Errors
     ///
-    /// NotInJournal with what there is, and with a party of which the journal has another history than its share or its
-    /// handle; and NoMemory, with which all is lost.
+    /// NotInJournal, with the run and with a party whose history in the journal differs from its share or its handle.
+    /// NoMemory, and then the run is lost.
     pub fn finish<R: Threads + Wait>(
         self,
         rt: &R,
@@ -215,7 +215,7 @@ fn new_handles<N: Naming>(
     Ok(handles)
 }
 
-// Where the client's handle lies.
+// The place of the client's handle.
 fn place_of<N: Naming>(handles: &[ClientHandle<N>], number: u16) -> Option<usize>
     ensures { MatchOption result (¬ Contains (parties_of handles.now) (256 + number))
         (HandleAt handles.now (256 + number)) }

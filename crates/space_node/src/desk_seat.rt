@@ -1,4 +1,4 @@
-//! What lies behind a node's shelf lock.
+//! The state behind a node's shelf lock.
 
 ghost use Rattle.std.specs.Prelude.{◌≡◌, ◌<◌, [], IfSome, IfNone};
 ghost use Rattle.protocol.specs.Replica.Owed.{IsPromptReplica};
@@ -72,8 +72,9 @@ impl<N: Naming> DeskSeat<N> {
         share
     }
 
-    /// What the desk gives for bytes with the marks of a read, once that is in the journal. At `from` they were sent.
-    /// The desk stops where memory runs out or the journal refuses; one that has stopped, or other bytes, give nothing.
+    /// The desk's outputs for bytes with the marks of a read, after the event is in the journal. `from` is the
+    /// position at which they were sent. The desk stops if memory runs out or the journal refuses. A stopped desk, or
+    /// other bytes, give nothing.
     pub(crate) fn read<R: Wait>(
         &mut self,
         rt: &R,

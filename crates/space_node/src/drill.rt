@@ -1,4 +1,4 @@
-//! Drills: what the faulty replicas of a cluster do.
+//! Drills: the behaviour of a cluster's faulty replicas.
 
 ghost use Rattle.std.specs.Prelude.{◌≡◌, ◌↔◌, ◌==◌, IsTrue};
 ghost use Rattle.std.specs.List.{list_any};
@@ -10,26 +10,26 @@ use crate::faultless::has_correct_clients;
 use events::Config;
 use terms::ReplicaId;
 
-/// What a faulty replica does in place of its part.
+/// The behaviour of a faulty replica, in place of its part.
 #[derive(Clone, Copy, Debug, PartialEq, Eq, Drop)]
 pub enum Drill {
     /// It takes frames and sends nothing.
     Silent,
-    /// It answers each read from the empty space, as that of number 0, and does nothing else.
+    /// It answers each read from the empty space, as from the state of number 0, and does nothing else.
     Stale,
 }
 
-/// Whether a cluster may start with these drills: they are those of the configuration's faulty replicas, of which each
-/// has one, and no client is faulty.
+/// Whether a cluster may start with these drills: each faulty replica of the configuration has one, no other replica
+/// has, and no client is faulty.
 pub(crate) fn may_start(config: &Config, drills: &[(u16, Drill)]) -> bool
     ensures { IsTrue result ↔ MayStart config.now (replicas_of drills.now) }
 {
-    // It is valid.
+    // Tells a proof that the configuration is valid.
     let _faults = config.faults();
     has_correct_clients(config) && are_of_faulty(config, drills) && is_drilled(config, drills)
 }
 
-// Whether the drills are of faulty replicas, and no two of them of one.
+// Whether the drills are of faulty replicas, no two of the same.
 fn are_of_faulty(config: &Config, drills: &[(u16, Drill)]) -> bool
     requires valid { IsConfiguration config.now }
     ensures { result ≡ each_once config.now (replicas_of drills.now) }

@@ -1,4 +1,4 @@
-//! The threads of a faulty replica. Each takes its inbox until it is told to end.
+//! The threads of a faulty replica. Each takes notes from its inbox until it is told to end.
 
 ghost use Rattle.std.specs.Prelude.{◌≡◌, ◌<◌, IfSome};
 ghost use Rattle.space_node.specs.Drills.{IsStale};
@@ -89,7 +89,7 @@ fn start_stale<N: Naming + Send + Sync + 'static, R: Threads + Wait + Copy + Sen
     Ok(())
 }
 
-// Takes all that comes, and sends nothing.
+// Takes all notes, and sends nothing.
 fn take_all<R: Wait>(rt: &R, inbox: &Receiver<Note>) {
     for _ in rt.forever() {
         match inbox.recv(rt) {
@@ -99,7 +99,8 @@ fn take_all<R: Wait>(rt: &R, inbox: &Receiver<Note>) {
     }
 }
 
-// Answers the reads that come. What names a faulty sender may come from anywhere, so it has no position.
+// Answers the reads that come. A frame that names a faulty sender may come from anywhere, so its position doesn't
+// matter.
 fn answer_reads<N: Naming, R: Wait>(
     rt: &R,
     alloc: Global,
@@ -124,7 +125,7 @@ fn answer_reads<N: Naming, R: Wait>(
 }
 
 impl Stale {
-    // What it gives for bytes in which it hears a read, if memory suffices.
+    // The output for bytes in which the replica hears a read, if memory suffices.
     fn answer(&mut self, alloc: Global, bytes: &[u8], arena: &mut Bump) -> Option<Output>
         ensures { IfSome result (IsStale self.old.ring self.old.me.0 bytes.now) }
     {

@@ -10,7 +10,7 @@ use events::{Entry, EntryKind, Output};
 use std::alloc::Global;
 use terms::{NoMemory, Party};
 
-/// The entries of a party's event: its input, and what it gave.
+/// The entries of a party's event: its input, and its outputs.
 pub(crate) fn entries_of(
     alloc: Global,
     party: Party,
@@ -49,7 +49,7 @@ fn output_entry(alloc: Global, party: Party, output: &Output) -> Result<Entry, N
             let answer = answer.copy_in(alloc)?;
             Ok(Entry::new(EntryKind::Accepted(client, *timestamp, answer)))
         }
-        // No party gives that.
+        // No party has such an output.
         _ => Err(NoMemory),
     }
 }

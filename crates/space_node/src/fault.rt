@@ -77,7 +77,7 @@ pub enum CallFault {
     /// The client had stopped before the call, or had no timestamp left.
     #[error("stopped")]
     Stopped,
-    /// The journal has another history of the client, or what it got was not sent; or the cluster has ended.
+    /// The journal has another history of the client, the received bytes were not sent, or the cluster has ended.
     #[error("not in the journal")]
     NotInJournal,
     /// The journal has no room.

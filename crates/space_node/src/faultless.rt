@@ -8,11 +8,11 @@ use events::Config;
 use std::alloc::Global;
 use terms::{FIRST_CLIENT, NoMemory, ReplicaId};
 
-/// Whether the configuration names no party as faulty. A cluster starts of no other.
+/// Whether the configuration names no party as faulty. A cluster without drills starts only then.
 pub fn is_faultless(config: &Config) -> bool
     ensures { IsTrue result ↔ IsFaultless config.now }
 {
-    // It is valid.
+    // Tells a proof that the configuration is valid.
     let _faults = config.faults();
     has_correct_replicas(config) && has_correct_clients(config)
 }
@@ -21,7 +21,7 @@ pub fn is_faultless(config: &Config) -> bool
 pub(crate) fn correct_replicas(alloc: Global, config: &Config) -> Result<Vec<ReplicaId>, NoMemory>
     ensures { IfOk result (λ replicas. Serves config.now replicas.items) }
 {
-    // It is valid.
+    // Tells a proof that the configuration is valid.
     let _faults = config.faults();
     let mut replicas = Vec::new(alloc);
     for number in 0..config.replicas() {

@@ -1,4 +1,4 @@
-//! A cluster's end: what its journal has is compared with what its parties kept.
+//! The end of a cluster: its journal is compared with the histories that its parties kept.
 
 ghost use Rattle.std.specs.Prelude.{◌≡◌, ◌++◌, true, map, reverse, IfOk, IfErr, OnOk, MatchOption};
 ghost use Rattle.terms.specs.Parties.{party_number};
@@ -18,7 +18,7 @@ use std::alloc::Global;
 use std::sync::Wait;
 use terms::{NoMemory, Party, ReplicaId};
 
-/// The share of each of the correct replicas, whose desk stops then.
+/// The shares of the correct replicas, whose desks stop then.
 pub(crate) fn shares_of<N: Naming, R: Wait>(
     rt: &R,
     alloc: Global,
@@ -40,7 +40,7 @@ pub(crate) fn shares_of<N: Naming, R: Wait>(
     Ok(shares)
 }
 
-// What lies in the replica's seats.
+// The share in the replica's seats.
 fn share_of<N: Naming, R: Wait>(
     rt: &R,
     alloc: Global,
@@ -96,7 +96,7 @@ pub(crate) fn settle<N: Naming>(
     }
 }
 
-// The first party of which the journal has another history than its share.
+// The first party whose history in the journal differs from its share.
 fn first_share_off<N: Naming>(journal: &Journal<N>, shares: &[ReplicaShare<N>]) -> Option<Party>
     ensures { MatchOption result (HasHistories journal.now.trace shares.now)
         (λ party. LacksHistory journal.now.trace shares.now (party_number party)) }
@@ -109,7 +109,7 @@ fn first_share_off<N: Naming>(journal: &Journal<N>, shares: &[ReplicaShare<N>]) 
     None
 }
 
-// The same of clients.
+// The first client whose history in the journal differs from its handle.
 fn first_client_off<N: Naming>(journal: &Journal<N>, clients: &[ClientHandle<N>]) -> Option<Party>
     ensures { MatchOption result (HasHistories journal.now.trace clients.now)
         (λ party. LacksHistory journal.now.trace clients.now (party_number party)) }
@@ -122,8 +122,8 @@ fn first_client_off<N: Naming>(journal: &Journal<N>, clients: &[ClientHandle<N>]
     None
 }
 
-// The parties that have stopped: the replicas, and then the clients. Each client does all that it owes to the end of
-// its history.
+// The parties that have stopped: the replicas, and then the clients. Each client does all that it owes, up to the end
+// of its history.
 fn name_stopped<N: Naming>(
     alloc: Global,
     shares: &[ReplicaShare<N>],

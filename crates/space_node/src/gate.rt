@@ -1,4 +1,4 @@
-//! Where a test may hold a node, or stop it.
+//! The place at which a test may hold a node, or stop it.
 
 /// Holds ordering threads, and stops nodes.
 pub trait Gate {
@@ -7,13 +7,13 @@ pub trait Gate {
     fn at(&self, node: u16, event_no: u64);
 
     /// Whether the node stops in place of this event, as it does if memory runs out. The thread asks after `at`, with
-    /// both locks of the node held. A gate that does not say stops nobody.
+    /// both locks of the node held. By default no node stops.
     fn stops(&self, _node: u16, _event_no: u64) -> bool {
         false
     }
 }
 
-/// The gate that holds nobody and stops nobody.
+/// The gate that holds no node and stops none.
 #[derive(Clone, Copy, Drop)]
 pub struct Open;
 

@@ -76,7 +76,7 @@ impl<N: Naming> ClientHandle<N> {
         }
     }
 
-    /// Whether the client has stopped. To the end of its history it does all that it owes.
+    /// Whether the client has stopped. It has done all that it owes, up to the end of its history.
     pub(crate) fn is_stopped(&self) -> bool
         ensures value { result ≡ self.now.stopped }
         ensures prompt { IsPromptClient N.config self.now.party self.now.history }
@@ -95,9 +95,9 @@ impl<N: Naming> ClientHandle<N> {
     ///
     /// # Errors
     ///
-    /// Stopped exactly where the client had stopped, or made 2^62 calls. NotInJournal where the journal has another
-    /// history of the client, or the cluster has ended; JournalFull where the journal has no room for an event of the
-    /// call; and NoMemory. The client has stopped then, and the call has no answer.
+    /// Stopped exactly if the client had stopped, or made 2^62 calls. NotInJournal if the journal has another history
+    /// of the client, or the cluster has ended. JournalFull if the journal has no room for an event of the call, and
+    /// NoMemory. The client has stopped after an error, and the call has no answer.
     pub fn call<R: Wait>(
         &mut self,
         rt: &R,

@@ -7,7 +7,7 @@ ghost use Rattle.space_node.specs.Seats.{input_of};
 use events::{Entry, EntryKind, Outputs};
 use terms::Party;
 
-/// What a party takes from its inbox.
+/// An input that a party takes from its inbox.
 #[derive(Drop)]
 pub(crate) enum Input {
     /// The bytes of a frame, and the position in the journal at which it was sent.
@@ -17,7 +17,7 @@ pub(crate) enum Input {
 }
 
 impl Input {
-    /// The entry with which the party's event begins, and where the frame was sent that it got.
+    /// The entry that begins the party's event, and the position at which its frame was sent.
     pub(crate) fn into_entry(self, party: Party) -> (Entry, Option<u64>)
         ensures { result.0 ≡ input_of (party_number party) self }
     {
@@ -28,7 +28,7 @@ impl Input {
     }
 }
 
-/// What an event gave that is in the journal, where its entries begin at this position.
+/// The outputs of an event that is in the journal; `first` is the position of its first entry.
 #[derive(Drop)]
 pub(crate) struct Given {
     pub(crate) outputs: Outputs,

@@ -1,31 +1,50 @@
 //! A running cluster: each replica is a node with threads of its own, a client runs on its caller's thread, and one
-//! journal has what they all did.
+//! journal has the entries of all.
 //!
-//! A node has two inboxes, each an unbounded channel, and a thread for each: one orders, the other answers reads beside
-//! it. Locks are taken in the order order, shelf, journal. A step is made and its frames are sealed before the
-//! journal's lock is taken, its event is in the journal before a byte is put on a channel, and no lock is held while
-//! frames are sent. Nothing else is shared.
+//! A node has two inboxes, each an unbounded channel, and a thread for each: one orders, the other answers reads
+//! beside it. A thread takes locks in this order: order, shelf, journal. It makes a step and seals its frames before
+//! it takes the journal's lock. The event is in the journal before its first byte is put on a channel, and the thread
+//! holds no lock while it sends frames. Threads share nothing else.
 //!
 //! # What is proved
 //!
-//! By the types, so also behind the locks: each part of a node has stopped, or fits the history of its share, and so
-//! does each client. So whatever a node or a client appends is right, and the trace is a run's. [`ClientHandle::call`]
-//! says what an answer stands on in the client's history, and exactly when it is refused as stopped.
-//! [`Cluster::finish`] says that the trace is a run's, in which each frame that was got was sent, or names a faulty
-//! sender; that it has each correct replica's and each handed client's history; that in it each of these parties does
-//! all that it owes; and that it is linearizable, unless two different texts of the run have one digest (`NoCollision`
-//! lists them, the pages of the executed states among them) or a message of a correct party is forged, which without
-//! faulty parties none is. What a party got after it had stopped is not in the trace. The run names exactly the parties
-//! that stopped: a client by its handle, a replica by its share, which its seats alone give ([`ReplicaShare`]).
-//! [`Cluster::start_with_drills`] is refused exactly where the drills are not those of the faulty replicas; a stale
-//! replica says nothing but what reads come to in no tuples.
+//! These hold by the types, so also of values behind the locks. Each part of a node has stopped, or fits the history
+//! of its share, and so does each client. So each event that a node or a client appends is right, and the trace is a
+//! run's. [`ClientHandle::call`] says which entries of the client's history an answer rests on, and exactly when a
+//! call is refused as stopped.
 //!
-//! # What is not
+//! [`Cluster::finish`] says this of the trace:
+//!
+//! - It is a run's. Each frame that a party got was sent, or names a faulty sender.
+//! - It has the history of each correct replica and each given client, and in it each of these parties does all that
+//!   it owes. It has no input that came to a party after it had stopped.
+//! - It is linearizable, unless two different texts of the run have one digest or a message of a correct party is
+//!   forged. `NoCollision` lists the texts, the pages of the executed states among them. Without faulty parties no
+//!   message is forged.
+//!
+//! The run names exactly the parties that stopped: a client by its handle, a replica by its share, which only its
+//! seats give ([`ReplicaShare`]). [`Cluster::start_with_drills`] is refused exactly if the drills are not those of
+//! the faulty replicas. A stale replica answers reads as from a space without tuples, and sends nothing else.
+//!
+//! # What is not proved
 //!
 //! That anything happens: that a thread runs, that a frame comes, that a call is answered. What a replica did before
-//! its threads ended, as far as its share does not tell it: so that nobody stops it without a reason. A frame that a
-//! channel doesn't take is lost, as in a network. That clients get frames of a stale replica, and none of a silent one,
-//! is tested, and that the journal takes as many entries as it is told.
+//! its threads ended, except for what its share shows. So it isn't proved that no replica stops without a reason. A
+//! frame that a channel doesn't take is lost, as in a network. Tests show that clients get frames of a stale replica,
+//! and none of a silent one. They also show that the journal takes as many entries as its limit says.
+//!
+//! # How it is made
+//!
+//! - An `OrderSeat` has the orderer, and a `DeskSeat` the desk with the share. Contracts see of a seat a party, a
+//!   history and whether it stopped (`Seated`).
+//! - If memory or the journal refuses, or a test's gate says so, the parts stop and nothing is sent. A frame goes into
+//!   an inbox with the position at which it was sent.
+//! - A faulty replica has the same inboxes, and no seat. Its threads do its drill (`src/drilling.rt`), which takes what
+//!   comes, or answers reads from the empty space. Its frames name a faulty sender, so no position is asked of them.
+//! - A new cluster has a handle of each client, and one that is handed out is new.
+//! - `finish` ends and joins all threads, and takes each replica's share out of its seats. It compares the journal with
+//!   each share and each handle. The headline is the law `points_are_linear` on the trace. If no party is faulty,
+//!   `carried_is_unforged` gives its first premise.
 #![tactic(auto)]
 
 mod client_seat;

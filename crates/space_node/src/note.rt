@@ -1,10 +1,10 @@
-//! What lies in inboxes.
+//! The contents of inboxes.
 
 use crossbeam_channel::{SendError, Sender};
 use std::sync::Wait;
 use std::thread;
 
-/// What an inbox holds.
+/// A note in an inbox.
 #[derive(Drop)]
 pub(crate) enum Note {
     /// The bytes of a frame, and the position in the journal at which it was sent.
@@ -15,7 +15,7 @@ pub(crate) enum Note {
     End,
 }
 
-/// Ends who takes the inbox. A note that the channel has no room for is sent again.
+/// Ends the thread that takes from the inbox. A note that the channel has no room for is sent again.
 pub(crate) fn end<R: Wait>(rt: &R, inbox: &Sender<Note>) {
     for _ in rt.forever() {
         match inbox.send(rt, Note::End) {

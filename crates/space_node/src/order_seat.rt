@@ -1,4 +1,4 @@
-//! What lies behind a node's order lock.
+//! The state behind a node's order lock.
 
 ghost use Rattle.std.specs.Prelude.{◌≡◌, None, is_none, false, IfSome, IfNone, IfOk, OnErr, true};
 ghost use Rattle.replica.specs.Parted.{FitsOrderer};
@@ -65,8 +65,8 @@ impl<N: Naming> OrderSeat<N> {
         shelf.desk.stop();
     }
 
-    /// What the replica of both parts gives for its input, once that is in the journal. Both parts stop where memory
-    /// runs out or the journal refuses; where one has stopped, nothing is given.
+    /// The outputs of the replica of both parts for its input, after the event is in the journal. Both parts stop if
+    /// memory runs out or the journal refuses. If one has stopped before, there are no outputs.
     pub(crate) fn step<R: Wait>(
         &mut self,
         rt: &R,
@@ -102,7 +102,7 @@ impl<N: Naming> OrderSeat<N> {
     }
 }
 
-// What the replica of both parts gives.
+// The outputs of the replica of both parts.
 fn step_parts(
     orderer: &mut Orderer,
     alloc: Global,

@@ -1,7 +1,7 @@
 //! Events, appended to the journal under its lock. Each call gives the position of the event's first entry.
 
 ghost use Rattle.std.specs.Prelude.{◌≡◌, OnOk, OnErr};
-ghost use Rattle.events.specs.Outputs.{behind};
+ghost use Rattle.events.specs.Outputs.{after_entries};
 ghost use Rattle.journal.specs.Histories.{IsEventOf, IsRight};
 ghost use Rattle.journal.specs.Parts.{AreAlike, longer_part};
 ghost use Rattle.protocol.specs.System.Reads.{without_reads};
@@ -11,7 +11,7 @@ use journal::{AppendFault, Journal, Naming, OrderShare, Share};
 use std::alloc::Global;
 use std::sync::{Mutex, Wait};
 
-/// Appends an event of the share's party. At `from` the frame was sent that it got.
+/// Appends an event of the share's party. `from` is the position at which the received frame was sent.
 pub(crate) fn record<N: Naming, R: Wait>(
     rt: &R,
     alloc: Global,
@@ -21,7 +21,7 @@ pub(crate) fn record<N: Naming, R: Wait>(
     entries: Vec<Entry>,
 ) -> Result<u64, AppendFault>
     requires event { IsEventOf share.old.party entries.items }
-    requires right { IsRight N.config share.old.party (behind entries.items share.old.history) }
+    requires right { IsRight N.config share.old.party (after_entries entries.items share.old.history) }
     ensures kept { OnOk result (share.new ≡ longer_part share.old entries.items) }
     ensures refused { OnErr result (share.new ≡ share.old) }
 {
@@ -31,7 +31,7 @@ pub(crate) fn record<N: Naming, R: Wait>(
     Ok(first)
 }
 
-/// The same of an ordering thread, which has a share of ordering beside.
+/// The same for an ordering thread, which has a share of ordering too.
 pub(crate) fn record_order<N: Naming, R: Wait>(
     rt: &R,
     alloc: Global,
@@ -43,7 +43,7 @@ pub(crate) fn record_order<N: Naming, R: Wait>(
 ) -> Result<u64, AppendFault>
     requires event { IsEventOf share.old.party entries.items }
     requires right { AreAlike share.old order.old
-        → IsRight N.config share.old.party (behind entries.items share.old.history) }
+        → IsRight N.config share.old.party (after_entries entries.items share.old.history) }
     ensures alike { OnOk result (AreAlike share.old order.old) }
     ensures kept { OnOk result (share.new ≡ longer_part share.old entries.items) }
     ensures ordered { OnOk result (order.new ≡ longer_part order.old (without_reads entries.items)) }

@@ -1,4 +1,4 @@
-//! What a correct replica leaves.
+//! A correct replica's share at the end of a cluster.
 
 ghost use Rattle.std.specs.Prelude.{◌≡◌, true, reverse};
 ghost use Rattle.terms.specs.Parties.{party_number};
@@ -37,7 +37,7 @@ impl<N: Naming> Model for ReplicaShare<N> {
 }
 
 impl<N: Naming> ReplicaShare<N> {
-    /// What the replica of these seats leaves. It has stopped if one of them has. Its desk stops then.
+    /// The share of the replica with these seats. The replica has stopped if one of them has. Its desk stops then.
     pub(crate) fn take(
         alloc: Global,
         order: &OrderSeat<N>,
@@ -51,7 +51,7 @@ impl<N: Naming> ReplicaShare<N> {
         ReplicaShare { share, stopped }
     }
 
-    /// What a replica without seats leaves.
+    /// The share of a replica without seats, which counts as stopped.
     pub(crate) fn none(alloc: Global, replica: ReplicaId) -> ReplicaShare<N>
         requires correct { is_correct N.config replica.0 ≡ true }
         ensures left { result ≡ absent replica.0 }
@@ -63,7 +63,7 @@ impl<N: Naming> ReplicaShare<N> {
         }
     }
 
-    /// Whose it is.
+    /// The party of the share.
     pub fn party(&self) -> Party
         ensures { party_number result ≡ self.now.party }
     {

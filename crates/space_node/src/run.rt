@@ -1,20 +1,20 @@
-//! What a cluster comes to.
+//! The result of a cluster.
 
 use crate::replica_share::ReplicaShare;
 use events::Entry;
 use journal::Naming;
 use terms::Party;
 
-/// What the parties of a cluster did.
+/// The entries of a cluster's parties, and the parties that stopped.
 #[derive(Drop)]
 pub struct Run<N: Naming> {
-    /// The entries of all, the oldest first.
+    /// The entries of all parties, the oldest first.
     pub trace: Vec<Entry>,
-    /// The share of each correct replica, in the order of their numbers, which tells whether the replica had stopped.
+    /// The shares of the correct replicas, in the order of their numbers. Each tells whether its replica had stopped.
     pub shares: Vec<ReplicaShare<N>>,
-    /// The replicas that had stopped, by number, and then those of the handed clients, in the order of their handles,
-    /// and nobody else. A party stops where memory runs out or the journal refuses its event, and a client also if the
-    /// cluster ends in its call. The trace has nothing of that event, nor of later ones.
+    /// The replicas that had stopped, by number, then the stopped clients of the given handles, in their order, and
+    /// no others. A party stops if memory runs out or the journal refuses its event, and a client also if the cluster
+    /// ends during its call. The trace has nothing of that event, nor of later ones.
     pub stopped: Vec<Party>,
 }
 

@@ -21,7 +21,7 @@ use std::alloc::Global;
 use std::sync::Mutex;
 use terms::{ClientId, NoMemory, Party, ReplicaId};
 
-/// What a replica's threads take.
+/// The seats that a replica's threads take.
 #[derive(Drop)]
 pub(crate) struct NodeEnd {
     pub(crate) replica: ReplicaId,
@@ -30,7 +30,7 @@ pub(crate) struct NodeEnd {
     ghost known: { replica.0 < 10 },
 }
 
-/// What a client's handle has for its own.
+/// The parts of a client's handle that no other thread has.
 #[derive(Drop)]
 pub(crate) struct ClientEnd<N: Naming> {
     pub(crate) seat: ClientSeat<N>,
@@ -46,7 +46,7 @@ struct Parties<N: Naming> {
     client_ends: Vec<ClientEnd<N>>,
 }
 
-/// What the threads of a new cluster share, and what each has for its own.
+/// The state that the threads of a new cluster share, and the state that each has for itself.
 pub(crate) fn seat_all<N: Naming>(
     alloc: Global,
     opened: Opened,
@@ -77,7 +77,7 @@ pub(crate) fn seat_all<N: Naming>(
 
 // The inboxes of all replicas, by their numbers.
 fn open_inboxes(alloc: Global, config: &Config) -> Result<(Vec<Inboxes>, Vec<NodeEnd>), NoMemory> {
-    // It is valid.
+    // Tells a proof that the configuration is valid.
     let _faults = config.faults();
     let mut inboxes = Vec::new(alloc);
     let mut ends = Vec::new(alloc);
@@ -157,7 +157,7 @@ fn seat_party<N: Naming>(
     }
 }
 
-// The first share of ordering, which is the replica's.
+// The first share of ordering, which is this replica's.
 fn take_order<N: Naming>(orders: &mut Vec<OrderShare<N>>, replica: ReplicaId) -> OrderShare<N>
     requires new { All (λ o. o.history ≡ []) orders.old.items }
     requires first { IsFirst replica.0 orders.old.items }
@@ -185,7 +185,7 @@ fn new_node<N: Naming>(
     requires order_party { order.party ≡ replica.0 }
     requires new_order { order.history ≡ [] }
 {
-    // It is one of the configuration's.
+    // Tells a proof that it is a party of the configuration.
     let _party = order.party();
     let (orderer, desk) = Replica::new(alloc, config, replica, publics.share()?)?.split();
     Ok(Node {

@@ -1,4 +1,4 @@
-//! The threads of a node. Each takes its inbox until it is told to end.
+//! The threads of a node. Each takes notes from its inbox until it is told to end.
 
 use crate::gate::Gate;
 use crate::input::{Given, Input};
@@ -39,7 +39,7 @@ pub(crate) fn serve_orders<N: Naming, G: Gate, R: Wait>(
     }
 }
 
-// One event of ordering. The locks are let go with it.
+// One event of ordering. The locks are released at its end.
 fn order_event<N: Naming, G: Gate, R: Wait>(
     rt: &R,
     alloc: Global,

@@ -1,4 +1,4 @@
-//! What the threads of a cluster share.
+//! The state that the threads of a cluster share.
 
 use crate::desk_seat::DeskSeat;
 use crate::input::Given;
@@ -20,12 +20,12 @@ pub(crate) struct Node<N: Naming> {
     pub(crate) shelf: Mutex<DeskSeat<N>>,
 }
 
-/// The inboxes of a replica, be it correct or faulty.
+/// The inboxes of a replica, whether it is correct or faulty.
 #[derive(Drop)]
 pub(crate) struct Inboxes {
-    /// Of the ordering thread.
+    /// The ordering thread's.
     pub(crate) orders: Sender<Note>,
-    /// Of the thread that reads.
+    /// The read thread's.
     pub(crate) reads: Sender<Note>,
 }
 
@@ -50,14 +50,14 @@ impl<N: Naming> Shared<N> {
         None
     }
 
-    /// Tells the party that time went by. Nothing where there is none of that number.
+    /// Tells the party that time went by. Does nothing if no party has that number.
     pub(crate) fn pulse<R: Wait>(&self, rt: &R, party: Party) {
         if let Some(inbox) = self.inbox(party) {
             let _ = inbox.send(rt, Note::Pulse);
         }
     }
 
-    /// How many replicas have stopped by now. What stops an orderer stops its desk too.
+    /// How many replicas have stopped by now. Whatever stops an orderer stops its desk too.
     pub(crate) fn count_stopped<R: Wait>(&self, rt: &R) -> u8 {
         let mut count = 0u8;
         for node in &self.nodes {
@@ -68,7 +68,8 @@ impl<N: Naming> Shared<N> {
         count
     }
 
-    /// Puts a copy of each frame into the inbox of each of its receivers. One that has no room is lost.
+    /// Puts a copy of each frame into the inbox of each of its receivers. If there is no memory for a copy, it is
+    /// lost.
     pub(crate) fn send<R: Wait>(&self, rt: &R, alloc: Global, given: &Given) {
         let mut at = given.first;
         for output in &given.outputs {
@@ -79,7 +80,7 @@ impl<N: Naming> Shared<N> {
         }
     }
 
-    /// The same of a frame that was sent at this position.
+    /// The same for one frame, which was sent at this position.
     pub(crate) fn send_frame<R: Wait>(
         &self,
         rt: &R,
@@ -111,7 +112,7 @@ impl<N: Naming> Shared<N> {
         }
     }
 
-    // Where the party takes what has the marks of a read.
+    // The inbox from which the party takes bytes with the marks of a read.
     fn read_inbox(&self, party: Party) -> Option<&Sender<Note>> {
         match party {
             Party::Replica(replica) => match self.replicas.get(usize::from(replica.0)) {
@@ -122,7 +123,7 @@ impl<N: Naming> Shared<N> {
         }
     }
 
-    /// Ends all that take inboxes.
+    /// Ends all threads that take from inboxes.
     pub(crate) fn end<R: Wait>(&self, rt: &R) {
         for inboxes in &self.replicas {
             end(rt, &inboxes.orders);

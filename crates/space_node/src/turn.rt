@@ -1,4 +1,4 @@
-//! What an event of a client comes to.
+//! The consequence of a client's event.
 
 ghost use Rattle.std.specs.Prelude.{◌≡◌, ◌↔◌, IsTrue};
 ghost use Rattle.space_node.specs.Calls.{AcceptNothing, Accepts, AcceptsAnswer, MakesTurn, TurnsTo};
@@ -8,16 +8,16 @@ use std::alloc::Global;
 use terms::Timestamp;
 use tuple_codec::Answer;
 
-/// What an event comes to.
+/// The consequence of an event for the open call.
 #[derive(Drop)]
 pub(crate) enum Turn {
-    /// The call goes on, and this is given.
+    /// The call goes on, with these outputs.
     Waits(Outputs),
     /// The call is answered.
     Answered(Answer<Global>),
 }
 
-/// What outputs come to in a call of this timestamp.
+/// The consequence of these outputs for a call of this timestamp.
 pub(crate) fn turn_of(mut outputs: Outputs, timestamp: Timestamp) -> Turn
     requires { MakesTurn timestamp.0 outputs.items }
     ensures { TurnsTo timestamp.0 outputs.items result }

@@ -1,4 +1,4 @@
--- What stands behind the old bytes, whether memory ran out or not.
+-- The bytes after the old ones, whether memory ran out or not.
 use Rattle.std.proofs.Common.{◌≡◌, ℕ, List, [], ◌++◌, Result, Ok, Err, OnOk, OnErr, append-nil, sym, ◌∙◌}
 use Rattle.tuple_text.specs.Written.{Appends}
 

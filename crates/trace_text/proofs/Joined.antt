@@ -43,7 +43,7 @@ module _ {X : Type 0} (gap : List ℕ) (text : X → List ℕ) where
   pub one_more_at : (old out sep new : List ℕ) (xs : List X) (i : ℕ) (d : X) → i < length xs → SoFar old out sep (take i xs) → new ≡ out ++ (sep ++ text (get_or xs i d)) → SoFar old new gap (take (i + 1) xs)
   one_more_at old out sep new xs i d p h n = one_more old out sep new xs i (get_or xs i d) p (get_or_default xs i d (get_or xs i d) p) h n
 
-  -- an error in an item leaves what is written
+  -- an error in an item leaves the old bytes in front
   pub stopped : (old out sep new : List ℕ) (done : List X) → SoFar old out sep done → (more : List ℕ) × (new ≡ out ++ more) → (more : List ℕ) × (new ≡ old ++ more)
   stopped old out sep new done h (more, e) = (joined gap text done ++ more, e ∙ ap (λ t. t ++ more) h.written ∙ append_assoc old (joined gap text done) more)
 
@@ -64,7 +64,7 @@ module _ {X : Type 0} (gap : List ℕ) (text : X → List ℕ) where
   listed_view none view [] = refl
   listed_view none view (y ∷ ys) = ap (λ t. text (view y) ++ t) (flat_view view ys)
 
-  -- all are written, where there are some
+  -- all items are written, if there are some
   pub all_listed : (none old out sep : List ℕ) (xs : List X) (i : ℕ) → length xs ≤ i → (length xs ≡ 0 → ⊥) → SoFar old out sep (take i xs) → out ≡ old ++ listed gap none text xs
   all_listed none old out sep xs i full some h =
       h.written ∙ ap (λ ys. old ++ joined gap text ys) (take_all i xs full) ∙ ap (λ t. old ++ t) (sym (some_listed none xs some))

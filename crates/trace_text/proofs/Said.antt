@@ -1,4 +1,4 @@
--- What is read of a frame's bytes is what its line shows.
+-- The line of a frame shows the content of its bytes.
 use Rattle.std.proofs.Common.{◌≡◌, ℕ, List, ◌++◌, length, map, Option, Some, None, refl, sym, ap, ◌∙◌}
 use Rattle.std.specs.Prelude.{codes}
 use Rattle.std.specs.Fmt.{decimal}

@@ -1,4 +1,4 @@
--- What the bytes of frames say, as text.
+-- The contents of frames, as text.
 use Rattle.std.specs.Prelude.{ℕ, ◌-◌, nat_lt, if◌then◌else◌, List, [], ◌∷◌, ◌++◌, length, take, codes, Option, Some, None}
 use Rattle.std.specs.Fmt.{decimal}
 use Rattle.hex.specs.Hex.{encode_lower}
@@ -16,7 +16,7 @@ use Rattle.trace_text.specs.Lists.{listed}
 abbrev pub party_text : ℕ → List ℕ
 party_text p = if nat_lt p 256 then 114 ∷ decimal p else 99 ∷ decimal (p - 256)
 
--- Of a digest its first four bytes are shown.
+-- The first four bytes of a digest are shown.
 abbrev pub short : List ℕ → List ℕ
 short digest = encode_lower (take 4 digest)
 
@@ -44,7 +44,7 @@ call_in (Some f) = call_by f.body.sender f.body.message
 abbrev pub call_text : List ℕ → List ℕ
 call_text frame = call_in (frame_of frame)
 
--- those of the requests of a batch's text
+-- the clients and timestamps of the requests of a batch's text
 abbrev pub calls_text : List ℕ → List ℕ
 calls_text batch = listed (codes " ") (codes "null") call_text (requests_of batch)
 
@@ -58,7 +58,7 @@ abbrev pub of_view : List ℕ → List ℕ → ℕ → ℕ → List ℕ
 of_view word sender view number =
     word ++ codes " " ++ sender ++ codes " view " ++ decimal view ++ codes " number " ++ decimal number ++ codes " "
 
--- what stands before the operation
+-- the words before the operation
 abbrev pub asked : List ℕ → ℕ → Mode → List ℕ
 asked sender timestamp mode =
     codes "request " ++ sender ++ codes " time " ++ decimal timestamp ++ codes " " ++ mode_text mode ++ codes " "
@@ -85,7 +85,7 @@ batch_entry_text e = decimal e.number ++ codes ":" ++ short e.digest ++ codes ":
 abbrev pub batch_entries_text : List BatchEntryData → List ℕ
 batch_entries_text es = listed (codes ",") (codes "-") batch_entry_text es
 
--- what stands before the checkpoints
+-- the words before the checkpoints
 abbrev pub changed : List ℕ → ℕ → ℕ → List ℕ
 changed sender view low =
     codes "view-change " ++ sender ++ codes " view " ++ decimal view ++ codes " low " ++ decimal low ++ codes " checkpoints "
@@ -96,7 +96,7 @@ view_change_text sender c =
     ++ codes " prepared " ++ batch_entries_text c.prepared
     ++ codes " pre-prepared " ++ batch_entries_text c.pre_prepared
 
--- who sent a frame
+-- the sender of a frame
 abbrev pub sender_in : Option FrameData → List ℕ
 sender_in None = []
 sender_in (Some f) = party_text f.body.sender
@@ -107,18 +107,18 @@ sender_text frame = sender_in (frame_of frame)
 abbrev pub batch_in_brackets : List ℕ → List ℕ
 batch_in_brackets batch = codes "[" ++ calls_text batch ++ codes "]"
 
--- what stands before the senders of its view changes
+-- the words before the senders of the view changes
 abbrev pub opened : List ℕ → ℕ → List ℕ
 opened sender view = codes "new-view " ++ sender ++ codes " view " ++ decimal view ++ codes " changes "
 
--- these senders, where it starts, and its batches
+-- the senders of the view changes, the checkpoint that the view starts from, and its batches
 abbrev pub new_view_text : List ℕ → NewViewData → List ℕ
 new_view_text sender n =
     opened sender n.view ++ listed (codes ",") (codes "-") sender_text n.changes
     ++ codes " start " ++ decimal n.start ++ codes " root " ++ short n.root
     ++ codes " batches " ++ listed (codes " ") (codes "-") batch_in_brackets n.batches
 
--- what stands before the outcome
+-- the words before the outcome
 abbrev pub replied : List ℕ → ℕ → ℕ → Mode → ℕ → List ℕ
 replied sender client timestamp kind number =
     codes "reply " ++ sender ++ codes " client " ++ party_text client ++ codes " time " ++ decimal timestamp
@@ -132,8 +132,8 @@ reply_text sender client timestamp kind number outcome =
 abbrev pub part_text : List ℕ → List ℕ → ℕ → Level → ℕ → List ℕ
 part_text word sender number level index = of_number word sender number ++ place_text level index
 
-abbrev pub page_text : List ℕ → ℕ → ℕ → List ℕ → List ℕ
-page_text sender number index text =
+abbrev pub page_part_text : List ℕ → ℕ → ℕ → List ℕ → List ℕ
+page_part_text sender number index text =
     of_number (codes "page") sender number ++ codes "page " ++ decimal index ++ codes " bytes " ++ decimal (length text)
 
 abbrev pub message_text : List ℕ → MessageData → List ℕ
@@ -147,14 +147,14 @@ message_text s (new_view n) = new_view_text s n
 message_text s (reply client timestamp kind number outcome) = reply_text s client timestamp kind number outcome
 message_text s (fetch number level index) = part_text (codes "fetch") s number level index
 message_text s (meta number level index digests) = part_text (codes "meta") s number level index
-message_text s (page number index text) = page_text s number index text
+message_text s (page number index text) = page_part_text s number index text
 
 abbrev pub body_text : BodyData → List ℕ
 body_text b = message_text (party_text b.sender) b.message
 
 -- ---- frames
 
--- Of bytes that are no frame their number is shown.
+-- For bytes that are no frame, the text shows how many there are.
 abbrev pub frame_in : ℕ → Option FrameData → List ℕ
 frame_in len None = decimal len ++ codes " bytes that are no frame"
 frame_in len (Some f) = body_text f.body
@@ -162,7 +162,7 @@ frame_in len (Some f) = body_text f.body
 abbrev pub frame_text : List ℕ → List ℕ
 frame_text bytes = frame_in (length bytes) (frame_of bytes)
 
--- Those for whom a frame has a MAC; a signature is for all.
+-- The receivers for whom a frame has a MAC; a signature is for all.
 abbrev pub receivers_in : Option FrameData → List ℕ
 receivers_in None = codes "all"
 receivers_in (Some f) = listed (codes ",") (codes "all") party_text (receivers_of f.authenticator)

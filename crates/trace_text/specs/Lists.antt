@@ -1,17 +1,17 @@
 -- Texts of several things, with a separator between them.
 use Rattle.std.specs.Prelude.{List, ℕ, [], ◌∷◌, ◌++◌, flat_map}
 
--- the separator, where something stands before it
+-- the separator, if something stands before it
 abbrev pub gap_behind : {X : Type 0} → List ℕ → List X → List ℕ
 gap_behind gap [] = []
 gap_behind gap (x ∷ xs) = gap
 
--- the texts, each but the first behind the separator
+-- the texts, with the separator before each but the first
 abbrev pub joined : {X : Type 0} → List ℕ → (X → List ℕ) → List X → List ℕ
 joined gap text [] = []
 joined gap text (x ∷ xs) = text x ++ flat_map (λ y. gap ++ text y) xs
 
--- another text where there are none
+-- the same, or another text if there are none
 abbrev pub listed : {X : Type 0} → List ℕ → List ℕ → (X → List ℕ) → List X → List ℕ
 listed gap none text [] = none
 listed gap none text (x ∷ xs) = joined gap text (x ∷ xs)

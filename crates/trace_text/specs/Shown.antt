@@ -1,4 +1,4 @@
--- The texts of the program's values. The contracts of private functions speak of these.
+-- The texts of Rust values, for the contracts of private functions.
 use Rattle.std.specs.Prelude.{ℕ, ◌+◌, List, ◌++◌, codes, Vec}
 use Rattle.std.specs.Borrow.{Bor}
 use Rattle.std.specs.Fmt.{decimal}
@@ -75,7 +75,7 @@ view_change_shown sender m = frames.view_change_text (name_text sender) (view_ch
 abbrev pub new_view_shown : Party → NewView → List ℕ
 new_view_shown sender m = frames.new_view_text (name_text sender) (new_view_data m)
 
--- what stands before its root
+-- the words before the root of a new view
 abbrev pub started_shown : Party → NewView → List ℕ
 started_shown sender m =
     frames.opened (name_text sender) m.view.0 ++ senders_shown m.changes.items ++ codes " start " ++ decimal m.start.0 ++ codes " root "
@@ -89,4 +89,4 @@ reply_shown sender m =
     frames.reply_text (name_text sender) (256 + m.client.number) m.timestamp.0 m.kind m.number.0 (outcome_of m.answer)
 
 abbrev pub page_shown : Party → Page → List ℕ
-page_shown sender m = frames.page_text (name_text sender) m.number.0 m.index m.text.items
+page_shown sender m = frames.page_part_text (name_text sender) m.number.0 m.index m.text.items

@@ -94,7 +94,7 @@ fn put_installed(
     put_short(alloc, root, out)
 }
 
-// What stands before a batch or a root.
+// The words before a batch or a root.
 fn put_number(
     alloc: Global,
     word: &str,
@@ -140,7 +140,7 @@ fn put_accepted(
     put_answer(answer, out)
 }
 
-// What stands before an operation or an answer.
+// The words before an operation or an answer.
 fn put_call(
     alloc: Global,
     word: &str,

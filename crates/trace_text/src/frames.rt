@@ -21,7 +21,7 @@ use wire::{
     ViewChange, WireFault, decode, judge,
 };
 
-/// Appends what the frame of these bytes says.
+/// Appends the text of the frame that these bytes spell.
 pub(crate) fn put_frame(alloc: Global, bytes: &[u8], out: &mut Vec<u8>) -> Result<(), NoMemory>
     ensures { Appends result out.old.items (frame_text bytes.now) out.new.items }
 {
@@ -34,14 +34,14 @@ pub(crate) fn put_frame(alloc: Global, bytes: &[u8], out: &mut Vec<u8>) -> Resul
     }
 }
 
-// Of bytes that are no frame.
+// Appends the text for bytes that are no frame.
 fn put_len(alloc: Global, len: usize, out: &mut Vec<u8>) -> Result<(), NoMemory>
     ensures { Appends result out.old.items (decimal len ++ codes " bytes that are no frame") out.new.items }
 {
     put(format!(in alloc; "{len} bytes that are no frame"), out)
 }
 
-/// Appends those for whom the frame has a MAC; a signature is for all.
+/// Appends the receivers for whom the frame has a MAC; a signature is for all.
 pub(crate) fn put_to(alloc: Global, bytes: &[u8], out: &mut Vec<u8>) -> Result<(), NoMemory>
     ensures { Appends result out.old.items (receivers_text bytes.now) out.new.items }
 {
@@ -242,7 +242,7 @@ fn put_new_view(
     put_batches(alloc, new.batches.as_slice(), out)
 }
 
-// What stands before the root, in a function of its own: one search over all seven parts takes three times as long.
+// The words before the root. One function for all seven parts takes the prover three times as long.
 fn put_started(
     alloc: Global,
     sender: Party,

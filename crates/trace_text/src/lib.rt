@@ -2,9 +2,9 @@
 //!
 //! # What is proved
 //!
-//! `write_entry` appends the line of the entry, which `specs/Lines.antt` gives for each kind, or leaves the bytes as
-//! they were. Of the bytes that came or were sent the line shows what the frame says that they spell, and of bytes that
-//! spell none how many they are (`specs/Frames.antt`).
+//! `write_entry` appends the line of the entry, or leaves the bytes as they were; `specs/Lines.antt` gives the line
+//! of each kind. For bytes that came or were sent, the line shows the content of the frame that they spell. If they
+//! spell none, it shows how many there are (`specs/Frames.antt`).
 #![tactic(auto)]
 
 mod entries;

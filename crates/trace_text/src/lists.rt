@@ -149,7 +149,7 @@ fn put_entry(
     put_number(alloc, ":", entry.view.0, out)
 }
 
-/// Appends who sent the frames.
+/// Appends the senders of the frames.
 pub(crate) fn put_senders(
     alloc: Global,
     items: &[Vec<u8>],

@@ -1,4 +1,4 @@
-//! How parties, digests, modes and parts of a state are shown.
+//! The texts of parties, digests, modes and parts of a state.
 
 ghost use Rattle.std.specs.Prelude.{◌≡◌, ◌++◌, decimal, Some};
 ghost use Rattle.terms.specs.Parties.{party_number};
@@ -57,7 +57,7 @@ pub(crate) fn mode_name(mode: Mode) -> &'static str
     }
 }
 
-/// Appends a party behind other text.
+/// Appends a text and a party.
 pub(crate) fn put_party(
     alloc: Global,
     before: &str,
@@ -70,7 +70,7 @@ pub(crate) fn put_party(
     put(format!(in alloc; "{before}{party}"), out)
 }
 
-/// Appends a number behind other text.
+/// Appends a text and a number.
 pub(crate) fn put_number(
     alloc: Global,
     before: &str,

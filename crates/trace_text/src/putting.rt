@@ -1,4 +1,4 @@
-//! What is put behind other bytes.
+//! Appending texts to bytes.
 
 ghost use Rattle.std.specs.Prelude.{◌≡◌, IfOk, List, ℕ, string_bytes};
 ghost use Rattle.tuple_codec.specs.OperationView.{operation_of, outcome_of};

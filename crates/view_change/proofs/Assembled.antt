@@ -1,4 +1,4 @@
--- The new view that is made of what is held for its view.
+-- The new view over the stored view changes for its view.
 use Rattle.std.specs.Prelude.{◌==◌, nat_le}
 use Rattle.std.specs.List.{list_any}
 use Rattle.std.proofs.Common.{◌≡◌, ℕ, ◌+◌, ◌*◌, ◌^◌, ◌≤◌, ◌<◌, ◌⊎◌, inl, inr, Bool, true, List, [], ◌∷◌, length, bytes_eq, Option, refl, sym, ap, ◌∙◌, subst, arith, ◌&&◌}

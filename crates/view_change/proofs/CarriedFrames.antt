@@ -1,4 +1,4 @@
--- What signed view changes are as frames that a new view carries.
+-- Signed view changes as the frames that a new view carries.
 use Rattle.std.specs.Prelude.{slice_index, IsTrue}
 use Rattle.std.specs.Int.{w16, w32, to_be_bytes}
 use Rattle.std.proofs.Common.{◌≡◌, ℕ, ◌+◌, ◌*◌, ◌^◌, ◌<◌, List, ◌∷◌, ◌++◌, length, refl, sym, ap, ◌∙◌, subst, arith}

@@ -1,4 +1,4 @@
--- The batch that is chosen for a number, and the batches behind a start.
+-- The choice of a batch for a number, and the batches after a start.
 use Rattle.std.proofs.Common.{◌≡◌, ℕ, zero, suc, ◌+◌, ◌≤◌, ◌<◌, ◌⊎◌, inl, inr, Bool, true, false, List, [], ◌∷◌, ◌++◌, length, drop, get_or, drop-cons, refl, sym, ap, ap₂, ◌∙◌, subst, arith, ◌&&◌, ◌||◌}
 use Rattle.std.specs.Arc.{arc_value}
 use Rattle.std.specs.declared.alloc.Global.{Global}
@@ -31,7 +31,7 @@ no_entry c view number set text fit h null =
 
 -- ---- the first of some
 
--- the best so far, where these are still to be looked at
+-- the best of all batches outside the rest
 pub record IsBest (c : Configuration) (set : List (ℕ × ViewChangeData)) (texts : List (List ℕ)) (number : ℕ) (rest : List (List ℕ)) (best : List ℕ) : Type 0 where
   pub there : IsFrom texts best
   pub first : (other : List ℕ) → IsFrom texts other → Has (λ t. t ≡ other) rest ⊎ (goes_before c set number (sha256 other) (sha256 best) ≡ false)
@@ -103,7 +103,7 @@ not_before c set texts number best other b from = go (b.first other from)
     go (inl has) = absurd has
     go (inr f) = f
 
--- the best of all, where it stands or may be null; else none stands
+-- the best of all, if it may stand or be null; else none may stand
 pub chosen : (c : Configuration) (view number : ℕ) (set : List (ℕ × ViewChangeData)) (texts : List (List ℕ)) (best : List ℕ) (stands null : Bool) → are_for view set c ≡ true
     → IsBest c set texts number [] best → stands ≡ stands_by_entry c set number (sha256 best) set → null ≡ may_be_null c set number → (stands || null) ≡ true → StandsAt c view set texts number best
 chosen c view number set texts best stands null fit b is be h = record {

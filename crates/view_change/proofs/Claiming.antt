@@ -1,5 +1,5 @@
--- To find the view by which a digest may stand it is enough to look at the entries for it: a entry of the least view that
--- f + 1 of those who vouch for it reach is one by which it stands.
+-- To find the view by which a digest may stand, the entries for the digest are enough: an entry of the least view that
+-- f + 1 of those who vouch for the digest reach is one by which it stands.
 use Rattle.std.specs.List.{list_any}
 use Rattle.std.specs.Prelude.{◌==◌, nat_le, nat_lt}
 use Rattle.std.proofs.Common.{◌≡◌, ℕ, zero, suc, not, ◌+◌, ◌-◌, ◌*◌, ◌≤◌, ◌<◌, ◌⊎◌, inl, inr, Bool, true, false, cond, List, bytes_eq, Some, refl, sym, subst, arith, ◌&&◌, ◌||◌, eqb-true, eq-eqb}
@@ -58,7 +58,7 @@ agrees_later number v digest vc h =
         → (not (entry.number == number) || nat_lt entry.view (suc v) || ((entry.view == suc v) && bytes_eq entry.digest digest)) ≡ true
     go entry h = outer entry (or_cases (not (entry.number == number) || nat_lt entry.view v) ((entry.view == v) && bytes_eq entry.digest digest) h)
 
--- a entry of the set for this number and digest, of exactly this view
+-- an entry of the set for this number and digest, of exactly this view
 entries_at : ℕ → List ℕ → ℕ → List (ℕ × ViewChangeData) → Bool
 entries_at number digest v set = list_any (λ x. list_any (λ entry. is_entry_for number digest entry && (entry.view == v)) x.1.pre_prepared) set
 
@@ -68,7 +68,7 @@ vouch_parts number v digest entry h =
     let p = and_parts ((entry.number == number) && bytes_eq entry.digest digest) (nat_le v entry.view) h in
     (p.0, leb-true v entry.view p.1)
 
--- where no entry is of exactly this view, those who vouch for the digest in it do in the next too
+-- if no entry is of exactly this view, those who vouch for the digest in this view do in the next too
 vouches_later : (number v : ℕ) (digest : List ℕ) (set : List (ℕ × ViewChangeData)) (s : ℕ) (vc : ViewChangeData) → entries_at number digest v set ≡ false
     → change_by set s ≡ Some vc → vouches number v digest vc ≡ true → vouches number (suc v) digest vc ≡ true
 unfolding entries_at
@@ -118,7 +118,7 @@ below_some test (suc n) k l h = go (test n) refl (λ less. below_some test n k l
     go true e rest = lt-ltb 0 (suc (count_below test n)) (omega arith)
     go false e rest = rest (let ne : k ≡ n → ⊥ = λ i. absurd (let t : test n ≡ true = subst (λ m. test m ≡ true) i h in cc) in omega arith)
 
--- from a view by which the digest stands, up to a entry
+-- from a view by which the digest stands, up to an entry
 climbs : (c : Configuration) (view number : ℕ) (digest : List ℕ) (set : List (ℕ × ViewChangeData)) → are_for view set c ≡ true
     → (fuel v : ℕ) → v + fuel ≡ view → may_stand_at c set number digest v ≡ true → stands_by_entry c set number digest set ≡ true
 unfolding entries_at

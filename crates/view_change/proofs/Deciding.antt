@@ -1,4 +1,4 @@
--- What was opened and tested decides whether a new view is refused.
+-- The opened frames and their tests decide whether a new view is refused.
 use Rattle.std.specs.Prelude.{if◌then◌else◌}
 use Rattle.std.proofs.Common.{◌≡◌, ℕ, ◌<◌, inl, inr, Bool, true, false, not, List, [], ◌∷◌, ◌++◌, length, map, Option, Some, None, Vec, refl, sym, ap, ◌∙◌, subst, arith, ◌&&◌, eq-eqb}
 use Rattle.std.specs.declared.alloc.Global.{Global}
@@ -46,7 +46,7 @@ not_signed c new h =
     let e = length-map new.changes (signed_change c) in
     ne_eqb (length (changes_of c new)) (length new.changes) (λ i. absurd (omega (arith, l, e, i)))
 
--- where all are signed and enough, the tests of the set decide
+-- if all are signed and enough, the tests of the set decide
 may_is : (c : Configuration) (new : NewViewData) (set : List (ℕ × ViewChangeData)) → given set ≡ map (signed_change c) new.changes
     → is_quorum c (count_in c (λ vc. true) set) ≡ true → may_select c new ≡ passes c set new
 may_is c new set h many =

@@ -1,4 +1,4 @@
--- Where nothing can stand at a number of the range, nothing is selected; and a start is listed.
+-- If no batch can stand at a number of the range, there is no selection; and some view change lists a start.
 use Rattle.std.specs.List.{list_any}
 use Rattle.std.specs.Prelude.{◌==◌, nat_le}
 use Rattle.std.proofs.Common.{◌≡◌, ℕ, zero, suc, ◌+◌, ◌-◌, inl, inr, Bool, true, List, [], ◌∷◌, slice_get, bytes_eq, Some, sym, subst, arith, ◌&&◌, eqb-true}
@@ -14,7 +14,7 @@ use Rattle.view_change.specs.Selecting.{meets, IsFrom, AreFrom}
 use Rattle.view_change.specs.Laws.{GapsForbid, StartsAreListed}
 use Rattle.view_change.proofs.Larger.{Meets, meets_parts}
 
--- the batch at a place is one of those that are there
+-- the batch at a place is one of the available ones
 from_at : (texts batches : List (List ℕ)) (k : ℕ) (batch : List ℕ) → AreFrom texts batches → slice_get batches k ≡ Some batch → IsFrom texts batch
 from_at texts [] k batch h get = absurd cc
 from_at texts (x ∷ xs) zero batch h get = let e : x ≡ batch = cc in subst (IsFrom texts) e h.0
@@ -32,7 +32,7 @@ gaps_forbid c view start number root set texts batches above within none from =
         let never = none get.0 (from_at texts batches (number - suc start) get.0 from get.1) in
         absurd cc
 
--- a start, by its own rule, is listed
+-- some view change lists a start, by its own rule
 pub start_is_listed : (c : Configuration) (start : ℕ) (root : List ℕ) (set : List (ℕ × ViewChangeData)) → is_start c set start root ≡ true
     → Has (λ x. Has (λ (checkpoint : CheckpointEntry). (checkpoint.number ≡ start) × (checkpoint.digest ≡ root)) x.1.checkpoints) set
 start_is_listed c start root set begins =

@@ -1,4 +1,4 @@
--- The view changes that are held, one at each sender's place.
+-- The stored view changes, one at each sender's place.
 use Rattle.std.specs.Prelude.{◌==◌, nat_lt, not, min, option_map, is_some, MatchOption, slice_set, bytes_eq}
 use Rattle.std.proofs.Common.{◌≡◌, ℕ, zero, suc, ◌+◌, ◌*◌, ◌≤◌, ◌<◌, ◌⊎◌, inl, inr, Bool, true, false, cond, List, [], ◌∷◌, ◌++◌, length, map, replicate, drop, get_or, Option, Some, None, refl, sym, ap, ap₂, ◌∙◌, subst, arith, append_assoc, append-nil, ◌&&◌}
 use Rattle.std.specs.Bool.{⊤}
@@ -54,11 +54,11 @@ received_set r h are within signed = record {
   each = held_set (configuration_of r) 0 h.sender r.held h are.each ((let e : h.sender ≡ 0 + h.sender = omega arith in e), within, signed);
 }
 
--- the sender of what is signed has a place
+-- the sender of a signed view change has a place
 pub has_place : (r : ReceivedState) (bytes : List ℕ) (x : ℕ × ViewChangeData) → AreReceived r → signed_change (configuration_of r) bytes ≡ Some x → x.0 < length r.held
 has_place r bytes x are signed = let l = (signed_is (configuration_of r) bytes x signed).known in let n = are.places in omega arith
 
--- a view change against which nothing speaks is within its bounds
+-- a view change without a fault is within its bounds
 pub taken_within : (c : Configuration) (view : ℕ) (held : List (Option HeldData)) (x : ℕ × ViewChangeData) → refusal_of c view held x ≡ None → is_within c x.1 ≡ true
 taken_within c view held x = go (nat_lt view x.1.view) (is_within c x.1) (option_map_or (λ h. nat_lt h.change.view x.1.view) (held_of held x.0) true)
   where
@@ -69,7 +69,7 @@ taken_within c view held x = go (nat_lt view x.1.view) (is_within c x.1) (option
 
 -- ---- those for a view
 
--- the one at the front, and those behind it
+-- the one at the front, and those after it
 pub held_then : (view : ℕ) (o : Option HeldData) (rest : List (Option HeldData)) → held_for view (o ∷ rest) ≡ held_for view (o ∷ []) ++ held_for view rest
 held_then view None rest = refl
 held_then view (Some h) rest = go (h.change.view == view)
@@ -85,7 +85,7 @@ pairs_then view o rest =
 pub frames_then : (view : ℕ) (o : Option HeldData) (rest : List (Option HeldData)) → frames_for view (o ∷ rest) ≡ frames_for view (o ∷ []) ++ frames_for view rest
 frames_then view o rest = ap (map (λ (h : HeldData). h.frame)) (held_then view o rest) ∙ map-append (λ (h : HeldData). h.frame) (held_for view (o ∷ [])) (held_for view rest)
 
--- each is of this sender or of one behind it
+-- each is of this sender or of a later one
 abbrev StartsAt : ℕ → List (ℕ × ViewChangeData) → Type 0
 StartsAt sender [] = ⊤
 StartsAt sender (x ∷ xs) = sender ≤ x.0
@@ -98,7 +98,7 @@ before_rest : (x : ℕ × ViewChangeData) (xs : List (ℕ × ViewChangeData)) �
 before_rest x [] h a = refl
 before_rest x (y ∷ ys) h a = and_from (nat_lt x.0 y.0) (ascending (y ∷ ys)) (lt-ltb x.0 y.0 (omega arith)) a
 
--- what is held for a view, from a sender's place on
+-- the stored view changes for a view, from a sender's place on
 pub record AreOrdered (c : Configuration) (view sender : ℕ) (xs : List (ℕ × ViewChangeData)) : Type 0 where
   pub starts : StartsAt sender xs
   pub order : ascending xs ≡ true
@@ -124,7 +124,7 @@ held_ordered c view sender (Some h ∷ held) are = go (h.change.view == view) re
 
 -- ---- the frames of a view
 
--- each frame of another one of the list is signed by its sender
+-- the sender of each frame in the rest of the list signed it
 pub held_signed : (c : Configuration) (view sender : ℕ) (held : List (Option HeldData)) → AreHeldFrom c sender held → map (signed_change c) (frames_for view held) ≡ map Some (pairs_for view held)
 held_signed c view sender [] are = refl
 held_signed c view sender (None ∷ held) are = held_signed c view (suc sender) held are.1
@@ -146,7 +146,7 @@ held_carried c view sender (Some h ∷ held) are = go (h.change.view == view) (h
     go true rest = (carried_of c h.frame (h.sender, h.change) (signed_is c h.frame (h.sender, h.change) are.0.2), rest)
     go false rest = rest
 
--- the first frame, where there is one, names this sender or one behind it
+-- the first frame, if there is one, names this sender or a later one
 abbrev NamesFrom : ℕ → List (List ℕ) → Type 0
 NamesFrom sender [] = ⊤
 NamesFrom sender (frame ∷ frames) = sender ≤ sender_in frame
@@ -200,9 +200,9 @@ held_set_for r view are =
       few = (let l = held_few view r.held in let n = are.places in omega arith);
     }
 
--- ---- what is held in a frame
+-- ---- the view change that is stored with a frame
 
--- what is found is held at its sender's place
+-- a found view change is stored at its sender's place
 abbrev FoundFrom : Configuration → ℕ → List (Option HeldData) → List ℕ → HeldData → Type 0
 FoundFrom c sender held bytes h = (i : ℕ) × (h.sender ≡ sender + i) × (held_of held i ≡ Some h) × (h.frame ≡ bytes) × (signed_change c bytes ≡ Some (h.sender, h.change))
 
@@ -231,7 +231,7 @@ held_in_frame r bytes h are is =
       signed = f.4;
     }
 
--- nothing else is held in it
+-- no other is stored with the frame
 pub none_in : (held : List (Option HeldData)) (bytes : List ℕ) → frame_in bytes held ≡ None → (h : HeldData) → Has (λ o. o ≡ Some h) held → h.frame ≡ bytes → ⊥
 none_in [] bytes is h has same = absurd has
 none_in (None ∷ held) bytes is h (inl e) same = absurd cc
@@ -300,7 +300,7 @@ pub some_least : (views : List ℕ) → 0 < length views → least_of views ≡ 
 some_least [] l e = absurd (omega arith)
 some_least (x ∷ xs) l e = absurd cc
 
--- ---- what a loop gathers of a list
+-- ---- the items that a loop gathers from a list
 
 pub one_on : {X A : Type 0} (F : List X → List A) → ((x : X) (rest : List X) → F (x ∷ rest) ≡ F (x ∷ []) ++ F rest) → (xs : List X) (i : ℕ) (x : X) (old new : List A)
     → i < length xs → x ≡ get_or xs i x → old ++ F (drop i xs) ≡ F xs → new ≡ old ++ F (x ∷ []) → new ++ F (drop (i + 1) xs) ≡ F xs
@@ -318,7 +318,7 @@ joined_of view (Some v) faults views enough is = joined faults views enough (vie
 
 -- ---- as the program finds them
 
--- what was found, seen as its pair
+-- a found view change, as its pair
 abbrev pub pair_in : List ℕ → List (Option HeldData) → Option (ℕ × ViewChangeData)
 pair_in bytes held = option_map (λ (h : HeldData). (h.sender, h.change)) (frame_in bytes held)
 

@@ -1,4 +1,4 @@
--- What is refused, and what is taken.
+-- Which view changes and new views a replica refuses, and which it takes.
 use Rattle.std.specs.Prelude.{◌==◌, nat_lt, not, if◌then◌else◌}
 use Rattle.std.specs.Option.{option_map_or}
 use Rattle.std.proofs.Common.{◌≡◌, ℕ, ◌<◌, Bool, true, false, Option, Some, None, refl}
@@ -31,7 +31,7 @@ all_five : (a b d e f : Bool) → a ≡ true → b ≡ true → d ≡ true → e
     → (if not a then Some views.UnknownSender else if not b then Some views.WrongView else if not d then Some views.BadSignature else if not e then Some views.TooFew else if not f then Some views.NotSelected else None) ≡ None
 all_five a b d e f p q r s t = rw (p, q, r, s, t) refl
 
--- what is selected is signed, by enough
+-- a selected new view is signed, by enough
 signed_enough : (c : Configuration) (new : NewViewData) → may_select c new ≡ true → (all_signed c new ≡ true) × (are_enough c new ≡ true)
 signed_enough c new h =
     let r = (selects_by_set c new).0 h in

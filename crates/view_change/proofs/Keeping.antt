@@ -1,4 +1,4 @@
--- The recorded claims stay what the history says.
+-- The recorded claims stay as the history says.
 use Rattle.std.specs.Prelude.{◌==◌, nat_le, nat_lt, filter}
 use Rattle.std.proofs.Common.{◌≡◌, ◌≢◌, ◌^◌, ℕ, zero, suc, ◌+◌, ◌≤◌, ◌<◌, ◌⊎◌, inl, inr, Bool, true, false, cond, List, [], ◌∷◌, length, bytes_eq, refl, sym, ap, ◌∙◌, ap₂, subst, arith, ◌&&◌, ◌||◌, eqb-true, eq-eqb}
 use Rattle.std.proofs.lemmas.Bool.{and_parts, and_from, or_cases, or_left, or_right, le-leb, lt-ltb, leb-true, leb-false, ltb-true, ltb-false, ne_eqb, eqb-false, false_from_ne_true, cases_order, or_parts}
@@ -18,7 +18,7 @@ use Rattle.protocol.proofs.Words.Elements.{each_has, has_some, has_weaker}
 use Rattle.view_change.specs.Recording.{same_number, same_name, later_of, with_claim, with_prepared, with_logged, with_all, above_mark, IsPreparedAs, IsLoggedAs, Adds, Ascends, IsLatest, IsEach, AreDigests, MovesUp, RecordsBegin, LatestIsRecorded, EachIsRecorded, PreparedIsRecorded, LoggedIsRecorded, RecordsAreLists}
 use Rattle.view_change.proofs.Ranking.{bytes_trans, bytes_irreflexive}
 
--- ---- an order on claims by which those that name the same are told apart
+-- ---- an order on claims that distinguishes those that name different numbers or digests
 
 pub record IsOrder (before same : Claim → Claim → Bool) : Type 0 where
   trans : (a b d : Claim) → before a b ≡ true → before b d ≡ true → before a d ≡ true
@@ -43,7 +43,7 @@ later_view a b = go (nat_le a.view b.view) refl
     go true e = let l = leb-true a.view b.view e in (omega arith, omega arith)
     go false e = let l = leb-false a.view b.view e in (omega arith, omega arith)
 
--- what stands in the list with one more claim
+-- the claims of the list with one more claim
 abbrev Stands : (Claim → Claim → Bool) → Claim → List Claim → Claim → Type 0
 Stands same new claims y =
     (Has (λ x. x ≡ y) claims × (same y new ≡ false))
@@ -82,7 +82,7 @@ stands before same order new (x ∷ xs) y up h = go (same x new) refl (before ne
             none z (inl i) = subst (λ (w : Claim). same w new ≡ false) i e
             none z (inr i) = r.1 z i
 
--- what holds of each and of the new one holds of each then
+-- if each claim and the new one have a property, each claim then has it
 each_with : (before same : Claim → Claim → Bool) (P : Claim → Type 0) (new : Claim) (claims : List Claim) → Each P claims → P new → Each P (with_claim before same new claims)
 each_with before same P new [] h p = (p, tt)
 each_with before same P new (x ∷ xs) h p = go (same x new) (before new x) (each_with before same P new xs h.1 p)
@@ -107,7 +107,7 @@ ascends_with before same order new (x ∷ xs) long up = go (same x new) refl (be
     go false e true f below = ((f, weaker (λ y. before x y ≡ true) (λ y. before new y ≡ true) (λ y l. order.trans new x y f l) xs up.0), up)
     go false e false f below = (each_with before same (λ y. before x y ≡ true) new xs up.0 (order.total x new long.0 e f), below)
 
--- each that was there is there, or a later one that names the same; and the new one, or a later one
+-- each earlier claim is there, or a later one that names the same; and the new one, or a later one
 kept_with : (before same : Claim → Claim → Bool) (P Q : Claim → Type 0) (new : Claim) → ((x : Claim) → P x → Q x) → ((x : Claim) → P x → same x new ≡ true → Q (later_of x new)) → (claims : List Claim)
     → Has P claims → Has Q (with_claim before same new claims)
 kept_with before same P Q new f g [] h = absurd h
@@ -228,7 +228,7 @@ by_name = record {
 
 -- ---- one claim more
 
--- what holds before or is this claim's
+-- a claim that held before, or this one
 abbrev With : (ℕ → ℕ → List ℕ → Type 0) → Claim → ℕ → ℕ → List ℕ → Type 0
 With holds new v i digest = holds v i digest ⊎ ((new.view ≡ v) × (new.number ≡ i) × (new.digest ≡ digest))
 
@@ -348,7 +348,7 @@ each_same holds other in_marks claims to back old = record {
   ascending = old.ascending;
 }
 
--- what is left by a test
+-- the claims that a test leaves
 left_is : (test : Claim → Bool) (xs : List Claim) (y : Claim) → Has (λ x. x ≡ y) (filter test xs) → Has (λ x. x ≡ y) xs × (test y ≡ true)
 left_is test [] y h = absurd h
 left_is test (x ∷ xs) y h = go (test x) refl h (left_is test xs y)
@@ -412,7 +412,7 @@ each_cut holds in_marks later low claims up old = record {
   ascending = ascends_left named_before (λ (x : Claim). nat_lt low x.number) claims old.ascending;
 }
 
--- a claim of the list that says this
+-- a claim of the list for this number and digest
 abbrev Says : List Claim → ℕ → ℕ → List ℕ → Type 0
 Says claims v i digest = Has (λ (claim : Claim). (claim.view ≡ v) × (claim.number ≡ i) × (claim.digest ≡ digest)) claims
 

@@ -19,7 +19,7 @@ use Rattle.view_change.specs.Laws.{SelectsBySet, LargerSetsAllow}
 
 -- ---- members of a set in ascending order
 
--- what a replica has in the part, it has in the whole
+-- an entry that a replica has in the part, it has in the whole
 pub same_change : (small large : List (ℕ × ViewChangeData)) (s : ℕ) (vc : ViewChangeData) → IsPart small large → ascending large ≡ true → change_by small s ≡ Some vc → change_by large s ≡ Some vc
 same_change small large s vc part order is =
     change_of large s vc order (each_has (λ x. Has (λ y. y ≡ x) large) small (s, vc) part (change_there small s vc is))
@@ -29,7 +29,7 @@ same_change small large s vc part order is =
 pub passes_of : (test : ViewChangeData → Bool) (set : List (ℕ × ViewChangeData)) (s : ℕ) (vc : ViewChangeData) → change_by set s ≡ Some vc → test vc ≡ true → passes_by test set s ≡ true
 passes_of test set s vc is h = rw is h
 
--- where each view change that passes one test passes another, no fewer pass that
+-- if each view change that passes one test passes another, no fewer pass that
 pub count_weaker : (c : Configuration) (test other : ViewChangeData → Bool) (set : List (ℕ × ViewChangeData))
     → ((s : ℕ) (vc : ViewChangeData) → change_by set s ≡ Some vc → test vc ≡ true → other vc ≡ true) → count_in c test set ≤ count_in c other set
 count_weaker c test other set f =
@@ -114,8 +114,8 @@ largest_more limit (x ∷ xs) large part =
         let e : largest limit y.1.prepared ≡ largest limit x.1.prepared = ap (λ (z : ℕ × ViewChangeData). largest limit z.1.prepared) same in omega arith
     within limit x (y ∷ ys) (inr rest) = let r = within limit x ys rest in omega arith
 
--- where a quorum has its low checkpoint at or below the start, the null batch may stand at each number beyond all that the set
--- has prepared
+-- If a quorum has its low checkpoint at or below the start, the null batch may stand at each number beyond all that the
+-- set has prepared.
 pub null_beyond : (c : Configuration) (set : List (ℕ × ViewChangeData)) (start i : ℕ) → is_quorum c (count_in c (λ vc. nat_le vc.low start) set) ≡ true
     → start < i → i ≤ start + span c → largest_of (start + span c) set < i → may_be_null c set i ≡ true
 null_beyond c set start i quorum above most beyond =
@@ -138,7 +138,7 @@ null_beyond c set start i quorum above most beyond =
         and_from (nat_lt vc.low i) (list_all (λ (entry : BatchEntry). not (entry.number == i)) vc.prepared)
         (lt-ltb vc.low i (omega arith)) (all_where (λ (entry : BatchEntry). not (entry.number == i)) vc.prepared (no_claim s vc is))
 
--- ---- batches behind others
+-- ---- batches after others
 
 pub all_stand_append : (c : Configuration) (view i : ℕ) (set : List (ℕ × ViewChangeData)) (xs ys : List (List ℕ)) (j : ℕ) → j ≡ i + length xs
     → may_all_stand c view set i xs ≡ true → may_all_stand c view set j ys ≡ true → may_all_stand c view set i (xs ++ ys) ≡ true
@@ -180,7 +180,7 @@ length_both : (xs ys : List (List ℕ)) → length (xs ++ ys) ≡ length xs + le
 length_both [] ys = omega arith
 length_both (x ∷ xs) ys = let r = length_both xs ys in omega arith
 
--- ---- the parts of what meets the rules
+-- ---- the parts of a selection that satisfies the rules
 
 pub record Meets (c : Configuration) (view : ℕ) (set : List (ℕ × ViewChangeData)) (start : ℕ) (root : List ℕ) (batches : List (List ℕ)) : Type 0 where
   pub begins : is_start c set start root ≡ true

@@ -1,4 +1,4 @@
--- What a carried frame tells: the view change that it spells, where its sender signed it.
+-- The view change that a carried frame spells, if its sender signed it.
 use Rattle.std.specs.Prelude.{option_and_then, if◌then◌else◌}
 use Rattle.std.proofs.Common.{◌≡◌, ℕ, ◌<◌, Bool, true, false, List, Option, Some, None, refl, sym, ap, ◌∙◌, arith, ◌&&◌}
 use Rattle.std.proofs.lemmas.Bool.{ltb-true}
@@ -12,7 +12,7 @@ use Rattle.signing.specs.Heard.{has_signature, is_signed_frame, signed_body}
 use Rattle.protocol.specs.System.Configuration.{Configuration, members, replicas}
 use Rattle.protocol.specs.Replica.Selection.{change_in, signed_change}
 
--- what a frame tells
+-- the view change in a frame, if there is one
 abbrev pub tells : Configuration → Frame → Option (ℕ × ViewChangeData)
 tells c frame = option_and_then change_in (if is_signed_frame (members c) frame then Some frame.body else None)
 
@@ -68,7 +68,7 @@ is_change c f vc sent signed is = rw signed (go f.body.message is)
         → option_and_then change_in (if is_signed m && (sends (members c) f.body.sender m && true) then Some (let body : Body = record { sender = f.body.sender; message = m } in body) else None) ≡ Some (f.body.sender, vc)
     go m e = rw e (rw sent refl)
 
--- ---- what a signed view change is
+-- ---- signed view changes
 
 -- the frame of a view change of a replica
 pub record IsChangeFrame (c : Configuration) (bytes : List ℕ) (x : ℕ × ViewChangeData) : Type 0 where

@@ -64,7 +64,7 @@ kept order k z (x ∷ xs) h l = go (same_by order (claim_data x) (claim_data k))
         let m : nat_le (claim_data (get_or xs (place_in order (claim_data k) (claims_of xs)) z)).view (claim_data k).view ≡ false = rw (e, f) at l in
         rw (e, f) (ap (λ (ys : List BatchEntryData). claim_data x ∷ ys) (behind t m))
 
--- whether one stands at the place
+-- whether a claim stands at the place
 pub same_in : (order : ClaimOrder) (k : BatchEntryData) (xs : List Claim) (place : ℕ) (z : Claim) → place < length xs → same_by order (claim_data (get_or xs place z)) k ≡ same_at order k place (claims_of xs)
 same_in order k [] place z l = absurd (omega arith)
 same_in order k (x ∷ xs) zero z l = refl
@@ -80,7 +80,7 @@ same_within order k [] place h = absurd cc
 same_within order k (x ∷ xs) zero h = omega arith
 same_within order k (x ∷ xs) (suc place) h = let l = same_within order k xs place h in omega arith
 
--- what is cut
+-- what a cut drops
 pub cut_is : (low : ℕ) (xs : List Claim) → claims_of (filter (λ x. nat_lt low x.entry.number.0) xs) ≡ above_mark low (claims_of xs)
 cut_is low [] = refl
 cut_is low (x ∷ xs) = go (nat_lt low x.entry.number.0) (cut_is low xs)

@@ -1,4 +1,4 @@
--- The order in which batches are chosen for a number.
+-- The order of the choice between batches for a number.
 use Rattle.std.specs.Prelude.{◌==◌, nat_lt}
 use Rattle.std.proofs.Common.{◌≡◌, ℕ, ◌<◌, ◌⊎◌, inl, inr, Bool, true, false, cond, not, List, [], ◌∷◌, refl, arith, ◌&&◌, ◌||◌, eq-eqb, eqb-true}
 use Rattle.std.proofs.lemmas.Bool.{and_parts, and_from, or_cases, or_left, or_right, lt-ltb, ltb-true, ltb-false, false_from_ne_true}
@@ -39,7 +39,7 @@ bytes_irreflexive (x ∷ xs) h = go (or_cases (nat_lt x x) ((x == x) && bytes_be
     go (inl a) rest = let p = ltb-true x x a in absurd (omega arith)
     go (inr a) rest = rest (and_parts (x == x) (bytes_before xs xs) a).1
 
--- ---- by what is prepared
+-- ---- by prepared digests
 
 prepared_trans : (p q r b d e : Bool) → cond p (not q || b) (not q && b) ≡ true → cond q (not r || d) (not r && d) ≡ true → (b ≡ true → d ≡ true → e ≡ true)
     → cond p (not r || e) (not r && e) ≡ true
@@ -129,7 +129,7 @@ goes_before-trans c set n d e g h k =
         (outranks_trans c set n d e g (by_views (latest_of c set n d set) (latest_of c set n e set) (precedes set n d e) x)
         (by_views (latest_of c set n e set) (latest_of c set n g set) (precedes set n e g) y)))
 
--- what stands goes before what does not, and what does not stand goes before nothing
+-- a digest that stands goes before one that does not, and one that does not stand goes before none
 pub stands_before : (c : Configuration) (set : List (ℕ × ViewChangeData)) (n : ℕ) (d e : List ℕ) → goes_before c set n d e ≡ true → stands_by_entry c set n d set ≡ true
 stands_before c set n d e h = (and_parts (stands_by_entry c set n d set) (not (stands_by_entry c set n e set) || outranks c set n d e) h).0
 

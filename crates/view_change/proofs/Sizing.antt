@@ -1,4 +1,4 @@
--- Of a configuration the rules use the seed and the two sizes alone.
+-- The rules use only the seed, the faults and the period of a configuration.
 use Rattle.std.specs.Prelude.{option_and_then, if◌then◌else◌, nat_lt, not, ◌==◌}
 use Rattle.std.proofs.Common.{◌≡◌, ℕ, ◌+◌, ◌*◌, Bool, true, List, [], ◌∷◌, length, map, Option, Some, None, refl, sym, ap, ap₂, ◌∙◌, subst, ◌&&◌}
 use Rattle.wire.specs.Messages.{MessageData as Message, BodyData as Body, FrameData as Frame, NewViewData, ViewChangeData, view_change as ViewChange, new_view as NewView}
@@ -53,7 +53,7 @@ changes_same c d (x ∷ xs) seed faults = ap₂ (λ (y : Option (ℕ × ViewChan
 of_sizes : ℕ → ℕ → Configuration
 of_sizes faults period = record { faults = faults; clients = 1; seed = []; period = period; faulty_replicas = []; faulty_clients = [] }
 
--- what is told by the two sizes
+-- words that depend on the two sizes alone
 by_sizes : {A : Type 0} (f : Configuration → A) → ((c : Configuration) → f c ≡ f (of_sizes c.faults c.period)) → (c d : Configuration) → AreAlike c d → f c ≡ f d
 by_sizes f sized c d alike = sized c ∙ ap₂ (λ n p. f (of_sizes n p)) alike.faults alike.period ∙ sym (sized d)
 

@@ -15,7 +15,7 @@ use Rattle.view_change.proofs.Gaps.{start_is_listed, starts_are_listed}
 
 -- ---- the greatest start
 
--- a start below the limit is at most the one that was found
+-- a start below the limit is at most the found one
 abbrev Covers : Option CheckpointEntry → ℕ → Type 0
 Covers None start = ⊥
 Covers (Some checkpoint) start = start ≤ checkpoint.number
@@ -60,7 +60,7 @@ of_covers c set limit start root (x ∷ xs) less begins (inl has) =
 of_covers c set limit start root (x ∷ xs) less begins (inr has) =
     covers_right (start_in c set limit x.1.checkpoints) (start_of c set limit xs) start (of_covers c set limit start root xs less begins has)
 
--- what was found is a start below the limit
+-- the found one is a start below the limit
 pub record IsStart (c : Configuration) (set : List (ℕ × ViewChangeData)) (limit : ℕ) (checkpoint : CheckpointEntry) : Type 0 where
   pub less : checkpoint.number < limit
   pub begins : is_start c set checkpoint.number checkpoint.digest ≡ true
@@ -99,13 +99,13 @@ of_is c set limit (x ∷ xs) = greater_is c set limit (start_in c set limit x.1.
 pub found_start : (c : Configuration) (set : List (ℕ × ViewChangeData)) (limit : ℕ) (checkpoint : CheckpointEntry) → Some checkpoint ≡ start_of c set limit set → IsStart c set limit checkpoint
 found_start c set limit checkpoint h = of_is c set limit set checkpoint (sym h)
 
--- ---- nothing but starts
+-- ---- no checkpoints but starts
 
 no_start : (c : Configuration) (view : ℕ) (set : List (ℕ × ViewChangeData)) (texts : List (List ℕ)) (start : ℕ) (root : List ℕ) → is_start c set start root ≡ false → NothingFrom c view set texts start root
 no_start c view set texts start root bad batches from =
     false_from_ne_true (meets c view set start root batches) (λ h. let b = (meets_parts c view set start root batches h).begins in absurd cc)
 
--- above the greatest start nothing is selected
+-- above the greatest start there is no selection
 above_none : (c : Configuration) (view : ℕ) (set : List (ℕ × ViewChangeData)) (texts : List (List ℕ)) (limit start : ℕ) (root : List ℕ) (o : Option CheckpointEntry) → o ≡ start_of c set limit set
     → start < limit → (Covers o start → ⊥) → NothingFrom c view set texts start root
 above_none c view set texts limit start root o is less none =
@@ -124,7 +124,7 @@ selected_below c view set texts limit checkpoint batches is f = record {
   greatest = λ above other more less. above_none c view set texts limit above other (Some checkpoint) is less (λ h. absurd (omega arith));
 }
 
--- from a start at which nothing fills, to those below it
+-- from a start without batches that fit, to those below it
 pub nothing_lower : (c : Configuration) (view : ℕ) (set : List (ℕ × ViewChangeData)) (texts : List (List ℕ)) (limit : ℕ) (checkpoint : CheckpointEntry) → Some checkpoint ≡ start_of c set limit set
     → NothingFills c view set texts checkpoint.number → (start : ℕ) (root : List ℕ) → checkpoint.number ≤ start → start < limit → NothingFrom c view set texts start root
 nothing_lower c view set texts limit checkpoint is none start root from less = go (nat_lt checkpoint.number start) refl
@@ -199,7 +199,7 @@ nothing_selects c view set texts order fit none part start root batches is_part 
         let never = none start root less r.0 r.1 in
         absurd cc
 
--- what is selected below one limit, or nothing, seen below another
+-- the selection below one limit, or none, as the one below another
 pub on_selected : {S E : Type 0} (A B : Type 0) (P Q : S → Type 0) → (A → B) → ((s : S) → P s → Q s) → (r : Result (Option S) E) → IfOk r (λ o. MatchOption o A P) → IfOk r (λ o. MatchOption o B Q)
 on_selected A B P Q f g (Ok None) h = f h
 on_selected A B P Q f g (Ok (Some s)) h = g s h

@@ -1,4 +1,4 @@
--- What the record of claims stands for.
+-- The model of the program's record of claims.
 use Rattle.std.specs.Prelude.{◌≡◌, ℕ, List, [], map}
 use Rattle.std.specs.Arc.{arc_value}
 use Rattle.sha2.specs.Sha256.{sha256}
@@ -10,8 +10,8 @@ use Rattle.view_change.specs.declared.claim.Claim.{Claim}
 use Rattle.view_change.specs.declared.claims.Claims.TheInside.{Inside}
 use Rattle.view_change.specs.Recording.{Ascends}
 
--- what was prepared, and what was logged, as a view change lists it; and the texts of the batches that were logged, in
--- the same order
+-- The prepared and the logged batches, as a view change lists them, and the texts of the logged batches, in the same
+-- order.
 pub record ClaimsData : Type 0 where
   pub prepared : List BatchEntryData
   pub logged : List BatchEntryData
@@ -33,7 +33,7 @@ claims_data c =
 abbrev pub no_claims : ClaimsData
 no_claims = record { prepared = []; logged = []; texts = [] }
 
--- both lists stand in their order
+-- each list has its order
 pub record AreClaims (c : ClaimsData) : Type 0 where
   pub prepared : Ascends batch_entry_before c.prepared
   pub logged : Ascends named_before c.logged

@@ -1,4 +1,4 @@
--- What the private functions speak of that select: the batch at a number, the batches behind a start, and the starts.
+-- Words of the private functions that select: the batch at a number, the batches after a start, and the starts.
 use Rattle.std.specs.Prelude.{◌≡◌, ℕ, suc, ◌<◌, true, false, ◌&&◌, List, [], ◌∷◌, length, nat_lt, if◌then◌else◌, Option, Some, None}
 use Rattle.protocol.specs.System.Configuration.{Configuration}
 use Rattle.protocol.specs.Replica.Selection.{is_start, may_stand, may_all_stand}
@@ -14,14 +14,14 @@ pub record StandsAt (c : Configuration) (view : ℕ) (set : List (ℕ × ViewCha
   pub from : IsFrom texts batch
   pub first : IsFirst c set texts number batch
 
--- None may.
+-- No batch may stand at the number.
 abbrev pub NoneStandsAt : Configuration → ℕ → List (ℕ × ViewChangeData) → List (List ℕ) → ℕ → Type 0
 NoneStandsAt c view set texts number =
     (batch : List ℕ) → IsFrom texts batch → may_stand c view set number batch ≡ false
 
 -- ---- all numbers
 
--- All batches behind a start.
+-- All batches after a start.
 pub record Fills (c : Configuration) (view : ℕ) (set : List (ℕ × ViewChangeData)) (texts : List (List ℕ)) (start : ℕ)
     (batches : List (List ℕ)) : Type 0 where
   pub long : length batches ≡ how_many_from c set start
@@ -29,7 +29,7 @@ pub record Fills (c : Configuration) (view : ℕ) (set : List (ℕ × ViewChange
   pub from : AreFrom texts batches
   pub first : AreFirst c set texts (suc start) batches
 
--- Nothing fills the numbers behind the start, whatever its root.
+-- No batches fill the numbers after the start, whatever its root.
 abbrev pub NothingFills : Configuration → ℕ → List (ℕ × ViewChangeData) → List (List ℕ) → ℕ → Type 0
 NothingFills c view set texts start = (root : List ℕ) → NothingFrom c view set texts start root
 
@@ -53,7 +53,7 @@ abbrev pub start_of : Configuration → List (ℕ × ViewChangeData) → ℕ →
 start_of c set limit [] = None
 start_of c set limit (x ∷ xs) = greater_start (start_in c set limit x.1.checkpoints) (start_of c set limit xs)
 
--- What is selected of the starts below the limit.
+-- The selection from the starts below the limit.
 pub record SelectsBelow (c : Configuration) (view : ℕ) (set : List (ℕ × ViewChangeData)) (texts : List (List ℕ))
     (limit start : ℕ) (root : List ℕ) (batches : List (List ℕ)) : Type 0 where
   pub meets : meets c view set start root batches ≡ true

@@ -1,15 +1,15 @@
--- What the private functions speak of that look among the view changes that are held.
+-- Words of the private functions that search the stored view changes.
 use Rattle.std.specs.Prelude.{ℕ, List, [], ◌∷◌, min, bytes_eq, if◌then◌else◌, Option, Some, None}
 use Rattle.std.specs.Option.{option_map_or}
 use Rattle.view_change.specs.ReceivedData.{HeldData}
 
--- the first that is held in this frame
+-- the first view change that is stored with this frame
 abbrev pub frame_in : List ℕ → List (Option HeldData) → Option HeldData
 frame_in bytes [] = None
 frame_in bytes (None ∷ held) = frame_in bytes held
 frame_in bytes (Some h ∷ held) = if bytes_eq h.frame bytes then Some h else frame_in bytes held
 
--- the lesser of a view and another one, where there is one; the least of all
+-- the lesser of a view and another one, if there is another; the least of all
 abbrev pub lesser : ℕ → Option ℕ → ℕ
 lesser view other = option_map_or (λ o. min o view) other view
 

@@ -1,4 +1,4 @@
--- What is proved of selecting.
+-- Laws of selection.
 use Rattle.std.specs.Prelude.{◌≡◌, ◌↔◌, ℕ, ◌+◌, ◌≤◌, ◌<◌, ◌==◌, ◌&&◌, true, false, List, Option, Some, None}
 use Rattle.protocol.specs.System.Configuration.{Configuration, primary}
 use Rattle.protocol.specs.System.Trace.{Has}
@@ -9,15 +9,15 @@ use Rattle.view_change.specs.Checking.{refusal}
 use Rattle.view_change.specs.ReceivedData.{HeldData, held_of, refusal_of}
 use Rattle.view_change.specs.Selecting.{is_set_for, are_for, meets, how_many_from, IsPart, IsFrom, AreFrom, stands_by_entry}
 
--- A new view is selected exactly where its view changes are signed, are a set for it, and its start and batches meet
--- the rules over them.
+-- A new view may be selected exactly if its view changes are signed and are a set for it, and its start and batches
+-- satisfy the rules over them.
 abbrev pub SelectsBySet : Type 0
 SelectsBySet =
     (c : Configuration) (new : NewViewData)
     → (may_select c new ≡ true) ↔ ((all_signed c new ≡ true) × (is_set_for c new.view (changes_of c new) ≡ true)
     × (meets c new.view (changes_of c new) new.start new.root new.batches ≡ true))
 
--- A larger set allows the same start, and the same batches with null batches behind them.
+-- A larger set allows the same start, and the same batches with null batches after them.
 abbrev pub LargerSetsAllow : Type 0
 LargerSetsAllow =
     (c : Configuration) (view start : ℕ) (root : List ℕ) (small large : List (ℕ × ViewChangeData))
@@ -26,14 +26,14 @@ LargerSetsAllow =
     → meets c view small start root batches ≡ true
     → (more : List (List ℕ)) × AreFrom texts more × (meets c view large start root more ≡ true)
 
--- To find the view by which a digest may stand it is enough to look at the entries for it.
+-- To find the view by which a digest may stand, the entries for the digest are enough.
 abbrev pub EntriesDecide : Type 0
 EntriesDecide =
     (c : Configuration) (view number : ℕ) (digest : List ℕ) (set : List (ℕ × ViewChangeData))
     → are_for view set c ≡ true
     → is_some_below (may_stand_at c set number digest) view ≡ stands_by_entry c set number digest set
 
--- Where nothing that is there may stand at a number behind a start, nothing is selected from that start.
+-- If none of the batches may stand at a number after a start, no new view with these batches has that start.
 abbrev pub GapsForbid : Type 0
 GapsForbid =
     (c : Configuration) (view start number : ℕ) (root : List ℕ) (set : List (ℕ × ViewChangeData))
@@ -42,7 +42,7 @@ GapsForbid =
     → ((batch : List ℕ) → IsFrom texts batch → may_stand c view set number batch ≡ false)
     → AreFrom texts batches → meets c view set start root batches ≡ false
 
--- A start is listed by some view change of the set.
+-- Some view change of the set lists the start.
 abbrev pub StartsAreListed : Type 0
 StartsAreListed =
     (c : Configuration) (view start : ℕ) (root : List ℕ) (set : List (ℕ × ViewChangeData)) (batches : List (List ℕ))
@@ -50,13 +50,14 @@ StartsAreListed =
     → Has (λ x. Has (λ (checkpoint : CheckpointEntry). (checkpoint.number ≡ start) × (checkpoint.digest ≡ root))
     x.1.checkpoints) set
 
--- The configurations have one seed and one size.
+-- The configurations have the same seed, faults and period.
 pub record AreAlike (c d : Configuration) : Type 0 where
   pub seed : c.seed ≡ d.seed
   pub faults : c.faults ≡ d.faults
   pub period : c.period ≡ d.period
 
--- By both the same is signed, within its bounds, a set for a view, selected, taken, and refused.
+-- Both configurations find the same view changes signed, within their bounds and a set for a view, and select, take and
+-- refuse the same.
 pub record HaveOneRule (c d : Configuration) : Type 0 where
   pub signed : (bytes : List ℕ) → signed_change c bytes ≡ signed_change d bytes
   pub within : (vc : ViewChangeData) → is_within c vc ≡ is_within d vc
@@ -69,18 +70,19 @@ pub record HaveOneRule (c d : Configuration) : Type 0 where
   pub untaken : (view : ℕ) (held : List (Option HeldData)) (x : ℕ × ViewChangeData)
       → refusal_of c view held x ≡ refusal_of d view held x
 
--- Of a configuration the rules use the seed and the two sizes alone.
+-- The rules use only the seed, the faults and the period of a configuration.
 abbrev pub SizesDecide : Type 0
 SizesDecide = (c d : Configuration) → AreAlike c d → HaveOneRule c d
 
--- A new view is taken exactly where it is by its primary, meets the rules, and is of a later view.
+-- A replica takes a new view exactly if it is by its primary, satisfies the rules, and is of a later view.
 abbrev pub NewViewsAreJudged : Type 0
 NewViewsAreJudged =
     (c : Configuration) (view target sender : ℕ) (new : NewViewData)
     → (refusal c view target sender new ≡ None)
     ↔ ((((sender == primary c new.view) && may_select c new) ≡ true) × (is_later view target new ≡ true))
 
--- A view change is taken exactly where it is above the view, within its bounds, and newer than its sender's last.
+-- A replica takes a view change exactly if its view is later, it is within its bounds, and it is newer than its
+-- sender's last.
 abbrev pub ChangesAreJudged : Type 0
 ChangesAreJudged =
     (c : Configuration) (view : ℕ) (held : List (Option HeldData)) (x : ℕ × ViewChangeData)

@@ -1,5 +1,5 @@
--- What a replica keeps of the view changes that it has: of each replica the latest (Castro and Liskov, Practical
--- Byzantine fault tolerance and proactive recovery, TOCS 2002, on view changes).
+-- The view changes that a replica stores: the latest of each replica (Castro and Liskov, Practical Byzantine fault
+-- tolerance and proactive recovery, TOCS 2002, on view changes).
 use Rattle.std.specs.Prelude.{◌≡◌, ℕ, suc, ◌+◌, ◌*◌, ◌≤◌, ◌<◌, true, not, List, [], ◌∷◌, length, map, nat_lt, ◌==◌, ◌&&◌, if◌then◌else◌, Option, Some, None, option_and_then, slice_get, slice_set, ⊤}
 use Rattle.std.specs.Bool.{then_some}
 use Rattle.std.specs.Option.{option_map_or}
@@ -19,14 +19,14 @@ pub record HeldData : Type 0 where
   pub change : ViewChangeData
   pub frame : List ℕ
 
--- what is held, one place for each replica; that of one replica
+-- the stored view changes, one place for each replica; the one of a replica
 abbrev pub held_of : List (Option HeldData) → ℕ → Option HeldData
 held_of held sender = option_and_then (λ o. o) (slice_get held sender)
 
--- ---- what is taken
+-- ---- which view changes a replica takes
 
 -- The first refusal that applies to a view change of the sender, at a replica that is active in the view or was last:
--- its view is not above that; it is out of its bounds; or it is not newer than the sender's last.
+-- its view is not above that view; it is out of its bounds; or it is not newer than the sender's last.
 abbrev pub refusal_of : Configuration → ℕ → List (Option HeldData) → ℕ × ViewChangeData → Option ChangeFault
 refusal_of c view held x =
     if not (nat_lt view x.1.view) then Some WrongView else
@@ -38,11 +38,11 @@ abbrev pub refusal_of_frame : Configuration → ℕ → List (Option HeldData) �
 refusal_of_frame c view held bytes =
     elim (signed_change c bytes) [ None ↦ Some BadSignature | Some x ↦ refusal_of c view held x ]
 
--- it takes the place of the sender's last
+-- it replaces the sender's last
 abbrev pub with_held : HeldData → List (Option HeldData) → List (Option HeldData)
 with_held h held = slice_set held h.sender (Some h)
 
--- each is its place's, within its bounds, and its frame is signed by its sender
+-- each is of the replica at its place, within its bounds, and signed by its sender in its frame
 abbrev pub IsHeldAt : Configuration → ℕ → Option HeldData → Type 0
 IsHeldAt c sender None = ⊤
 IsHeldAt c sender (Some h) =
@@ -52,9 +52,9 @@ abbrev pub AreHeldFrom : Configuration → ℕ → List (Option HeldData) → Ty
 AreHeldFrom c sender [] = ⊤
 AreHeldFrom c sender (o ∷ held) = IsHeldAt c sender o × AreHeldFrom c (suc sender) held
 
--- ---- what is held for a view
+-- ---- the stored view changes for a view
 
--- those for the view, ascending by sender
+-- the view changes for the view, ascending by sender
 abbrev pub held_for : ℕ → List (Option HeldData) → List HeldData
 held_for view [] = []
 held_for view (None ∷ held) = held_for view held
@@ -67,7 +67,7 @@ pairs_for view held = map (λ h. (h.sender, h.change)) (held_for view held)
 abbrev pub frames_for : ℕ → List (Option HeldData) → List (List ℕ)
 frames_for view held = map (λ h. h.frame) (held_for view held)
 
--- These are a set for the view, and their frames, which their senders signed, may be carried by a new view.
+-- They are a set for the view, and a new view may carry their frames, which their senders signed.
 pub record IsHeldSet (c : Configuration) (view : ℕ) (held : List (Option HeldData)) : Type 0 where
   pub order : ascending (pairs_for view held) ≡ true
   pub fit : are_for view (pairs_for view held) c ≡ true
@@ -78,16 +78,16 @@ pub record IsHeldSet (c : Configuration) (view : ℕ) (held : List (Option HeldD
 
 -- ---- joining others
 
--- the view of what is held of another replica, where it is above the target
+-- the view of the stored view change of another replica, if it is above the target
 abbrev pub later_view : ℕ → ℕ → Option HeldData → Option ℕ
 later_view me target None = None
 later_view me target (Some h) = then_some (not (h.sender == me) && nat_lt target h.change.view) h.change.view
 
--- all of them, one for each replica that has such a view change
+-- all such views, one for each replica that has one
 abbrev pub later_views : ℕ → ℕ → List (Option HeldData) → List ℕ
 later_views me target held = list_of (map (later_view me target) held)
 
--- more than so many are of later views, and this is the least of these
+-- more than so many replicas have later views, and this is the least of these
 pub record IsJoined (faults : ℕ) (views : List ℕ) (view : ℕ) : Type 0 where
   pub enough : faults < length views
   pub there : Has (λ w. w ≡ view) views

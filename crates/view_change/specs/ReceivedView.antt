@@ -1,4 +1,4 @@
--- What the view changes that a replica has stand for.
+-- The model of the view changes that a replica stores.
 use Rattle.std.specs.Prelude.{◌≡◌, ℕ, ◌+◌, ◌*◌, List, length, map, Option, Some, None, option_map}
 use Rattle.protocol.specs.System.Configuration.{Configuration}
 use Rattle.protocol.specs.Replica.Selection.{signed_change}
@@ -10,13 +10,13 @@ use Rattle.view_change.specs.declared.received.Received.TheInside.{Inside}
 use Rattle.view_change.specs.ReceivedData.{HeldData, held_of, with_held, refusal_of, AreHeldFrom}
 use Rattle.view_change.specs.Sets.{keyed}
 
--- the seed of the keys, the sizes, and what is held, one place for each replica
+-- the seed of the keys, the sizes, and the stored view changes, one place for each replica
 pub record ReceivedState : Type 0 where
   pub seed : List ℕ
   pub sizes : Sizes
   pub held : List (Option HeldData)
 
--- the configuration by which it is judged
+-- the configuration that judges view changes
 abbrev pub configuration_of : ReceivedState → Configuration
 configuration_of r = keyed r.seed r.sizes
 
@@ -33,24 +33,24 @@ held_by held = map (option_map held_data) held
 abbrev pub received_state : Inside → ReceivedState
 received_state r = record { seed = r.keys; sizes = r.sizes; held = held_by r.held.items }
 
--- there is a place for each replica, and each place has its replica's
+-- there is a place for each replica, and each place has its replica's view change
 pub record AreReceived (r : ReceivedState) : Type 0 where
   pub places : length r.held ≡ 3 * r.sizes.faults + 1
   pub each : AreHeldFrom (configuration_of r) 0 r.held
 
--- a view change is added, against which nothing speaks
+-- a view change without a fault is added
 pub record IsAdded (old : ReceivedState) (view : ℕ) (h : HeldData) (new : ReceivedState) : Type 0 where
   pub right : refusal_of (configuration_of old) view old.held (h.sender, h.change) ≡ None
   pub held : new ≡ record old { held = with_held h old.held }
 
--- and it is what the bytes spell, signed by its sender
+-- and the bytes spell it, signed by its sender
 pub record IsFrameAdded (old : ReceivedState) (view : ℕ) (bytes : List ℕ) (new : ReceivedState) : Type 0 where
   pub change : HeldData
   pub frame : change.frame ≡ bytes
   pub signed : signed_change (configuration_of old) bytes ≡ Some (change.sender, change.change)
   pub added : IsAdded old view change new
 
--- it is held in this frame, as its sender signed it
+-- it is stored with this frame, as its sender signed it
 pub record IsHeldIn (r : ReceivedState) (bytes : List ℕ) (h : HeldData) : Type 0 where
   pub frame : h.frame ≡ bytes
   pub held : held_of r.held h.sender ≡ Some h

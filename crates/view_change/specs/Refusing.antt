@@ -1,4 +1,4 @@
--- What the private functions speak of that check a new view over a set of view changes.
+-- Words of the private functions that check a new view over a set of view changes.
 use Rattle.std.specs.Prelude.{ℕ, Bool, true, ◌&&◌, not, if◌then◌else◌, List, Option, Some, None}
 use Rattle.protocol.specs.System.Configuration.{Configuration}
 use Rattle.protocol.specs.Replica.Selection.{is_quorum, count_in, ascending}
@@ -7,7 +7,8 @@ use Rattle.view_change.specs.declared.fault.NewViewFault.{NewViewFault}
 use Rattle.view_change.specs.declared.fault.NewViewFault.TheVariants.{TooFew, NotSelected}
 use Rattle.view_change.specs.Selecting.{are_for, meets}
 
--- the set is ascending, each of it is for the view and within its bounds, and the start and the batches meet the rules
+-- the set is ascending, each of its view changes is for the view and within its bounds, and the start and the batches
+-- satisfy the rules
 abbrev pub passes : Configuration → List (ℕ × ViewChangeData) → NewViewData → Bool
 passes c set new = ascending set && (are_for new.view set c && meets c new.view set new.start new.root new.batches)
 

@@ -1,4 +1,4 @@
--- What the types of the program stand for: a set of view changes, the sizes of a configuration, and batches.
+-- Models of the program's types: a set of view changes, the sizes of a configuration, and batches.
 use Rattle.std.specs.Prelude.{ℕ, Bool, true, ◌&&◌, not, List, [], map, nat_lt, nat_le, ◌==◌, bytes_eq, Option, Some, Vec}
 use Rattle.std.specs.Arc.{arc_value}
 use Rattle.std.specs.List.{list_all, list_any}
@@ -13,7 +13,7 @@ use Rattle.view_change.specs.declared.changes.Change.{Change}
 use Rattle.view_change.specs.declared.changes.Rule.{Rule}
 use Rattle.view_change.specs.declared.changes.Rule.TheVariants as rules
 
--- a configuration of these sizes, with the seed of the keys; the rules speak of nothing else of it
+-- a configuration of these sizes, with the seed of the keys; the rules use nothing else of a configuration
 abbrev pub keyed : List ℕ → Sizes → Configuration
 keyed seed s =
     record {
@@ -36,7 +36,7 @@ change_pair x = (x.sender.0, view_change_data x.change)
 abbrev pub pairs : List Change → List (ℕ × ViewChangeData)
 pairs xs = map change_pair xs
 
--- what a view change is asked
+-- the test of a view change that a rule makes
 abbrev pub test_of : Rule → ViewChangeData → Bool
 test_of rules.Any vc = true
 test_of (rules.LowAtMost start) vc = nat_le vc.low start.0
@@ -51,10 +51,10 @@ test_of (rules.Nothing number) vc =
 abbrev pub texts_of : List (Arc (List ℕ) Global) → List (List ℕ)
 texts_of batches = map arc_value batches
 
--- what carried frames are, each a signed view change or none
+-- the frames that a new view carries, each as a signed view change or none
 abbrev pub signed_changes : Configuration → List (Vec ℕ Global) → List (Option (ℕ × ViewChangeData))
 signed_changes c frames = map (signed_change c) (map (λ frame. frame.items) frames)
 
--- each of these, as given
+-- each of these, as it is
 abbrev pub given : List (ℕ × ViewChangeData) → List (Option (ℕ × ViewChangeData))
 given xs = map Some xs

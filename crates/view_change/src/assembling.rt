@@ -19,11 +19,11 @@ use std::sync::Arc;
 use terms::{NoMemory, View};
 use wire::{Batch, NewView};
 
-/// The new view of what was selected over the view changes that are held for the view, with their frames.
+/// The new view of a selection over the stored view changes for the view, with their frames.
 ///
 /// # Errors
 ///
-/// NoMemory where memory runs out.
+/// NoMemory if memory runs out.
 pub fn assemble(
     alloc: Global,
     received: &Received,

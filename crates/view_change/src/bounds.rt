@@ -13,10 +13,10 @@ use crate::changes::{Change, Sizes};
 use terms::View;
 use wire::{BatchEntry, CheckpointEntry, ViewChange};
 
-/// Views and numbers end below it.
+/// Views and numbers end below this.
 pub(crate) const END: u64 = 1 << 48;
 
-/// Whether the number is one.
+/// Whether the number is below the end of views and numbers.
 pub(crate) fn is_number(number: u64) -> bool
     ensures { result ≡ configuration.is_number number }
 {
@@ -69,7 +69,7 @@ pub(crate) fn is_within(change: &ViewChange, sizes: Sizes) -> bool
     is_number(change.view.0) && is_number(change.low.0) && are_lists_within(change, sizes)
 }
 
-/// Whether each is for the view and within its bounds.
+/// Whether each view change is for the view and within its bounds.
 pub(crate) fn are_for(set: &[Change], sizes: Sizes, view: View) -> bool
     ensures { result ≡ are_for view.0 (pairs set.now) (sized sizes) }
 {
@@ -100,8 +100,8 @@ pub(crate) fn is_ascending(set: &[Change]) -> bool
     }
 }
 
-/// Whether a selection for the view may be made over the view changes: each sender is above the one before, and each is
-/// for the view and within its bounds.
+/// Whether a selection for the view may be made over the view changes: each sender is above the one before, and each
+/// view change is for the view and within its bounds.
 pub fn is_set(set: &[Change], sizes: Sizes, view: View) -> bool
     ensures { result ≡ (selection.ascending (pairs set.now) && are_for view.0 (pairs set.now) (sized sizes)) }
 {

@@ -1,4 +1,4 @@
-//! View changes as their frames carry them.
+//! View changes in the frames that a new view carries.
 
 ghost use Rattle.std.specs.Prelude.{◌≡◌, IfOk, MatchOption, None};
 ghost use Rattle.std.specs.Option.{option_map};
@@ -28,7 +28,7 @@ fn read_frame(alloc: Global, bytes: &[u8]) -> Result<Option<Frame>, NoMemory>
     }
 }
 
-// The view change that the frame is.
+// The view change in the frame, if it is one.
 fn into_change(frame: Frame) -> Option<ViewChange>
     ensures { MatchOption result (change_in (frame_data frame).body ≡ None)
         (λ change. message_data frame.body.message ≡ view_change (view_change_data change)) }
@@ -43,7 +43,7 @@ fn into_change(frame: Frame) -> Option<ViewChange>
     }
 }
 
-// Whether the frame, which the bytes spell, is signed by its sender.
+// Whether the sender of the frame, which the bytes spell, signed it.
 fn is_signed(keys: &PublicKeys, frame: &Frame, bytes: &[u8]) -> bool
     requires { SpellsFrame bytes.now (frame_data frame.now) }
     ensures { result ≡ has_signature keys.now (frame_data frame.now) }
@@ -51,7 +51,7 @@ fn is_signed(keys: &PublicKeys, frame: &Frame, bytes: &[u8]) -> bool
     keys.has_signature(frame, bytes)
 }
 
-/// The view change that the bytes spell, where its sender is a replica and signed it.
+/// The view change that the bytes spell, if its sender is a replica and signed it.
 pub(crate) fn open_change(
     alloc: Global,
     keys: &PublicKeys,

@@ -1,9 +1,9 @@
-//! Why a view change is not taken.
+//! Why a replica refuses a view change.
 
 use terms::NoMemory;
 use thiserror::Error;
 
-/// Why a view change is not taken. The first that applies is given, in this order.
+/// Why a replica refuses a view change. The first reason that applies is told, in this order.
 #[derive(Clone, Copy, Debug, PartialEq, Eq, Error)]
 pub enum ChangeFault {
     /// It is no view change, or its sender did not sign it.
@@ -18,7 +18,7 @@ pub enum ChangeFault {
     /// Its view is not above that of the sender's last.
     #[error("a later view change came before")]
     Duplicate,
-    /// There was no room to keep it.
+    /// Memory ran out.
     #[error("out of memory")]
     NoMemory,
 }

@@ -1,4 +1,4 @@
-//! View changes of others, and what is selected over them.
+//! View changes of others, and the selection over them.
 
 ghost use Rattle.std.specs.Prelude.{◌≤◌};
 
@@ -7,7 +7,7 @@ use std::sync::Arc;
 use terms::{Digest, Number, ReplicaId};
 use wire::ViewChange;
 
-/// How many replicas may be faulty, up to 3, and how many batches lie from one checkpoint to the next, 1 to 16.
+/// How many replicas may be faulty, up to 3, and the number of batches from one checkpoint to the next, 1 to 16.
 #[derive(Clone, Copy, Drop)]
 pub struct Sizes {
     pub faults: u8,
@@ -31,30 +31,31 @@ pub struct SignedChange {
     pub frame: Vec<u8>,
 }
 
-/// What a view change is asked about a number.
+/// A question about a view change.
 #[derive(Clone, Copy)]
 pub(crate) enum Rule {
-    /// Nothing.
+    /// Every view change passes.
     Any,
     /// Its low mark is at or below the number.
     LowAtMost(Number),
     /// It lists a checkpoint of this number with this root.
     Lists(Number, Digest),
-    /// It has nothing prepared for the number that speaks against this digest in this view.
+    /// Its low mark is below the number. What it prepared for the number is of an earlier view, or of this view and
+    /// digest.
     Agrees(Number, u64, Digest),
     /// It pre-prepared this digest for the number in this view or a later one.
     Vouches(Number, u64, Digest),
-    /// It has nothing prepared for the number.
+    /// Its low mark is below the number, and it has nothing prepared for the number.
     Nothing(Number),
 }
 
-/// What a new view begins with.
+/// The selection: what a new view begins with.
 #[derive(Drop)]
 pub struct Selection {
-    /// The number of the checkpoint that it starts from.
+    /// The number of the checkpoint at which it starts.
     pub start: Number,
     /// The root of that checkpoint's state.
     pub root: Digest,
-    /// For the numbers from `start` plus 1 on.
+    /// The batches for the numbers from `start` plus 1 on.
     pub batches: Vec<Arc<HashedBatch>>,
 }

@@ -1,4 +1,4 @@
-//! Whether a new view is taken.
+//! The check of a new view.
 
 ghost use Rattle.std.specs.Prelude.{◌≡◌, ◌≢◌, ◌+◌, ◌++◌, ◌^◌, ◌<◌, ◌==◌, ◌&&◌, nat_le, nat_lt, true, false, map, length, IfOk, IfErr, OnOk, Some, None};
 ghost use Rattle.protocol.specs.System.Configuration as configuration;
@@ -57,7 +57,7 @@ fn may_all_stand(set: &[Change], sizes: Sizes, view: View, number: u64, batches:
     }
 }
 
-// Whether the start and the batches meet the rules.
+// Whether the start and the batches satisfy the rules.
 fn meets(set: &[Change], sizes: Sizes, new: &NewView) -> bool
     requires { selecting.are_for new.now.view.0 (pairs set.now) (sized sizes) ≡ true }
     ensures { result ≡ selecting.meets (sized sizes) new.now.view.0 (pairs set.now) new.now.start.0 new.now.root
@@ -78,7 +78,7 @@ fn meets(set: &[Change], sizes: Sizes, new: &NewView) -> bool
     may_all_stand(set, sizes, new.view, start + 1, &new.batches)
 }
 
-// Whether the new view passes over the set of its view changes, their number aside.
+// Whether the new view passes over the set of its view changes, except for their number.
 fn passes(set: &[Change], sizes: Sizes, new: &NewView) -> bool
     ensures { result ≡ spec.passes (sized sizes) (pairs set.now) (new_view_data new.now) }
 {
@@ -97,8 +97,8 @@ fn refusal_over(set: &[Change], sizes: Sizes, new: &NewView) -> Option<NewViewFa
     None
 }
 
-// Appends the view changes that the frames spell, and tells whether each of them is a signed one. What was received
-// before isn't verified again.
+// Appends the view changes that the frames spell, and returns whether each of them is signed. A view change that was
+// received before isn't verified again.
 fn open_changes(
     alloc: Global,
     received: &Received,
@@ -149,14 +149,15 @@ fn is_later(view: View, target: View, new: View) -> bool
     view.0 < new.0 && target.0 <= new.0
 }
 
-/// Whether a replica takes a new view that it hears from the sender, so that the new view's own signature is known. The
-/// replica's last new view is of `view`, and its last view change is for `target`, else 0. It is taken exactly where it
-/// is from the primary of its view, its view is above `view` and at least `target`, and its view changes, its start and
-/// its batches meet the rules.
+/// Checks a new view that a replica received from the sender. The new view's own signature is verified already. The
+/// replica's last new view is of `view`, and its last view change is for `target`, else 0.
+///
+/// It is Ok exactly if the new view is from the primary of its view, its view is above `view` and at least `target`,
+/// and the rules hold of its view changes, its start and its batches.
 ///
 /// # Errors
 ///
-/// The first refusal that applies, in the order of [`NewViewFault`], and NoMemory where memory runs out.
+/// The first refusal that applies, in the order of [`NewViewFault`], and NoMemory if memory runs out.
 pub fn check_new_view(
     alloc: Global,
     received: &Received,

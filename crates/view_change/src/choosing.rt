@@ -1,4 +1,4 @@
-//! The batch that is chosen for a number.
+//! The choice of the batch for a number.
 
 ghost use Rattle.std.specs.Prelude.{◌≡◌, true, map, IfSome, IfNone};
 ghost use Rattle.std.specs.List.{list_any};
@@ -24,7 +24,7 @@ fn is_entry_for(entry: &BatchEntry, number: Number, digest: &Digest) -> bool
     entry.number.0 == number.0 && entry.digest == *digest
 }
 
-// Whether by the view of the entry the digest may stand at the number.
+// Whether the digest may stand at the number by the view of the entry.
 fn is_entry_by(
     set: &[Change],
     sizes: Sizes,
@@ -38,7 +38,7 @@ fn is_entry_by(
     is_entry_for(entry, number, digest) && may_stand_at(set, sizes, number, digest, entry.view.0)
 }
 
-// Whether by the view of one of the entries the digest may stand at the number.
+// Whether the digest may stand at the number by the view of one of the entries.
 fn any_stands(
     set: &[Change],
     sizes: Sizes,
@@ -68,7 +68,7 @@ fn stands_by(
     any_stands(set, sizes, number, digest, &change.pre_prepared)
 }
 
-/// Whether the digest may stand at the number, by an entry of some of the set.
+/// Whether the digest may stand at the number by an entry of the view changes in `some`.
 pub(crate) fn stands(
     set: &[Change],
     sizes: Sizes,
@@ -108,7 +108,7 @@ fn latest_in(
     latest
 }
 
-// The same of the entries of some of the set.
+// The same over the entries of the view changes in `some`.
 fn latest_of(set: &[Change], sizes: Sizes, number: Number, digest: &Digest, some: &[Change]) -> u64
     ensures { result ≡ spec.latest_of (sized sizes) (pairs set.now) number.0 digest.now (pairs some.now) }
 {
@@ -148,7 +148,7 @@ fn is_prepared_in(set: &[Change], number: Number, digest: &Digest) -> bool
     }
 }
 
-/// Whether the one comes before the other, where the first byte that differs decides.
+/// Whether the one comes before the other, by the first byte that differs.
 pub(crate) fn is_less(digest: &[u8], other: &[u8]) -> bool
     ensures { result ≡ bytes_before digest.now other.now }
 {
@@ -161,7 +161,7 @@ pub(crate) fn is_less(digest: &[u8], other: &[u8]) -> bool
     *x < *y || (*x == *y && is_less(xs, ys))
 }
 
-// Of two digests one that is prepared goes first, and else the lesser one.
+// Of two digests a prepared one goes first, else the lesser one.
 fn precedes(set: &[Change], number: Number, digest: &Digest, other: &Digest) -> bool
     ensures { result ≡ spec.precedes (pairs set.now) number.0 digest.now other.now }
 {
@@ -172,7 +172,7 @@ fn precedes(set: &[Change], number: Number, digest: &Digest, other: &Digest) -> 
     }
 }
 
-// Before that the one of the latest view.
+// Before that, the one of the latest view.
 fn outranks(set: &[Change], sizes: Sizes, number: Number, digest: &Digest, other: &Digest) -> bool
     ensures { result ≡ spec.outranks (sized sizes) (pairs set.now) number.0 digest.now other.now }
 {
@@ -201,8 +201,7 @@ fn goes_before(
         && (!stands(set, sizes, number, other, set) || outranks(set, sizes, number, digest, other))
 }
 
-/// The batch that is chosen for the number: the first in order of those that are held and the null batch, if it may
-/// stand there.
+/// The choice for the number: the first in order of the stored batches and the null batch, if it may stand there.
 pub(crate) fn choose<'a>(
     set: &[Change],
     sizes: Sizes,

@@ -8,7 +8,7 @@ use ordering::HashedBatch;
 use std::sync::Arc;
 use wire::BatchEntry;
 
-/// A batch that a replica prepared or logged for a number, with what its view changes say of it.
+/// A batch that a replica prepared or logged for a number, with the entry of its view changes for it.
 #[derive(Drop)]
 pub(crate) struct Claim {
     pub(crate) entry: BatchEntry,
@@ -16,7 +16,7 @@ pub(crate) struct Claim {
     ghost named: { entry.digest ≡ sha256 (arc_value batch) },
 }
 
-/// What tells claims of one list apart, and orders them: the number, or the number and then the digest.
+/// What distinguishes and orders the claims of one list: the number, or the number and then the digest.
 #[derive(Clone, Copy, Drop)]
 pub(crate) enum ClaimOrder {
     Number,

@@ -1,4 +1,4 @@
-//! What a replica keeps for its own view changes.
+//! The sets P and Q of a replica, for its own view changes.
 
 ghost use Rattle.std.specs.Prelude.{◌≡◌, ◌∷◌, ◌≤◌, filter, length, map, nat_lt, IfOk, OnOk, OnErr, IsTrue};
 ghost use Rattle.std.specs.Arc.{arc_value};
@@ -21,16 +21,17 @@ use std::sync::Arc;
 use terms::{NoMemory, Number, View};
 use wire::BatchEntry;
 
-/// What a replica keeps of what it prepared and of what it logged, over all views, for the numbers within its marks:
-/// for each number the batch that was prepared in the latest view, and each batch that was logged, with the latest view
-/// in which it was. Both lists stand as a view change gives them, by number and then by digest, and each claim has its
-/// batch.
+/// The batches that a replica prepared or logged, over all views, for the numbers within its marks: for each number the
+/// batch that was prepared in the latest view, and each logged batch, with the latest view in which it was logged. Both
+/// lists have the order of a view change, by number and then by digest, and each claim has its batch.
 ///
 /// There are at most as many prepared claims as numbers within the marks, 32, and at most one logged claim for each of
-/// them and each view in which the replica was active. Liars can't make these views many: a replica becomes active in a
-/// later view by a new view alone, which carries the signed view changes for it of 2f + 1 replicas. With f liars, up to
-/// 3, at least f + 1 of these are of the 2f + 1 others, each of which signs 64 messages in all. So there are at most
-/// 112 new views, and at most 113 * 32 logged claims, which fit a frame.
+/// them and each view in which the replica was active.
+///
+/// Liars can't make these views many. A replica becomes active in a later view only by a new view, which carries the
+/// signed view changes of 2f + 1 replicas for that view. With f liars, up to 3, at least f + 1 of these are of the 2f +
+/// 1 others, each of which signs 64 messages in all. So there are at most 112 new views, and at most 113 * 32 logged
+/// claims, which fit a frame.
 #[derive(Drop)]
 pub struct Claims {
     prepared: Vec<Claim>,
@@ -48,7 +49,7 @@ impl Model for Claims {
 }
 
 impl Claims {
-    /// None yet.
+    /// No claims.
     pub fn new(alloc: Global) -> Claims
         ensures { result ≡ spec.no_claims }
     {
@@ -58,11 +59,11 @@ impl Claims {
         }
     }
 
-    /// Notes that a batch is prepared in a view. Of a number the latest view is kept.
+    /// Notes that a batch is prepared in a view. For a number the latest view is kept.
     ///
     /// # Errors
     ///
-    /// NoMemory where memory runs out; nothing is noted then.
+    /// NoMemory if memory runs out; nothing is noted then.
     pub fn note_prepared(
         &mut self,
         number: Number,
@@ -81,11 +82,11 @@ impl Claims {
         )
     }
 
-    /// Notes that a batch is logged in a view. Of a number and digest the latest view is kept.
+    /// Notes that a batch is logged in a view. For a number and digest the latest view is kept.
     ///
     /// # Errors
     ///
-    /// NoMemory where memory runs out; nothing is noted then.
+    /// NoMemory if memory runs out; nothing is noted then.
     pub fn note_logged(
         &mut self,
         number: Number,
@@ -115,7 +116,7 @@ impl Claims {
         keep_above(&mut self.logged, low);
     }
 
-    /// The list of what was prepared, for a view change. The error is want of memory.
+    /// The set P: the list of prepared batches for a view change. NoMemory if memory runs out.
     pub fn prepared(&self, alloc: Global) -> Result<Vec<BatchEntry>, NoMemory>
         ensures are { IfOk result (λ entries. map batch_entry_data entries.items ≡ self.now.prepared) }
         ensures order { IsTrue (ascends batch_entry_before self.now.prepared) }
@@ -123,7 +124,7 @@ impl Claims {
         entries(alloc, &self.prepared)
     }
 
-    /// The list of what was logged, for a view change. The error is want of memory.
+    /// The set Q: the list of logged batches for a view change. NoMemory if memory runs out.
     pub fn logged(&self, alloc: Global) -> Result<Vec<BatchEntry>, NoMemory>
         ensures are { IfOk result (λ entries. map batch_entry_data entries.items ≡ self.now.logged) }
         ensures order { IsTrue (ascends named_before self.now.logged) }
@@ -131,7 +132,7 @@ impl Claims {
         entries(alloc, &self.logged)
     }
 
-    /// The batches that were logged, for a selection: one of the digest of each claim. The error is want of memory.
+    /// The logged batches, for a selection: one of the digest of each claim. NoMemory if memory runs out.
     pub fn batches(&self, alloc: Global) -> Result<Vec<Arc<HashedBatch>>, NoMemory>
         ensures are { IfOk result (λ batches. texts_of batches.items ≡ self.now.texts) }
         ensures named { map sha256 self.now.texts ≡ digests_of self.now.logged }
@@ -176,7 +177,7 @@ fn names_same(order: ClaimOrder, one: &BatchEntry, other: &BatchEntry) -> bool
     }
 }
 
-// Where a claim belongs: before the first that names the same or comes after.
+// The place of a claim: before the first that names the same or comes after.
 fn place_of(claims: &[Claim], order: ClaimOrder, entry: &BatchEntry) -> usize
     ensures place { result ≡ places.place_in order (batch_entry_data entry.now) (claims_of claims.now) }
     ensures within { result ≤ length claims.now }
@@ -189,14 +190,14 @@ fn place_of(claims: &[Claim], order: ClaimOrder, entry: &BatchEntry) -> usize
     claims.len()
 }
 
-// Whether one that names the same stands at the place.
+// Whether a claim that names the same stands at the place.
 fn is_same_at(claims: &[Claim], place: usize, order: ClaimOrder, entry: &BatchEntry) -> bool
     ensures { result ≡ places.same_at order (batch_entry_data entry.now) place (claims_of claims.now) }
 {
     place < claims.len() && names_same(order, &claims[place].entry, entry)
 }
 
-// Puts a claim in its place, where no later one names the same.
+// Puts a claim in its place, unless a later one names the same.
 fn add(claims: &mut Vec<Claim>, order: ClaimOrder, claim: Claim) -> Result<(), NoMemory>
     ensures ok { OnOk result (claims_of claims.new.items
         ≡ places.with_claim_by order (spec.claim_data claim) (claims_of claims.old.items)) }

@@ -11,7 +11,7 @@ use std::alloc::Global;
 use terms::{NoMemory, View};
 use wire::ViewChange;
 
-/// A copy of a view change. The error is want of memory.
+/// A copy of a view change. NoMemory if memory runs out.
 pub fn copy_change(alloc: Global, change: &Change) -> Result<Change, NoMemory>
     ensures { IfOk result (λ copy. change_pair copy ≡ change_pair change.now) }
 {
@@ -20,7 +20,7 @@ pub fn copy_change(alloc: Global, change: &Change) -> Result<Change, NoMemory>
     Ok(Change { sender, change })
 }
 
-// A copy of what a view change says.
+// A copy of the body of a view change.
 fn copy_said(alloc: Global, said: &ViewChange) -> Result<ViewChange, NoMemory>
     ensures { IfOk result (λ copy. view_change_data copy ≡ view_change_data said.now) }
 {
@@ -36,7 +36,7 @@ fn copy_said(alloc: Global, said: &ViewChange) -> Result<ViewChange, NoMemory>
     })
 }
 
-// Appends a copy of the view change where there is one for the view.
+// Appends a copy of the view change, if it is one for the view.
 fn add_change(
     alloc: Global,
     signed: &Option<SignedChange>,
@@ -56,7 +56,7 @@ fn add_change(
     Ok(changes.push(change)?)
 }
 
-/// Copies of those for the view.
+/// Copies of the view changes for the view.
 pub(crate) fn copy_changes(
     alloc: Global,
     held: &[Option<SignedChange>],
@@ -71,7 +71,7 @@ pub(crate) fn copy_changes(
     Ok(changes)
 }
 
-// Appends a copy of the frame of the view change where there is one for the view.
+// Appends a copy of the view change's frame, if it is one for the view.
 fn add_frame(
     alloc: Global,
     signed: &Option<SignedChange>,
@@ -91,7 +91,7 @@ fn add_frame(
     Ok(frames.push(frame)?)
 }
 
-/// Copies of the frames of those for the view.
+/// Copies of the frames of the view changes for the view.
 pub(crate) fn copy_frames(
     alloc: Global,
     held: &[Option<SignedChange>],

@@ -1,4 +1,4 @@
-//! What is known of the entries that the program holds.
+//! Proof hints on the entries that the program holds.
 
 ghost use Rattle.std.specs.Prelude.{map};
 ghost use Rattle.wire.specs.Lists.{Each};
@@ -8,7 +8,7 @@ ghost use Rattle.wire.specs.Views.{batch_entry_data, checkpoint_entry_data};
 use terms::Digest;
 use wire::{BatchEntry, CheckpointEntry};
 
-/// Each of these batch entries may be said.
+/// Tells a proof that a message may have each of these batch entries.
 pub(crate) fn note_entries(entries: &[BatchEntry])
     ensures { Each IsBatchEntry (map batch_entry_data entries.now) }
 {
@@ -25,7 +25,7 @@ fn note_entry(entry: &BatchEntry)
     let _view = entry.view.0;
 }
 
-/// Each of these checkpoints may be said.
+/// Tells a proof that a message may have each of these checkpoints.
 pub(crate) fn note_checkpoints(entries: &[CheckpointEntry])
     ensures { Each IsCheckpointEntry (map checkpoint_entry_data entries.now) }
 {
@@ -41,7 +41,7 @@ fn note_checkpoint(entry: &CheckpointEntry)
     let _number = entry.number.0;
 }
 
-/// A digest is one.
+/// Tells a proof that a digest has 32 bytes.
 pub(crate) fn note_digest(digest: &Digest)
     ensures { IsDigest digest.now }
 {

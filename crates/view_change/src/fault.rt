@@ -1,18 +1,18 @@
-//! Why a new view is not taken.
+//! Why a replica refuses a new view.
 
 use terms::NoMemory;
 use thiserror::Error;
 
-/// Why a new view is not taken. The first that applies is given, in this order.
+/// Why a replica refuses a new view. The first reason that applies is told, in this order.
 #[derive(Clone, Copy, Debug, PartialEq, Eq, Error)]
 pub enum NewViewFault {
     /// It is not from the primary of its view.
     #[error("the new view is not from its primary")]
     UnknownSender,
-    /// Its view is not above the own one, or below that of a view change that was sent.
+    /// Its view is not above the current one, or below that of a view change that was sent.
     #[error("the new view is of another view")]
     WrongView,
-    /// It carries what is no view change, or one that its sender did not sign.
+    /// It carries bytes that are no view change, or a view change that its sender did not sign.
     #[error("a signature is wrong")]
     BadSignature,
     /// It carries view changes of too few replicas.
@@ -21,7 +21,7 @@ pub enum NewViewFault {
     /// A view change is for another view or out of its bounds, or a rule fails.
     #[error("the new view is not selected by the rules")]
     NotSelected,
-    /// There was no room to read what it carries.
+    /// Memory ran out.
     #[error("out of memory")]
     NoMemory,
 }

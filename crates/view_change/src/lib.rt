@@ -1,29 +1,37 @@
 //! View changes (Castro and Liskov, Practical Byzantine fault tolerance and proactive recovery, TOCS 2002, on view
-//! changes): which view changes of others a replica keeps, what may be selected over them, which new views are taken,
-//! and what a replica keeps for its own view changes. Nothing here signs, posts or hears.
+//! changes): which view changes of others a replica stores, which selection they allow, which new views a replica
+//! takes, and the sets P and Q of its own view changes. Nothing here signs, sends or authenticates.
 //!
 //! # What is proved
 //!
-//! - `Received` has at most one view change of each replica, the latest, and each is within its bounds and signed by
-//! its
-//!   sender in the frame that is kept with it. `add` takes one exactly where no refusal applies, else it tells the
-//!   first that does and changes nothing. `joined_view` is the least later view of others exactly where more than `f`
-//!   have one.
-//! - `select` gives the greatest start from which batches of those held meet the rules, with the first batch in order
-//! at
-//!   each number; it gives none only where nothing meets them, over these view changes or any part of them.
-//! - `assemble` makes the new view of a selection: it meets the rules, and may be said.
-//! - `check_new_view` is Ok exactly where the new view is by its primary, of a later view, and meets the rules; else it
-//!   tells the first refusal that applies.
-//! - `Claims` keeps of each number what was prepared in the latest view, and of each number and digest the latest view
-//! in
-//!   which it was logged, in the order of a view change, with the texts of the batches. `make` makes a view change of
-//!   them, which may be said; none only where a list has more claims than a frame counts.
-//! - The laws: a new view is selected by its set; a larger set allows all that a smaller one does; entries decide what
-//!   stands; the rules depend on two sizes and the seed of the keys alone; what is taken is what is not refused; and
-//!   what is noted of a history's claims is what its view change is to say.
+//! - `Received` has at most one view change of each replica, the latest. Each is within its bounds and signed by its
+//!   sender in the frame that is stored with it. `add` takes a view change exactly if no refusal applies; else it
+//!   returns the first one that does and changes nothing. `joined_view` is the least later view of others exactly if
+//!   more than `f` have one.
+//! - If any selection satisfies the rules over the stored view changes, `select` returns the one with the greatest
+//!   start and the first batch in order at each number. It returns None only if there is none, over these view changes
+//!   or any part of them.
+//! - `assemble` makes the new view of a selection. It satisfies the rules, and may be sent.
+//! - `check_new_view` is Ok exactly if the new view is by its primary, of a later view, and satisfies the rules; else
+//!   it returns the first refusal that applies.
+//! - `Claims` has for each number the batch that was prepared in the latest view, and for each number and digest the
+//!   latest view in which it was logged, in the order of a view change, with the texts of the batches. `make` makes a
+//!   view change of them, which may be sent; None only if a list has more claims than a frame counts.
+//! - The laws: a new view is selected by its set; a larger set allows all that a smaller one does; entries decide which
+//!   digests may stand; the rules depend on two sizes and the seed of the keys alone; a replica takes exactly what it
+//!   does not refuse; and the claims noted of a history are those of its view change.
 //!
-//! Want of memory is an error of each call that takes some, and leaves all as it was.
+//! If memory runs out, a call that takes memory returns an error and leaves all as it was.
+//!
+//! # How it is made
+//!
+//! - Contracts see `Received` as a place for each replica (`ReceivedState`). `add` judges a frame, and `add_signed` one
+//!   that was authenticated before.
+//! - `refusal` in `specs/Checking.antt` is the first refusal of a new view. `Selects` and `NothingSelects` in
+//!   `specs/Selecting.antt` say what `select` returns.
+//! - A rule is an enum (`Rule`), and one loop counts who passes it. That is the counting of the definitions themselves.
+//! - By laws over any relation of views, numbers and digests, the notes of `Claims` stay what the history says. The
+//!   laws are `claims_are_recorded`, and `latest_is_recorded` and `each_is_recorded` in `proofs/Keeping.antt`.
 #![tactic(auto)]
 
 mod assembling;

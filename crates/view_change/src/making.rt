@@ -1,4 +1,4 @@
-//! The own view change.
+//! The replica's own view change.
 
 ghost use Rattle.std.specs.Prelude.{◌≡◌, ◌^◌, ◌≤◌, ◌⊎◌, length, IfOk, IfSome, IfNone, IsTrue};
 ghost use Rattle.wire.specs.Lists.{ascends};
@@ -14,12 +14,12 @@ use wire::{CheckpointEntry, ViewChange};
 /// The most claims that a list counts.
 const MAX_CLAIMS: usize = 65_535;
 
-/// The view change of a replica for the view: its low mark, the checkpoints that it keeps, at most three, ascending,
-/// and its claims. It is none where a list has 65,536 claims or more, which no frame counts.
+/// The view change of a replica for the view: its low mark, its checkpoints, at most three, ascending, and its claims.
+/// None if a list has 65,536 claims or more, which no frame counts.
 ///
 /// # Errors
 ///
-/// NoMemory where memory runs out.
+/// NoMemory if memory runs out.
 pub fn make(
     alloc: Global,
     view: View,

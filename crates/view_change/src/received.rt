@@ -1,4 +1,4 @@
-//! The view changes that a replica has.
+//! The view changes that a replica stores.
 
 ghost use Rattle.std.specs.Prelude.{◌≡◌, ◌≢◌, ℕ, ◌+◌, ◌*◌, ◌++◌, ◌∷◌, [], ◌≤◌, length, true, None, Some, nat_lt, option_map, replicate, IfOk, IfErr, OnOk, OnErr, MatchOption, IsTrue, IsFalse};
 ghost use Rattle.std.specs.Option.{option_map_or};
@@ -22,9 +22,9 @@ use std::alloc::Global;
 use std::marker::Model;
 use terms::{NoMemory, ReplicaId, View};
 
-/// Of each replica, the own one too, the latest view change that was taken, with its frame. There is at most one of
-/// each of the up to ten replicas, so they take at most ten times the 262,144 bytes of a view change's frame and what
-/// it says, whatever liars send.
+/// The latest view change of each replica, also of this one, with its frame. There is at most one of each of the up to
+/// ten replicas. So they take at most ten times the 262,144 bytes of a view change's frame and its body, whatever liars
+/// send.
 #[derive(Drop)]
 pub struct Received {
     keys: PublicKeys,
@@ -43,11 +43,11 @@ impl Model for Received {
 }
 
 impl Received {
-    /// None yet. The public keys are the configuration's.
+    /// No view changes. The public keys are the configuration's.
     ///
     /// # Errors
     ///
-    /// NoMemory where memory runs out.
+    /// NoMemory if memory runs out.
     pub fn new(alloc: Global, keys: PublicKeys, sizes: Sizes) -> Result<Received, NoMemory>
         ensures { IfOk result (λ r. r ≡ record {
           seed = keys;
@@ -63,7 +63,7 @@ impl Received {
     ///
     /// # Errors
     ///
-    /// The first refusal that applies, in the order of [`ChangeFault`], and NoMemory where memory runs out. Nothing is
+    /// The first refusal that applies, in the order of [`ChangeFault`], and NoMemory if memory runs out. Nothing is
     /// taken then.
     pub fn add(&mut self, alloc: Global, view: View, bytes: &[u8]) -> Result<(), ChangeFault>
         ensures ok { OnOk result (IsFrameAdded self.old view.0 bytes.now self.new) }
@@ -77,12 +77,12 @@ impl Received {
         self.add_signed(alloc, view, change, bytes)
     }
 
-    /// Takes a view change whose signature is known, as the own one, or one that was heard in this frame.
+    /// Takes a view change whose signature is verified: the replica's own, or one that it received in this frame.
     ///
     /// # Errors
     ///
-    /// The first refusal that applies, in the order of [`ChangeFault`], of which the signature is none, and NoMemory
-    /// where memory runs out. Nothing is taken then.
+    /// The first refusal that applies, in the order of [`ChangeFault`], never the signature, and NoMemory if memory
+    /// runs out. Nothing is taken then.
     pub fn add_signed(
         &mut self,
         alloc: Global,
@@ -105,14 +105,14 @@ impl Received {
         Ok(())
     }
 
-    /// Tells a proof of each that is held whose it is, and that its sender signed its frame.
+    /// Tells a proof of each stored view change whose it is, and that its sender signed its frame.
     pub fn note_held(&self)
         ensures { AreReceived self.now }
     {
         let _sizes = self.sizes;
     }
 
-    /// How many replicas may be faulty, and how many batches lie from one checkpoint to the next.
+    /// How many replicas may be faulty, and the number of batches from one checkpoint to the next.
     pub fn sizes(&self) -> Sizes
         ensures { result ≡ self.now.sizes }
     {
@@ -129,7 +129,7 @@ impl Received {
         }
     }
 
-    /// Whether a view change is held in this frame. Takes no memory.
+    /// Whether a view change is stored with this frame. Takes no memory.
     pub fn has_frame(&self, bytes: &[u8]) -> bool
         ensures held { IsTrue result → (h : HeldData) × IsHeldIn self.now bytes.now h }
         ensures none { IsFalse result → (h : HeldData) → Has (λ o. o ≡ Some h) self.now.held → h.frame ≢ bytes.now }
@@ -137,8 +137,8 @@ impl Received {
         held_in(&self.held, bytes).is_some()
     }
 
-    /// The view change that the bytes spell, where its sender is a replica and signed it. One that is held isn't
-    /// verified again. The error is want of memory.
+    /// The view change that the bytes spell, if its sender is a replica and signed it. A stored one isn't verified
+    /// again. NoMemory if memory runs out.
     pub(crate) fn open(&self, alloc: Global, bytes: &[u8]) -> Result<Option<Change>, NoMemory>
         ensures { IfOk result (λ o. option_map change_pair o
             ≡ selection.signed_change (configuration_of self.now) bytes.now) }
@@ -149,8 +149,8 @@ impl Received {
         }
     }
 
-    /// The least of the views above the target that other replicas' latest view changes are for, where these are f + 1
-    /// replicas or more.
+    /// The least of the views above the target that the latest view changes of other replicas are for. None if these
+    /// replicas are fewer than f + 1.
     pub fn joined_view(&self, me: ReplicaId, target: View) -> Option<View>
         ensures { MatchOption result (length (later_views me.0 target.0 self.now.held) ≤ self.now.sizes.faults)
             (λ view. IsJoined self.now.sizes.faults (later_views me.0 target.0 self.now.held) view.0) }
@@ -161,8 +161,8 @@ impl Received {
         least_later(&self.held, me, target)
     }
 
-    /// The view changes for the view, ascending by their senders, for a selection over them. The error is want of
-    /// memory.
+    /// The view changes for the view, ascending by their senders, for a selection over them. NoMemory if memory runs
+    /// out.
     pub fn changes_for(&self, alloc: Global, view: View) -> Result<Vec<Change>, NoMemory>
         ensures are { IfOk result (λ changes. pairs changes.items ≡ pairs_for view.0 self.now.held) }
         ensures order { IfOk result (λ changes. selection.ascending (pairs changes.items) ≡ true) }
@@ -171,7 +171,7 @@ impl Received {
         copy_changes(alloc, &self.held, view)
     }
 
-    /// The frames of the view changes for the view, in the same order. The error is want of memory.
+    /// The frames of the view changes for the view, in the same order. NoMemory if memory runs out.
     pub fn frames_for(&self, alloc: Global, view: View) -> Result<Vec<Vec<u8>>, NoMemory>
         ensures are { IfOk result (λ frames. texts_of frames.items ≡ frames_for view.0 self.now.held) }
         ensures set { IsHeldSet (configuration_of self.now) view.0 self.now.held }
@@ -179,8 +179,8 @@ impl Received {
         copy_frames(alloc, &self.held, view)
     }
 
-    /// Why a view change would not be taken at a replica that was last active in the view, if it would not be: the
-    /// first refusal that applies, in the order of [`ChangeFault`], of which the signature is none.
+    /// The reason for which a replica that was last active in the view refuses the view change, if there is one: the
+    /// first that applies, in the order of [`ChangeFault`], never the signature.
     pub fn refusal(&self, view: View, change: &Change) -> Option<ChangeFault>
         ensures { result ≡ spec.refusal_of (configuration_of self.now) view.0 self.now.held (change_pair change.now) }
     {
@@ -196,7 +196,7 @@ impl Received {
         None
     }
 
-    // Whether nothing as late is held of the sender.
+    // Whether no view change of the sender that is as late is stored.
     fn is_newer(&self, change: &Change) -> bool
         ensures { result ≡ option_map_or (λ h. nat_lt h.change.view change.now.change.view.0)
             (held_of self.now.held change.now.sender.0) true }
@@ -226,7 +226,7 @@ fn in_frame(alloc: Global, change: Change, bytes: &[u8]) -> Result<SignedChange,
     Ok(SignedChange { change, frame })
 }
 
-// The view change that is held in this frame.
+// The view change that is stored with this frame.
 fn held_in<'a>(held: &'a [Option<SignedChange>], bytes: &[u8]) -> Option<&'a Change>
     ensures { option_map (λ change. change_pair change.now) result
         ≡ option_map (λ h. (h.sender, h.change)) (finding.frame_in bytes.now (held_by held.now)) }
@@ -246,7 +246,7 @@ fn held_in<'a>(held: &'a [Option<SignedChange>], bytes: &[u8]) -> Option<&'a Cha
     }
 }
 
-// The view of what is held of another replica, where it is above the target.
+// The view of another replica's stored view change, if it is above the target.
 fn later_view(signed: &Option<SignedChange>, me: ReplicaId, target: View) -> Option<View>
     ensures { option_map (λ view. view.0) result
         ≡ spec.later_view me.0 target.0 (option_map held_data signed.now) }

@@ -19,7 +19,7 @@ use std::sync::Arc;
 use terms::{NoMemory, Number, View};
 use wire::{Batch, BatchEntry, CheckpointEntry};
 
-// ---- how far the batches reach
+// ---- how far the batches go
 
 // The largest number that the entries have up to the limit.
 fn largest(entries: &[BatchEntry], limit: u64) -> u64
@@ -48,7 +48,7 @@ pub(crate) fn largest_of(set: &[Change], limit: u64) -> u64
     if below < first { first } else { below }
 }
 
-// Batches for all numbers behind the start, or none where nothing may stand at one of them.
+// Batches for all numbers after the start; None if no batch may stand at one of them.
 fn fill(
     alloc: Global,
     set: &[Change],
@@ -117,7 +117,7 @@ fn start_in(
     }
 }
 
-// The same of the checkpoints of some of the set.
+// The same over the checkpoints of the view changes in `some`.
 fn start_of(set: &[Change], sizes: Sizes, limit: u64, some: &[Change]) -> Option<CheckpointEntry>
     ensures { option_map checkpoint_entry_data result
         ≡ spec.start_of (sized sizes) (pairs set.now) limit (pairs some.now) }
@@ -177,15 +177,18 @@ fn null_batch(alloc: Global) -> Result<Arc<HashedBatch>, NoMemory>
     Ok(Arc::new(alloc, HashedBatch::new(Batch { text }))?)
 }
 
-/// The selection of the primary over view changes for the view, with the batches that it holds. The view changes are of
-/// different replicas, ascending, each within its bounds; more of them never allow less. The selection has the greatest
-/// start from which there is one, and for each number, of the batches that may stand there, one of the latest view,
-/// then one that is prepared, then that of the least digest; the null batch comes last, unless it was proposed before.
-/// It is none exactly where the rules allow nothing over these view changes, nor over any part of them.
+/// The primary's selection over view changes for the view, with the batches that it stores. The view changes are of
+/// different replicas, ascending, each within its bounds. More of them never allow less.
+///
+/// The selection has the greatest start from which there is one. For each number, of the batches that may stand there,
+/// it has one of the latest view, then a prepared one, then that of the least digest. The null batch comes last, unless
+/// it was proposed before.
+///
+/// It is None exactly if the rules allow nothing over these view changes, nor over any part of them.
 ///
 /// # Errors
 ///
-/// NoMemory where memory runs out.
+/// NoMemory if memory runs out.
 pub fn select(
     alloc: Global,
     set: &[Change],

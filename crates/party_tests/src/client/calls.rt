@@ -22,7 +22,7 @@ fn is_busy(client: &mut Client, alloc: Global) -> Result<bool, NoMemory> {
     }
 }
 
-// Replica 2's reply is the third one alike. What comes later is no reply to an open call.
+// Replica 2's reply is the third equal one. Later ones are no replies to an open call.
 fn takes_reply(client: &mut Client, alloc: Global, replica: u8) -> Result<bool, NoMemory> {
     let given = if replica == 2 {
         Given::Accepts(true)

@@ -1,4 +1,4 @@
-//! Client 0 among four replicas, of which one may be faulty, and what it gives.
+//! Client 0 among four replicas, of which one may be faulty, and its outputs.
 
 ghost use Rattle.std.specs.Prelude.{◌≡◌, false, IfSome};
 ghost use Rattle.wire.specs.Spelling.{IsBody, is_signed};
@@ -37,7 +37,7 @@ pub const RDP_ORDERED: &str = "d945accd23a840f78f80e1e466443cc5c2da8671173325e46
 
 pub const RD_ALL_READ: &str = "087e3986665aca92c9f278992055c4d77732636a057d251dfd802a008f255ea9";
 
-/// What comes to a client: a replica's reply, with the number of its state, or the time to send again.
+/// An input of a client: a replica's reply, with the number of its state, or the time to send again.
 #[derive(Clone, Copy)]
 pub enum Input {
     /// Read-only: absent.
@@ -53,7 +53,7 @@ pub enum Input {
     Retry,
 }
 
-/// What is given for it.
+/// The client's output for it.
 #[derive(Clone, Copy)]
 pub enum Given<'a> {
     Nothing,
@@ -65,7 +65,7 @@ pub enum Given<'a> {
 
 pub type Row<'a> = (Input, Given<'a>);
 
-/// It lies in a box: a function that owns all of a client takes long to prove.
+/// The client lies in a box: a function that owns all of it takes long to prove.
 pub fn new_client(alloc: Global) -> Result<Box<Client>, NoMemory> {
     let seed = seed();
     let publics = PublicKeys::new(alloc, &seed)?;
@@ -122,8 +122,8 @@ fn sealed(alloc: Global, body: &Body) -> Result<Option<Vec<u8>>, SealFault>
     Ok(Some(ring.seal(alloc, body, &[Party::Client(CLIENT)])?))
 }
 
-/// The frame of the reply that comes, if one does. The body is dropped by a call, as are frames and outputs below: at
-/// the end of a function all kinds of messages are told apart.
+/// The frame of the reply that comes, if one does. The body is dropped by a call, as are frames and outputs below: a
+/// drop at the function's end has a case for each kind of message.
 pub fn frame_in(alloc: Global, input: Input) -> Result<Option<Vec<u8>>, SealFault> {
     match reply_in(input) {
         None => Ok(None),
@@ -135,7 +135,7 @@ pub fn frame_in(alloc: Global, input: Input) -> Result<Option<Vec<u8>>, SealFaul
     }
 }
 
-/// What the client gives for a frame that comes, or else for the time to send again.
+/// The client's outputs for a frame that comes, or else for the time to send again.
 pub fn step(client: &mut Client, alloc: Global, frame: &Option<Vec<u8>>) -> Result<Outputs, Stop> {
     match frame {
         None => client.step(alloc, Event::Retry),
@@ -224,7 +224,7 @@ fn are_given(outputs: &[Output], given: Given<'_>) -> bool {
     }
 }
 
-/// Whether these outputs are as told.
+/// Whether these outputs are the expected ones.
 pub fn is_given(outputs: Outputs, given: Given<'_>) -> bool {
     let is_right = are_given(outputs.as_slice(), given);
     drop(outputs);

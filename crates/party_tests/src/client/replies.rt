@@ -10,13 +10,13 @@ use std::alloc::Global;
 use std::test::Fail;
 use terms::NoMemory;
 
-// An operation, its first request, and what comes then.
+// An operation, its first request, and the inputs after it.
 pub type Case<'a> = (&'a [u8], &'a str, &'a [Row<'a>]);
 
 /// An ordered call and a read, with the replies that end them.
 pub static REPLIES: [Case<'static>; 2] = [
-    // f + 1 replies alike are not enough, and a replica counts once. Another number, answer, mode or timestamp is not
-    // alike, and replica 4 is none of four.
+    // f + 1 equal replies are not enough, and a replica counts once. A reply with another number, answer, mode or
+    // timestamp is not equal, and replica 4 is none of four.
     (
         OUT,
         OUT_ORDERED,
@@ -33,7 +33,7 @@ pub static REPLIES: [Case<'static>; 2] = [
             (Input::OrderedDone(1, 3), Given::Nothing),
         ],
     ),
-    // The third read-only reply alike ends a read.
+    // The third equal read-only reply ends a read.
     (
         RDP,
         RDP_READ,
@@ -46,7 +46,8 @@ pub static REPLIES: [Case<'static>; 2] = [
     ),
 ];
 
-// All replicas answer, and no three alike: the read is asked for in its order, once, and ordered replies end it.
+// All replicas answer, and no three agree. The client asks for the read in its order, once, and ordered replies end
+// it.
 pub static FALL_BACK: Case<'static> = (
     RDP,
     RDP_READ,
@@ -62,7 +63,7 @@ pub static FALL_BACK: Case<'static> = (
     ],
 );
 
-// What is sent again goes ordered, and then no read falls back.
+// A request that is sent again goes ordered, and then no read falls back.
 pub static RETRIED: Case<'static> = (
     RDP,
     RDP_READ,
@@ -80,7 +81,7 @@ pub static RETRIED: Case<'static> = (
 );
 
 static CASES: [Case<'static>; 4] = [
-    // The third read-only reply alike ends a read.
+    // The third equal read-only reply ends a read.
     (
         RD_ALL,
         RD_ALL_READ,
@@ -102,8 +103,8 @@ static CASES: [Case<'static>; 4] = [
             (Input::Read(3, 5), Given::Accepts(false)),
         ],
     ),
-    // Two alike of either mode are no three; behind the ordered request a read-only reply counts on, in place of that
-    // replica's earlier one.
+    // Two equal replies of either mode are no three. After the ordered request a read-only reply still counts, in
+    // place of that replica's earlier one.
     (
         RDP,
         RDP_READ,

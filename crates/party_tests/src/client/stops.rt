@@ -1,5 +1,5 @@
-//! Memory refused to a client. In a plain run nothing is refused here; `tools/growths` refuses each growth in turn, and
-//! each test passes at each: where memory runs out the client has stopped, and it gives nothing from then on.
+//! Memory refused to a client. In a plain run nothing is refused here. `tools/growths` refuses each growth in turn,
+//! and each test passes at each: if memory runs out the client has stopped, and it gives nothing from then on.
 
 use crate::answers::{all_hold, holds};
 use crate::client::clients::{
@@ -27,7 +27,7 @@ static ASKED_AGAIN: Case<'static> = (
     ],
 );
 
-// What prepares a step is tried a second time where memory runs out.
+// The preparation of a step is tried a second time if memory runs out.
 fn made(alloc: Global) -> Result<Box<Client>, NoMemory> {
     match new_client(alloc) {
         Ok(client) => Ok(client),
@@ -48,7 +48,7 @@ fn gives_nothing_more(client: &mut Client, alloc: Global) -> bool {
         && client.step(alloc, Event::Got(b"")).err() == Some(Stop::Stopped)
 }
 
-// None, where the client has stopped.
+// None if the client has stopped.
 fn ends(client: &mut Client, alloc: Global) -> Option<bool> {
     if gives_nothing_more(client, alloc) {
         None
@@ -70,7 +70,7 @@ fn calls_or_stops(
     }
 }
 
-// Whether the call asks for its operation; none, where the client stops in it.
+// Whether the call asks for its operation; none if the client stops in it.
 fn asks_or_stops(client: &mut Client, alloc: Global, (text, digits, _): Case<'_>) -> Option<bool> {
     match read_op(alloc, text) {
         Some(op) => calls_or_stops(client, alloc, op, digits),
@@ -91,7 +91,7 @@ fn steps_or_stops(
     }
 }
 
-// Whether the input gives this; none, where the client stops in it.
+// Whether the input gives this; none if the client stops in it.
 fn gives_or_stops(client: &mut Client, alloc: Global, (input, given): Row<'_>) -> Option<bool> {
     match reply(alloc, input) {
         Ok(frame) => {
@@ -103,7 +103,7 @@ fn gives_or_stops(client: &mut Client, alloc: Global, (input, given): Row<'_>) -
     }
 }
 
-// Whether each input gives what it gives, up to where the client stops.
+// Whether each input gives the expected output, up to one in which the client stops.
 fn gives_all_or_stops(client: &mut Client, alloc: Global, rows: &[Row<'_>]) -> bool {
     for row in rows {
         match gives_or_stops(client, alloc, *row) {
@@ -115,7 +115,7 @@ fn gives_all_or_stops(client: &mut Client, alloc: Global, rows: &[Row<'_>]) -> b
     true
 }
 
-// The same of the call and each input behind it.
+// The same, of the call and each input after it.
 fn goes_on_or_stops(client: &mut Client, alloc: Global, case: Case<'_>) -> bool {
     match asks_or_stops(client, alloc, case) {
         Some(true) => gives_all_or_stops(client, alloc, case.2),

@@ -1,4 +1,4 @@
-//! Endpoints of four replicas, of which one may be faulty, and what they post.
+//! Endpoints of four replicas, of which one may be faulty, and their frames.
 
 ghost use Rattle.std.specs.Prelude.{◌≡◌, ◌≤◌, true, false};
 ghost use Rattle.wire.specs.Spelling.{IsMessage, is_signed};
@@ -40,7 +40,7 @@ fn sent(alloc: Global, output: Output) -> Vec<u8> {
     }
 }
 
-// The frame of a message for all other replicas; an empty one where it is too long.
+// The frame of a message for all other replicas, or an empty one if it is too long.
 pub fn frame_for_others(
     endpoint: &mut Endpoint,
     alloc: Global,
@@ -75,7 +75,7 @@ pub fn signed(endpoint: &mut Endpoint, alloc: Global) -> Result<Vec<u8>, PostFau
     endpoint.sign(alloc, view_change(alloc))
 }
 
-// What a test that wants a frame comes to without one.
+// The answer of a test that lacks the frame it needs.
 pub fn without_frame(fault: PostFault) -> Result<bool, NoMemory> {
     match fault {
         PostFault::NoMemory => Err(NoMemory),

@@ -1,4 +1,4 @@
-//! What the replicas hear of a prepare that replica 0 posts, and of its view change.
+//! Whether the replicas hear a prepare that replica 0 posts, and its view change.
 
 use crate::answers::{all_hold, holds};
 use crate::endpoint::endpoints::{DIGEST, frame_for_others, new_endpoint, signed, without_frame};
@@ -8,10 +8,10 @@ use std::test::Fail;
 use terms::{NoMemory, Number, View};
 use wire::{Body, Message};
 
-// Who hears, which byte of the frame is another one, where one is, and whether the replica hears the prepare.
+// The hearer, the changed byte of the frame, if any, and whether the hearer hears the prepare.
 type Row = (u8, Option<usize>, bool);
 
-// The body stands at 4 to 54, the MACs for replicas 1, 2 and 3 at 59, 93 and 127, each behind its receiver.
+// The body stands at 4 to 54, the MACs for replicas 1, 2 and 3 at 59, 93 and 127, each after its receiver.
 static ROWS: [Row; 12] = [
     (1, None, true),
     (2, None, true),
@@ -41,7 +41,7 @@ fn is_prepare(body: &Body) -> bool {
 }
 
 fn hears_prepare(endpoint: &mut Endpoint, alloc: Global, bytes: &[u8]) -> Result<bool, NoMemory> {
-    // Dropped by a call: at the end of a function all kinds of messages are told apart.
+    // Dropped by a call: a drop at the function's end has a case for each kind of message.
     let heard = endpoint.hear(alloc, bytes)?;
     let is_right = matches!(&heard, Some(body) if is_prepare(body));
     drop(heard);
@@ -125,8 +125,8 @@ fn drops_changed(
     dropped
 }
 
-// Whether another replica hears it, but not its sender, nor anyone if a byte of the body or of the signature is another
-// one.
+// Whether another replica hears it, but not its sender, nor anyone if a byte of the body or of the signature is
+// changed.
 fn is_heard_whole(
     sender: &mut Endpoint,
     other: &mut Endpoint,

@@ -1,5 +1,5 @@
-//! What replica 0 posts. The SHA-256 of each frame comes from Python's hashlib and hmac, by docs/formats.md, under the
-//! seed 00 01 .. 1f.
+//! The frames that replica 0 posts. The SHA-256 of each frame comes from Python's hashlib and hmac, by
+//! docs/formats.md, under the seed 00 01 .. 1f.
 
 ghost use Rattle.std.specs.Prelude.{◌≡◌, false};
 ghost use Rattle.wire.specs.Spelling.{IsMessage, is_signed};
@@ -61,14 +61,14 @@ fn is_sent(output: &Output, receivers: &[u16], digits: &str) -> bool {
     }
 }
 
-// An output is dropped by a call: at the end of a function all kinds of outputs are told apart.
+// An output is dropped by a call: a drop at the function's end has a case for each kind of output.
 fn is_sent_once(output: Output, receivers: &[u16], digits: &str) -> bool {
     let is_right = is_sent(&output, receivers, digits);
     drop(output);
     is_right
 }
 
-// Whether what is posted goes to these parties by these bytes.
+// Whether the posted frame goes to these parties and has these bytes.
 fn is_posted(
     posted: Result<Output, SealFault>,
     receivers: &[u16],
@@ -215,7 +215,7 @@ fn a_reply(rt: HostRuntime) -> Result<(), Fail> {
     ]))
 }
 
-// A frame has at most 4,194,304 bytes: here those of the text, 17 before it and 104 behind it.
+// A frame has at most 4,194,304 bytes: here those of the text, 17 before it and 104 after it.
 fn refuses_page(endpoint: &mut Endpoint, alloc: Global) -> Result<bool, NoMemory> {
     let page = page_message(Number(16), 0, vec![in alloc; 0; 4_194_184]?);
     match endpoint.post_to_others(alloc, page) {
@@ -312,7 +312,7 @@ fn each_signed_message_spends_a_key(rt: HostRuntime) -> Result<(), Fail> {
     holds(new_endpoint_spends_all(rt.alloc()))
 }
 
-// What goes out with the first commit of replica 0, at the second try where memory ran out at the first one.
+// The output for the first commit of replica 0, at the second try if memory ran out at the first one.
 fn commit_output(endpoint: &mut Endpoint, alloc: Global) -> Result<Output, SealFault> {
     match endpoint.post_to_others(alloc, first_commit()) {
         Err(SealFault::NoMemory) => endpoint.post_to_others(alloc, first_commit()),

@@ -54,8 +54,8 @@ fn sealed(alloc: Global, body: &Body) -> Result<Vec<u8>, SealFault>
     frame
 }
 
-// The request's frame for the four replicas. The body is dropped by a call: at the end of a function all kinds of
-// messages are told apart.
+// The request's frame for the four replicas. The body is dropped by a call: a drop at the function's end has a case
+// for each kind of message.
 fn request_frame(alloc: Global) -> Result<Vec<u8>, SealFault> {
     match request(alloc) {
         Ok(body) => {
@@ -75,7 +75,7 @@ fn batch_of(alloc: Global, frame: Vec<u8>) -> Result<Batch, NoMemory>
     Batch::of(alloc, &[frame])
 }
 
-// What a test that wants a frame comes to without one.
+// The answer of a test that lacks the frame it needs.
 fn without_frame(fault: SealFault) -> Result<bool, NoMemory> {
     match fault {
         SealFault::NoMemory => Err(NoMemory),
@@ -134,9 +134,9 @@ fn takes_batch(endpoint: &mut Endpoint, alloc: Global, frame: Vec<u8>) -> Result
 {
     match batch_of(alloc, frame) {
         Ok(batch) => {
-            let is_genuine = endpoint.are_genuine(alloc, &batch);
+            let is_genuine = endpoint.are_genuine(&batch);
             drop(batch);
-            is_genuine
+            Ok(is_genuine)
         }
         Err(NoMemory) => Err(NoMemory),
     }
@@ -158,7 +158,7 @@ fn change(frame: &mut [u8], turned: u8) {
     }
 }
 
-// Whether the replica takes the request as genuine where these bits are turned, or not, as told.
+// Whether the replica's judgement of the request, with these bits turned, is the expected one.
 fn judges(
     endpoint: &mut Endpoint,
     alloc: Global,

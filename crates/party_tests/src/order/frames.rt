@@ -1,4 +1,4 @@
-//! Frames of bytes, written without what reads them.
+//! Frames of bytes, written without the code that reads them.
 
 use std::alloc::{AllocError, Global};
 use test_bytes::{Reply, client_party, reply_body, request_body, sealed};
@@ -15,8 +15,8 @@ pub const FOUND_1: &[u8] = b"\x32\x01\x01\0\0\0\0\0\0\0\x01";
 /// The client of a request, its timestamp, its mode and its operation.
 pub type Request<'a> = (u8, u64, u8, &'a [u8]);
 
-// The frame of a client's request, with a MAC for replica 0. Bytes are dropped by a call: what is owned at the end of a
-// function makes its proof long.
+// The frame of a client's request, with a MAC for replica 0. Bytes are dropped by a call: values owned at a
+// function's end make its proof long.
 fn request_frame(
     alloc: Global,
     (client, timestamp, mode, op): Request<'_>,

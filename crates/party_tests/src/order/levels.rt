@@ -9,8 +9,8 @@ use test_bytes::{ABSENT, DONE, ORDERED, READ, READ_ONLY, TAKE};
 // The greatest number of a batch.
 const LAST: u64 = (1 << 48) - 1;
 
-// Replica 3 is faulty, so that it doesn't count, and two of the others make a level. It tells of a last batch. Replica
-// 1 installs a state in place of executing number 1.
+// Replica 3 is faulty, so it doesn't count, and two of the others make a level. It reports a last batch. Replica 1
+// installs a state in place of executing number 1.
 static FAULTY_RUN: [Step<'static>; 3] = [
     Step::Execute(&[3, 0], 1, &[(0, 1, ORDERED, OUT_1)]),
     Step::Execute(&[3], LAST, &[(2, 1, ORDERED, TAKE)]),

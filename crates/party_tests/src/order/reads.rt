@@ -6,7 +6,7 @@ use crate::order::traces::{Row, Step, has_points};
 use std::test::Fail;
 use test_bytes::{ABSENT, DONE, ORDERED, READ, READ_ONLY};
 
-// Clients 0 and 1 read the state behind a write that comes after their calls, and 1 accepts first.
+// Clients 0 and 1 read the state after a write that comes later than their calls, and client 1 accepts first.
 static EARLY_RUN: [Step<'static>; 7] = [
     Step::Invoke(0, 1, READ),
     Step::Invoke(1, 1, READ),

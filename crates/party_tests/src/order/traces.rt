@@ -9,7 +9,7 @@ use terms::{ClientId, NoMemory, Number, Party, ReplicaId, Timestamp};
 use test_bytes::{FRAME_SEED, Reply};
 use tuple_codec::{decode_op, decode_result};
 
-/// What happens next in a trace. One function puts the entries of every test, so that each test is a table.
+/// The next entry of a trace. One function puts the entries of every test, so each test is a table.
 #[derive(Clone, Copy)]
 pub enum Step<'a> {
     /// A client calls, with this timestamp, the operation of these bytes.
@@ -217,7 +217,7 @@ fn finds_in_world(
     }
 }
 
-/// Whether these are the points of the trace of these steps, in this order, where these replicas are faulty.
+/// Whether these are the points of the trace of these steps, in this order, if these replicas are faulty.
 pub fn has_points(
     alloc: Global,
     faulty_replicas: &[u16],

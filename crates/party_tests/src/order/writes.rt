@@ -8,7 +8,7 @@ use std::test::Fail;
 use terms::NoMemory;
 use test_bytes::{ABSENT, DONE, ORDERED, READ, READ_ONLY, TAKE};
 
-// A write, an accepted answer to it, and two reads: one of the state behind it, and then one of the state before it.
+// A write, an accepted answer to it, and two reads: one of the state after it, and then one of the state before it.
 static WRITE_RUN: [Step<'static>; 10] = [
     Step::Invoke(0, 1, OUT_1),
     Step::Execute(&[0, 1, 2], 1, &[(0, 1, ORDERED, OUT_1)]),
@@ -33,7 +33,7 @@ fn a_write_and_two_reads(rt: HostRuntime) -> Result<(), Fail> {
     holds(has_points(rt.alloc(), &[], &WRITE_RUN, &WRITE_AND_READS))
 }
 
-// At the second try where memory ran out at the first one.
+// At the second try if memory ran out at the first one.
 fn has_points_again(alloc: Global) -> Result<bool, NoMemory> {
     match has_points(alloc, &[], &WRITE_RUN, &WRITE_AND_READS) {
         Err(NoMemory) => has_points(alloc, &[], &WRITE_RUN, &WRITE_AND_READS),

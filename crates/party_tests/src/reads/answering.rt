@@ -1,4 +1,4 @@
-//! What reads of a space with the tuples ("k") and (true) come to.
+//! The answers to reads of a space with the tuples ("k") and (true).
 
 use crate::answers::{holds, spells_answer};
 use bumpalo::Bump;
@@ -34,7 +34,7 @@ fn put_all(alloc: Global, space: &mut Space) -> Result<(), NoMemory> {
     Ok(())
 }
 
-// Operations and answers are dropped by a call: at the end of a function all kinds of them are told apart.
+// Operations and answers are dropped by a call: a drop at the function's end has a case for each kind of them.
 fn put(alloc: Global, space: &mut Space, bytes: &[u8]) -> Result<(), NoMemory> {
     match read_op(alloc, bytes) {
         Some(op) => {
@@ -59,7 +59,7 @@ fn apply(space: &mut Space, op: &Op<Global>) -> Result<(), NoMemory> {
     }
 }
 
-/// Answers the operation of these bytes to client 1, with the timestamp 9, where they are one.
+/// Answers the operation of these bytes to client 1, with the timestamp 9, if they spell one.
 pub fn read(
     alloc: Global,
     space: &Space,
@@ -97,7 +97,7 @@ fn is_to_request(reply: &Reply) -> bool {
         && reply.number.0 == NUMBER.0
 }
 
-// An operation and its answer, in bytes; none where it is refused.
+// An operation and its answer, in bytes, or none if it is refused.
 type Row<'a> = (&'a [u8], Option<&'a [u8]>);
 
 static ROWS: [Row<'static>; 9] = [

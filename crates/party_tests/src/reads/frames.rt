@@ -4,8 +4,8 @@ use authenticator::Ring;
 use std::alloc::Global;
 use test_bytes::seed;
 
-/// The read-only request `rdp (*)` of client 1 with the timestamp 9, sealed for replicas 0 and 1 under the seed
-/// 00 01 .. 1f. The body stands at 4 to 18, and its MACs at 23 and at 57, each behind its receiver. They are Python's
+/// The read-only request `rdp (*)` of client 1 with the timestamp 9, sealed for replicas 0 and 1 under the seed 00 01
+/// .. 1f. The body stands at 4 to 18, and its MACs at 23 and at 57, each after its receiver. They are Python's
 /// hmac(hmac(seed, 4d || 0101 || be16 replica), body).
 pub static FRAME: [u8; 89] = [
     0x00, 0x00, 0x00, 0x0f, 0x41, 0x01, 0x01, 0x00, 0x00, 0x00, 0x00, 0x00, 0x00, 0x00, 0x09, 0x01,

@@ -1,11 +1,11 @@
-//! What the replicas hear of a read-only request.
+//! Whether the replicas hear a read-only request.
 
 use crate::reads::frames::{FRAME, new_ring};
 use read_only::{asks_read, hear_read};
 use std::alloc::Global;
 use terms::ReplicaId;
 
-// Who hears, which byte of the frame has its lowest bit turned, where one has, and whether the replica hears the read.
+// The hearer, the byte of the frame whose lowest bit is turned, if any, and whether the hearer hears the read.
 type Row = (u8, Option<usize>, bool);
 
 // rdp (*)
@@ -60,7 +60,7 @@ fn reads_are_heard(rt: HostRuntime) {
     }
 }
 
-// Client 1 takes no part where there is one client.
+// Client 1 takes no part if there is one client.
 #[test]
 fn reads_of_no_client(rt: HostRuntime) {
     assert!(rt; !hears(rt.alloc(), 1, 0, FRAME.as_slice()));

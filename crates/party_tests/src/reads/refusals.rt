@@ -1,4 +1,4 @@
-//! Reads that memory is refused to, and what is left in the arena.
+//! Reads that memory is refused to, and the memory left in the arena.
 
 use crate::answers::holds;
 use crate::reads::answering::{new_space, read, says};
@@ -32,7 +32,7 @@ fn meagre(alloc: Global, left: usize) -> Result<Bump, AllocError> {
     Ok(arena)
 }
 
-// Whether nothing is found in the arena, or memory runs out in it; none where neither is so.
+// Whether nothing is found in the arena, or memory runs out in it; none if neither is so.
 fn finds_nothing(alloc: Global, space: &Space, arena: &mut Bump) -> Option<bool> {
     let answered = read(alloc, space, ABSENT, arena);
     let found = match &answered {
@@ -52,8 +52,8 @@ fn finds_nothing_in(alloc: Global, space: &Space, left: usize) -> Result<Option<
     Ok(found)
 }
 
-// The least number of bytes of an arena in which nothing is found, where with any less it says that memory ran out: so
-// each growth of the operation was refused once.
+// The least number of bytes of an arena in which nothing is found. With any fewer the read says that memory ran out,
+// so each growth of the operation was refused once.
 fn least_arena(alloc: Global, space: &Space) -> Result<Option<usize>, AllocError> {
     for left in 0..AMPLE {
         match finds_nothing_in(alloc, space, left)? {
@@ -105,7 +105,7 @@ fn is_refused_in_space(alloc: Global) -> Result<bool, NoMemory> {
     is_right
 }
 
-// What is no read is refused as such where there is no memory.
+// An operation that is no read is refused as such even if there is no memory.
 #[test]
 fn refused_without_memory(rt: HostRuntime) -> Result<(), Fail> {
     holds(is_refused_in_space(rt.alloc()))
@@ -115,7 +115,7 @@ fn room(arena: &Bump) -> (usize, usize) {
     (arena.allocated_bytes(), arena.chunk_capacity())
 }
 
-// Whether the arena has this room behind the read, and nothing in it is kept.
+// Whether the arena has this room after the read, and keeps nothing.
 fn leaves_room(
     alloc: Global,
     space: &Space,
@@ -129,7 +129,7 @@ fn leaves_room(
     is_right
 }
 
-// As much room behind each read as before the first one.
+// As much room after each read as before the first one.
 fn leaves_all_room(alloc: Global, space: &Space, arena: &mut Bump) -> bool {
     let before = room(arena);
     leaves_room(alloc, space, arena, ABSENT, before)
@@ -156,7 +156,7 @@ fn the_arena_is_empty_again(rt: HostRuntime) -> Result<(), Fail> {
     holds(leaves_an_arena_in_space(rt.alloc()))
 }
 
-// Whether both tuples are read, at the second try where memory ran out at the first one.
+// Whether both tuples are read, at the second try if memory ran out at the first one.
 fn reads_both(alloc: Global, space: &Space, arena: &mut Bump) -> bool {
     match read_once(alloc, space, arena) {
         None => read_once(alloc, space, arena) == Some(true),
@@ -164,7 +164,7 @@ fn reads_both(alloc: Global, space: &Space, arena: &mut Bump) -> bool {
     }
 }
 
-// Whether both are read, or None where memory ran out.
+// Whether both are read, or None if memory ran out.
 fn read_once(alloc: Global, space: &Space, arena: &mut Bump) -> Option<bool> {
     let answered = read(alloc, space, ALL, arena);
     let said = match &answered {
@@ -197,8 +197,8 @@ fn reads_both_in_space(alloc: Global) -> Result<bool, NoMemory> {
     Ok(is_right)
 }
 
-// In a plain run nothing is refused here. `tools/growths` refuses the growth of number N: where that
-// is one of the read's, of the arena or of the reply, this test passes.
+// In a plain run nothing is refused here. `tools/growths` refuses the growth of number N. This test passes if that is
+// one of the read's, of the arena or of the reply.
 #[test]
 fn growths_in_ordinary_memory(rt: HostRuntime) -> Result<(), Fail> {
     holds(reads_both_in_space(rt.alloc()))

@@ -1,7 +1,7 @@
 //! Bytes for tests, written without the crates that are tested.
 
 /// The text of a batch of two requests: `out (1)` of client 0 with timestamp 1, and `out (2)` of client 1 with
-/// timestamp 2. Each stands behind the length of its frame, which has a MAC for the receiver 0 behind the body.
+/// timestamp 2. Each stands after the length of its frame, which has a MAC for the receiver 0 after the body.
 pub static BATCH_OF_TWO: [u8; 135] = [
     // How many there are.
     0x02,

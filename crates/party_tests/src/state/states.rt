@@ -59,7 +59,7 @@ static ROOT_OF_LAST_CLIENT: Digest = [
     0x4f, 0x9f, 0xa8, 0xa0, 0x32, 0x9d, 0x1f, 0xe1, 0x89, 0x1d, 0xb3, 0x72, 0x93, 0x9c, 0xe4, 0x7a,
 ];
 
-// Sets these pages, and then the one that is changed, where one is.
+// Sets these pages, and then the changed one, if any.
 fn set_all(tree: &mut Tree, texts: &[Text], changed: Option<Text>) -> Result<(), NoMemory> {
     for text in texts {
         set(tree, *text)?;
@@ -78,7 +78,7 @@ fn set(tree: &mut Tree, (page, text): Text) -> Result<(), NoMemory> {
     }
 }
 
-// Whether these pages, with one of them changed, where one is, are installed as those of this number.
+// Whether these pages, with one of them changed, if any, are installed as those of this number.
 fn installs_pages(
     executed: &mut Executed,
     alloc: Global,
@@ -316,13 +316,13 @@ fn lower_ones_are_refused(alloc: Global) -> Result<bool, NoMemory> {
     answer
 }
 
-// States in which a client's last timestamp is lower change nothing, whatever their numbers.
+// States in which a client's last timestamp is lower change nothing, whatever their numbers are.
 #[test]
 fn no_timestamp_falls(rt: HostRuntime) -> Result<(), Fail> {
     holds(lower_ones_are_refused(rt.alloc()))
 }
 
-// A number, and which page of those after one batch is another one, where one is.
+// A number, and the changed page of those after one batch, if any.
 static WRONG: [(u64, Option<Text>); 13] = [
     // The numbers of other states.
     (0, None),
@@ -341,7 +341,7 @@ static WRONG: [(u64, Option<Text>); 13] = [
     (1, Some((512, b""))),
     (1, Some((512, b"\x02\0\0\0\0\0\0\0\x01\0\0\0\0\0\0\0\x02"))),
     (1, Some((512, b"\x01\0\0\0\0\0\0\0\x01\0\0\0\0\0\0\0\x01"))),
-    // Texts behind the header.
+    // Texts after the header.
     (1, Some((513, b"\0"))),
     (1, Some((800, b"\x01"))),
     (1, Some((1023, b"1"))),
@@ -392,7 +392,7 @@ fn pages_are_lent(rt: HostRuntime) -> Result<(), Fail> {
     holds(new_pages_are_lent(rt.alloc()))
 }
 
-// Whether the pages after one batch are installed in a new state, at the second try where memory ran out at the first
+// Whether the pages after one batch are installed in a new state, at the second try if memory ran out at the first
 // one, which changed nothing.
 fn installs_again(executed: &mut Executed, alloc: Global) -> Result<bool, NoMemory> {
     match installs(executed, alloc, 1, None) {
@@ -407,7 +407,7 @@ fn installs_again(executed: &mut Executed, alloc: Global) -> Result<bool, NoMemo
     }
 }
 
-// The same at the second try where memory ran out at the first one.
+// The same, at the second try if memory ran out at the first one.
 fn is_after_one_again(executed: &mut Executed) -> Result<bool, NoMemory> {
     match is_after_one(executed) {
         Ok(true) => Ok(true),

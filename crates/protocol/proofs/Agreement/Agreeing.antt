@@ -19,7 +19,7 @@ use Rattle.protocol.proofs.Words.Linking.{Speaks}
 use Rattle.protocol.proofs.Agreement.Voting.{RightAt, primary_votes_not, right_always, once_right, Brings, brought_was_said, Logs, voter_logs, logs_agree}
 use Rattle.protocol.proofs.Agreement.Offers.{offer_from, offer_in, offered, proposal_offer, offers_kept}
 
--- what an entry shows of some value it shows of one
+-- some value with Q has P at some entry, if an entry has P of a value with Q
 pub once_some : {A : Type 0} (P : A → List Entry → Entry → Type 0) (Q : A → Type 0) (xs : List Entry) → Once (λ past e. (x : A) × P x past e × Q x) xs
     → (x : A) × Once (P x) xs × Q x
 once_some P Q [] h = absurd h
@@ -35,7 +35,7 @@ speaks_offer v i batch body is past (Executed x y z) h = absurd h
 speaks_offer v i batch body is past (Installed x y z) h = absurd h
 speaks_offer v i batch body is past (Accepted x y z) h = absurd h
 
--- what a right replica logs, a correct primary of the view offered
+-- a correct primary of the view offered the batch that a right replica logs
 pub logged_was_offered : (c : Configuration) (trace : List Entry) (p v i : ℕ) (batch : List ℕ) → AreReplicasSafe c trace → Unforged c trace
     → is_correct_replica c p ≡ true → is_correct_replica c (primary c v) ≡ true
     → logged c p (history_of p trace) v i ≡ Some batch → offered v i (history_of (primary c v) trace) ≡ Some batch

@@ -1,4 +1,4 @@
--- The requests of what is logged were got, genuine to a correct replica.
+-- Correct replicas received the requests of logged batches, authentic to themselves.
 use Rattle.std.proofs.Common.{◌≡◌, ℕ, zero, suc, ◌+◌, ◌-◌, ◌*◌, ◌≤◌, ◌<◌, ◌⊎◌, inl, inr, Bool, true, false, cond, List, [], ◌∷◌, slice_get, refl, sym, ◌∙◌, subst, arith, ◌&&◌, Some, None, bytes_eq, is_some}
 use Rattle.std.specs.Prelude.{◌==◌, nat_lt, nat_le, option_and_then}
 use Rattle.std.proofs.lemmas.Bool.{and_parts, or_cases, leb-true, ltb-true}
@@ -36,7 +36,7 @@ use Rattle.protocol.specs.Replica.Certificates.{batch_from}
 use Rattle.protocol.proofs.Words.Elements.{every_has, some_of_has, each_has}
 use Rattle.wire.specs.Lists.{Each}
 
--- a correct replica got the frame, genuine to itself, alone or carried
+-- a correct replica received the frame, authentic to itself, alone or carried
 unfoldable pub AsksFrame : Configuration → List ℕ → List Entry → Entry → Type 0
 AsksFrame c frame past (Got p bytes) = (is_correct_replica c p ≡ true) × (is_some (heard (members c) p frame) ≡ true) × Has (λ x. x ≡ frame) (frames_in bytes)
 AsksFrame c frame past _ = ⊥
@@ -67,7 +67,7 @@ call_client c frame call body h is =
         go false y e h = absurd cc
     client sender _ h = absurd cc
 
--- what a correct replica has seen of a client's frames, a correct replica got
+-- a correct replica received each client's frame that a correct replica has seen
 seen_asked : (c : Configuration) → IsConfiguration c → (r : ℕ) → is_correct_replica c r ≡ true → (frame : List ℕ) (call : Call) → call_of c frame ≡ Some call → is_some (heard (members c) r frame) ≡ true
     → (xs : List Entry) → Always (RightAt c r) xs → Once (HasSeen frame) xs → Once (AsksFrame c frame) xs
 unfolding AsksFrame
@@ -94,7 +94,7 @@ seen_asked c setting r correct frame call is genuine (Executed x y z ∷ past) r
 seen_asked c setting r correct frame call is genuine (Installed x y z ∷ past) right (inl h) = absurd h
 seen_asked c setting r correct frame call is genuine (Accepted x y z ∷ past) right (inl h) = absurd h
 
--- each call of the batch was got, genuine to a correct replica
+-- a correct replica received each call of the batch, authentic to itself
 abbrev pub Asked : Configuration → List Entry → List ℕ → Type 0
 Asked c trace batch = (frame : List ℕ) (call : Call) → Has (λ x. x ≡ frame) (requests_of batch) → call_of c frame ≡ Some call → Once (AsksFrame c frame) trace
 
@@ -249,7 +249,7 @@ module _ (c : Configuration) (setting : IsConfiguration c) (trace : List Entry) 
   asked_below zero v l = absurd (omega arith)
   asked_below (suc k) v l = asked_at v (λ u m. let n : u < k = omega arith in asked_below k u n)
 
-  -- the calls of what a correct replica logs were got, genuine to a correct replica
+  -- a correct replica received the calls of each batch that a correct replica logs, authentic to itself
   pub all_asked : (v r i : ℕ) (a : List ℕ) → is_correct_replica c r ≡ true → logged c r (history_of r trace) v i ≡ Some a → Asked c trace a
   unfolding AskedIn
   all_asked v r i a correct h = let l : v < suc v = omega arith in asked_below (suc v) v l r i a correct h

@@ -46,7 +46,7 @@ none_begins c setting trace right unforged none p new correct begins = none sign
     sends past (Installed x y z) h = absurd h.1
     sends past (Accepted x y z) h = absurd h.1
 
--- a view is left only where a new view is taken
+-- a replica leaves a view only if it takes a new view
 not_left : (c : Configuration) (xs : List Entry) → ((new : NewViewData) → Once (Takes c new) xs → ⊥) → view c xs ≡ 0
 unfolding view
 not_left c [] never = refl

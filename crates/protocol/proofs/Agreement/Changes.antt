@@ -1,4 +1,4 @@
--- What the view change of a right replica says of what it had prepared and logged.
+-- A right replica's view change says what it had prepared and logged.
 use Rattle.std.proofs.Common.{◌≡◌, ℕ, ◌+◌, ◌≤◌, ◌<◌, ◌⊎◌, inl, inr, Bool, true, false, cond, List, [], ◌∷◌, Some, None, refl, sym, ap, ◌∙◌, subst, arith, ◌&&◌, ltb-true}
 use Rattle.std.specs.Prelude.{option_and_then, ◌==◌, nat_lt, nat_le, ◌^◌}
 use Rattle.std.specs.Option.{option_map_or}
@@ -130,7 +130,7 @@ pledge c s v i d vc xs commits changes above = go (once_order (NewChangeAt c s v
     go (inr (inr h)) = once_weaker (λ past e. NewChangeAt c s vc past e × CommitsAt c s v i d past e) (λ past e. Pledges c s v i d vc past)
         (λ past e t. absurd (not_both s v i d vc past e t.1.1 t.0.says)) xs h
 
--- ---- what is logged is within the marks, or below them later
+-- ---- logged numbers are within the marks, or below them later
 
 marks_within : (c : Configuration) (h i : ℕ) → is_in_marks c h i ≡ true → (i ≤ h + span c) × (i < 2 ^ 48)
 marks_within c h i m =
@@ -160,7 +160,7 @@ logged_within c me v i batch xs right h =
     (λ past e t. proposal_within c me v i batch past e t.0 t.1) xs
     (once_always (RightAt c me) (λ past e. proposal c me past e v i ≡ Some batch) xs right (given_once (λ earlier e. proposal c me earlier e v i) batch xs h)))
 
--- ---- what the view change says, as the whole history has it
+-- ---- the contents of the view change, by the whole history
 
 pub record Listed (c : Configuration) (s v i : ℕ) (batch_entry : BatchEntry) (past : List Entry) : Type 0 where
   pub batch : List ℕ

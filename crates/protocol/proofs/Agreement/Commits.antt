@@ -1,4 +1,4 @@
--- From the commits that a replica counts to what the committers had prepared.
+-- From the commits that a replica counts to the batches that the committers had prepared.
 use Rattle.std.proofs.Common.{◌≡◌, ℕ, true, List, [], ◌∷◌, ◌++◌, Option, Some, None, refl, sym, ap, ◌∙◌, subst, arith, ◌&&◌, eqb-true}
 use Rattle.std.specs.Prelude.{◌==◌}
 use Rattle.std.proofs.lemmas.Bool.{and_parts}
@@ -38,7 +38,7 @@ commit_source c me s v i d past e h =
     let r = vote_brought c me v i d (commit_from s v i) past e h in
     r.1 ∙ ap Some (commit_is s v i d r.0.sender r.0.message r.2)
 
--- ---- prepared stays
+-- ---- prepared batches stay prepared
 
 pub digest_stays : (d : List ℕ) (o o' : Option (List ℕ)) → ((x : List ℕ) → o ≡ Some x → o' ≡ Some x) → has_digest d o ≡ true → has_digest d o' ≡ true
 digest_stays d None o' f h = absurd cc
@@ -60,7 +60,7 @@ pub prepared_remains : (c : Configuration) (me v i : ℕ) (batch : List ℕ) (la
 prepared_remains c me v i batch [] past h = h
 prepared_remains c me v i batch (e ∷ later) past h = prepared_stays c me v i batch e (later ++ past) (prepared_remains c me v i batch later past h)
 
--- ---- a commit that is counted was of what was prepared
+-- ---- a counted commit is for a batch that its sender had prepared
 
 pub record Commits (c : Configuration) (me v i : ℕ) (d : List ℕ) (past : List Entry) : Type 0 where
   pub active : is_active_in c past v ≡ true

@@ -36,7 +36,7 @@ pub committed_remains : (c : Configuration) (me v i : ℕ) (a : List ℕ) (later
 committed_remains c me v i a [] past h = h
 committed_remains c me v i a (e ∷ later) past h = committed_later c me v i a e (later ++ past) (committed_remains c me v i a later past h)
 
--- ---- what is executed is committed
+-- ---- executed batches are committed
 
 pub record Ready (c : Configuration) (me k : ℕ) (a : List ℕ) (past : List Entry) : Type 0 where
   pub view : ℕ
@@ -54,7 +54,7 @@ executed_ready c r k a past (Sent x y) t h = absurd h
 executed_ready c r k a past (Installed x y z) t h = absurd h
 executed_ready c r k a past (Accepted x y z) t h = absurd h
 
--- who executed it
+-- a correct replica executed the batch
 pub executor : (c : Configuration) (k : ℕ) (a : List ℕ) (xs : List Entry) → Once (ExecutesBatch c k a) xs
     → (r : ℕ) × (is_correct_replica c r ≡ true) × Once (ExecutesBatch c k a) (history_of r xs)
 executor c k a xs h =

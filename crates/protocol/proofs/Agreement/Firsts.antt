@@ -1,4 +1,4 @@
--- The batches that were executed first are those that were executed.
+-- The batches that were executed first are the executed ones.
 use Rattle.std.proofs.Common.{◌≡◌, ℕ, ◌+◌, inl, inr, Bool, List, [], ◌∷◌, refl, ap, ◌∙◌, ◌&&◌, Option, Some, None, eqb-true, eq-eqb}
 use Rattle.std.specs.Prelude.{◌==◌}
 use Rattle.std.specs.Bool.{then_some}

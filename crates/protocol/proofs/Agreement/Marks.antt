@@ -1,4 +1,4 @@
--- The view and the low mark only grow, and what a taken new view does.
+-- The view and the low mark only grow; and the effects of a new view that is taken.
 use Rattle.std.proofs.Common.{◌≡◌, ℕ, zero, suc, ◌+◌, ◌-◌, ◌≤◌, ◌<◌, Bool, true, false, cond, List, [], ◌∷◌, Option, Some, None, max, length, slice_get, refl, ap, ◌∙◌, subst, arith, ◌&&◌, eqb-true}
 use Rattle.std.specs.Prelude.{◌==◌, nat_lt, nat_le, ◌^◌}
 use Rattle.std.specs.Option.{option_map_or}
@@ -59,7 +59,7 @@ takes c me past e new h =
       brought = brought;
     }
 
--- ---- what a new view says
+-- ---- the batches of a new view
 
 pub record Begins (c : Configuration) (body : Body) (new : NewViewData) : Type 0 where
   pub sender_is : body.sender ≡ primary c new.view
@@ -92,7 +92,7 @@ pub largest_of-le : (limit : ℕ) (set : List (ℕ × ViewChangeData)) → large
 largest_of-le limit [] = omega arith
 largest_of-le limit (x ∷ xs) = let a = largest_le limit x.1.prepared in let b = largest_of-le limit xs in omega arith
 
--- what is within its bounds is below 2^48
+-- numbers within bounds are below 2^48
 largest_small : (c : Configuration) (vc : ViewChangeData) (limit : ℕ) (batch_entries : List BatchEntry) → list_all (is_batch_entry_within c vc) batch_entries ≡ true → largest limit batch_entries < 2 ^ 48
 largest_small c vc limit [] h = omega arith
 largest_small c vc limit (batch_entry ∷ batch_entries) h = go (nat_le batch_entry.number limit) (largest_small c vc limit batch_entries p.1)
@@ -156,7 +156,7 @@ there [] k x h = absurd cc
 there (y ∷ ys) zero x h = omega arith
 there (y ∷ ys) (suc k) x h = let r = there ys k x h in omega arith
 
--- what a new view proposes is for its view, above its start and within its marks
+-- a new view's batches are for its view, above its start and within its marks
 pub record Proposes (c : Configuration) (v i : ℕ) (new : NewViewData) : Type 0 where
   pub view_is : new.view ≡ v
   pub above : new.start < i

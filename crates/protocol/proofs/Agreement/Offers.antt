@@ -1,5 +1,5 @@
--- What a primary offers for a number of a view, by a pre-prepare or by its new view, is one batch; and what a replica
--- logs for it a correct primary offered.
+-- A primary offers one batch for a number of a view, by a pre-prepare or by its new view. A correct primary offered
+-- each batch that a replica logs.
 use Rattle.std.proofs.Common.{◌≡◌, ℕ, ◌+◌, ◌^◌, ◌≤◌, ◌<◌, ◌⊎◌, inl, inr, Bool, true, false, cond, List, [], ◌∷◌, Option, Some, None, refl, sym, ap, ◌∙◌, subst, arith, ◌&&◌, eqb-true}
 use Rattle.std.specs.Prelude.{option_and_then, ◌==◌, nat_lt, nat_le}
 use Rattle.std.proofs.lemmas.Bool.{and_parts, and_cases, ltb-true, ltb-false, leb-false}
@@ -29,7 +29,7 @@ offer_in v i _ = None
 unfoldable pub offered : ℕ → ℕ → List Entry → Option (List ℕ)
 offered v i past = first_given (λ earlier e. offer_in v i e) past
 
--- ---- what is logged was offered
+-- ---- logged batches were offered
 
 pub record Offers (c : Configuration) (me v i : ℕ) (batch : List ℕ) (past : List Entry) (e : Entry) : Type 0 where
   pub body : Body
@@ -66,7 +66,7 @@ taken_offer c me v i past batch (Executed x y z) new h b = absurd cc
 taken_offer c me v i past batch (Installed x y z) new h b = absurd cc
 taken_offer c me v i past batch (Accepted x y z) new h b = absurd cc
 
--- what a pre-prepare gives
+-- the pre-prepare by which an entry logs a batch
 pub entry_batch : (c : Configuration) (me v i : ℕ) (batch : List ℕ) (past : List Entry) (e : Entry) → entry_proposal c me past e v i ≡ Some batch
     → (counts_at c me past e v i ≡ true) × ((body : Body) × (brought c e ≡ Some body) × (batch_from c me v i body ≡ Some batch))
 entry_batch c me v i batch past e h = go (counts_at c me past e v i) h
@@ -75,7 +75,7 @@ entry_batch c me v i batch past e h = go (counts_at c me past e v i) h
     go true h = (refl, and_then_some (batch_from c me v i) (brought c e) batch h)
     go false h = absurd cc
 
--- what is logged at an entry comes of an offer of the view's primary
+-- an entry that logs a batch brings an offer of the view's primary
 entry_offer : (c : Configuration) (me v i : ℕ) (batch : List ℕ) (past : List Entry) (e : Entry)
     → entry_proposal c me past e v i ≡ Some batch → Offers c me v i batch past e
 entry_offer c me v i batch past e h =
@@ -116,7 +116,7 @@ marks_outside c h i small m = go (and_cases (nat_lt h i && nat_le i (h + span c)
     go (inl e) = inside (and_cases (nat_lt h i) (nat_le i (h + span c)) e)
     go (inr e) = let large = ltb-false i (2 ^ 48) e in absurd (omega arith)
 
--- what an offer is
+-- an offer is new, or of a new view, or repeats an earlier one
 data IsOffer (c : Configuration) (me v i : ℕ) (batch : List ℕ) (past : List Entry) (e : Entry) : Type 0 where
   fresh : is_active_in c past v ≡ true → is_in_marks c (low c me past) i ≡ true → logged c me (e ∷ past) v i ≡ Some batch → IsOffer c me v i batch past e
   begun : (new : NewViewData) → taken c past e ≡ Some new → batch_begun v i new ≡ Some batch → IsOffer c me v i batch past e
@@ -168,7 +168,7 @@ is_offer c me v i batch past (Executed x y z) r h = absurd cc
 is_offer c me v i batch past (Installed x y z) r h = absurd cc
 is_offer c me v i batch past (Accepted x y z) r h = absurd cc
 
--- ---- what is logged is of a view that was reached
+-- ---- logged batches are of views that were reached
 
 begun_view : (c : Configuration) (me v i : ℕ) (batch : List ℕ) (past : List Entry) (e : Entry) (new : NewViewData) → taken c past e ≡ Some new → batch_begun v i new ≡ Some batch → view c (e ∷ past) ≡ v
 begun_view c me v i batch past e new t b = (takes c me past e new t).view_is ∙ (proposes c v i new batch b).view_is
@@ -184,7 +184,7 @@ sent_view c me v i past point e bytes batch sender (PrePrepare view number b) h 
     (active_view c past view say.active ∙ eqb-true view v p.0, subst (λ (x : ℕ). is_in_marks c (low c me past) x ≡ true) (eqb-true number i p.1) say.in_marks)
 sent_view c me v i past point e bytes batch sender _ h say = absurd cc
 
--- what is logged by a pre-prepare is of the view, and within the marks
+-- a batch that a pre-prepare logs is of the replica's view, and within the marks
 pub entry_within : (c : Configuration) (me v i : ℕ) (batch : List ℕ) (past : List Entry) (e : Entry) → RightAt c me past e
     → entry_proposal c me past e v i ≡ Some batch → (view c past ≡ v) × (is_in_marks c (low c me past) i ≡ true)
 entry_within c me v i batch past (Got p bytes) r h =
@@ -244,7 +244,7 @@ offered_later c me v i batch e past o = record {
     go (inl h) = inl (logged_stays c me v i batch e past h)
     go (inr h) = inr (let grows = low_grows c me e past in omega arith)
 
--- an entry's offer is the first, or it is again what was offered
+-- an entry's offer is the first, or repeats it
 offered_now : (v i : ℕ) (batch : List ℕ) (past : List Entry) (e : Entry) → offer_in v i e ≡ Some batch
     → ((b : List ℕ) → offered v i past ≡ Some b → b ≡ batch) → offered v i (e ∷ past) ≡ Some batch
 unfolding offered

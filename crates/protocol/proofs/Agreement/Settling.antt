@@ -1,4 +1,4 @@
--- What is committed stays: each later new view has it or starts at or above it.
+-- A committed batch stays: each later new view has it, or starts at or above its number.
 use Rattle.std.proofs.Common.{◌≡◌, ℕ, ◌≤◌, ◌<◌, ◌⊎◌, inl, inr, Bool, true, false, cond, List, [], ◌∷◌, Option, Some, None, refl, sym, ap, ◌∙◌, subst, arith}
 use Rattle.std.specs.Prelude.{option_and_then}
 use Rattle.sha2.specs.Sha256.{sha256}
@@ -41,7 +41,7 @@ reached c u (e ∷ past) h l = go (reached_by c u past e h) (reached c u past)
     go (inl k) below = inr (below k l)
     go (inr k) below = inl k
 
--- ---- what is logged in a settled view
+-- ---- logged batches in a settled view
 
 -- each new view of the view u that a correct replica takes has the digest at i, or starts at or above it
 abbrev pub Settled : Configuration → List Entry → ℕ → List ℕ → ℕ → Type 0
@@ -85,7 +85,7 @@ reaches_placed c trace i d u s settled correct (e ∷ past) emb right (inl h) = 
 reaches_placed c trace i d u s settled correct (e ∷ past) emb right (inr h) =
     placed_stays c s u i e past (reaches_placed c trace i d u s settled correct past (λ R k. emb R (inr k)) right.1 h)
 
--- what a correct replica logs in a settled view has the digest
+-- each batch that a correct replica logs in a settled view has the digest
 logged_settled : (c : Configuration) (trace : List Entry) (i : ℕ) (d : List ℕ) (u s : ℕ) → Settled c trace i d u → 0 < u → is_correct_replica c s ≡ true
     → (xs : List Entry) → ((R : List Entry → Entry → Type 0) → Once R xs → Once R (history_of s trace)) → Always (RightAt c s) xs
     → (b : List ℕ) → logged c s xs u i ≡ Some b → sha256 b ≡ d

@@ -1,4 +1,4 @@
--- What a correct replica signed, and stands in a new view, that replica sent.
+-- A correct replica sent the frames in a new view that it signed.
 use Rattle.std.proofs.Common.{◌≡◌, ℕ, inl, inr, Bool, true, false, cond, List, [], ◌∷◌, map, Option, Some, None, refl, sym, ap, ap₂, ◌∙◌, subst, eqb-true}
 use Rattle.std.specs.Prelude.{◌==◌, ⊤}
 use Rattle.protocol.specs.System.Configuration.{Configuration, is_correct, is_correct_replica, members}
@@ -19,7 +19,7 @@ use Rattle.protocol.proofs.Agreement.Marks.{takes, begins}
 use Rattle.protocol.proofs.Words.Elements.{each_has, has_left}
 use Rattle.wire.specs.Lists.{Each}
 
--- ---- what was seen was said
+-- ---- signed frames that were seen were sent
 
 abbrev pub SaidIfSigned : Configuration → List Entry → List ℕ → Type 0
 SaidIfSigned c trace bytes = (body : Body) → signed_body (members c) bytes ≡ Some body → is_correct_replica c body.sender ≡ true → Once (Speaks body) (history_of body.sender trace)
@@ -123,7 +123,7 @@ taken_seen c new bytes h past e t = go e (takes c 0 past e new t).brought
     go (Installed x y z) b = absurd cc
     go (Accepted x y z) b = absurd cc
 
--- the view change of a correct replica that stands in a taken new view was sent by it
+-- a correct replica sent its view change that stands in a taken new view
 pub change_was_said : (c : Configuration) (trace : List Entry) (q s : ℕ) (new : NewViewData) (vc : ViewChangeData) → AreReplicasSafe c trace → Unforged c trace
     → is_correct_replica c q ≡ true → is_correct_replica c s ≡ true → Once (Takes c new) (history_of q trace) → change_by (changes_of c new) s ≡ Some vc
     → Once (Speaks (changing s vc)) (history_of s trace)

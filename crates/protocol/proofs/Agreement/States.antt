@@ -12,7 +12,7 @@ use Rattle.protocol.specs.System.Trace.Entry.{Invoke, Got, Tick, Executed, Insta
 use Rattle.protocol.specs.Replica.Certificates.{checkpoint_from, checkpoint_in, insert_checkpoint, with_checkpoint, checkpoints_of, says_checkpoint, count_checkpoints, brought}
 use Rattle.protocol.specs.Replica.Selection.{is_quorum, changes_of, passes_by, count_in, may_select}
 use Rattle.std.specs.List.{list_any}
-use Rattle.protocol.specs.Replica.State.{State, IsState, opening, execute, after_batches, page_text, root_of}
+use Rattle.protocol.specs.Replica.State.{State, IsReplicatedState, opening, execute, after_batches, page_text, root_of}
 use Rattle.protocol.specs.Replica.Transfers.{in_place}
 use Rattle.protocol.specs.Replica.RightReplica.{Point, first_point, Leaves, SafeReplica, May, MaySay, MayCheckpoint, MayInstall, Moves, GetsPage, StartsAt, kept_states, checkpoint_of, waiting_after, HadQuorum, executed_point}
 use Rattle.protocol.specs.System.Texts.{NoCollision, IsText, IsUnder, InstallsOver, HasPart, AreFirst}
@@ -56,7 +56,7 @@ executed_append c trace first [] batch k is a h =
 executed_append c trace first (x ∷ batches) batch k is a h =
     let e : k ≡ first + 1 + length batches = omega arith in (a.0, executed_append c trace (first + 1) batches batch k e a.1 h)
 
--- ---- who a checkpoint came from
+-- ---- the sender of a checkpoint
 
 abbrev pub checking : ℕ → ℕ → List ℕ → Body
 checking s k root = record { sender = s; message = Checkpoint k root }
@@ -223,7 +223,7 @@ says_known c trace s k root past (Executed x y z) r good h = absurd h
 says_known c trace s k root past (Installed x y z) r good h = absurd h
 says_known c trace s k root past (Accepted x y z) r good h = absurd h
 
--- what a correct replica's checkpoint says is known
+-- the root in a correct replica's checkpoint is known
 checkpoint_known : (c : Configuration) (trace ys : List Entry) (s k : ℕ) (root : List ℕ) → SafeReplica c s (history_of s ys) → GoodAll c trace s (history_of s ys)
     → Once (Speaks (checking s k root)) (history_of s ys) → Known c trace k root
 checkpoint_known c trace ys s k root right good h =
@@ -233,7 +233,7 @@ checkpoint_known c trace ys s k root right good h =
     (once_always (λ past e. GoodHere c trace s past) (λ past e. RightAt c s past e × Speaks (checking s k root) past e × Always (RightAt c s) past) (history_of s ys) good.1
     (once_right c s (Speaks (checking s k root)) (history_of s ys) right h)))
 
--- what a correct replica's view change lists as a checkpoint is known
+-- the checkpoints that a correct replica's view change lists are known
 change_known : (c : Configuration) (trace ys : List Entry) (s k : ℕ) (root : List ℕ) (vc : ViewChangeData) → SafeReplica c s (history_of s ys) → GoodAll c trace s (history_of s ys)
     → Once (Speaks (changing s vc)) (history_of s ys) → Has (λ (checkpoint : CheckpointEntry). (checkpoint.number ≡ k) × (checkpoint.digest ≡ root)) vc.checkpoints → Known c trace k root
 change_known c trace ys s k root vc right good h has =
@@ -253,7 +253,7 @@ change_known c trace ys s k root vc right good h has =
         known_snapshot c trace k root t.1.point (t.0 t.1.point t.1.leaves)
         (has_filter (λ (st : State). (st.number ≡ k) × (root_of st ≡ root)) (λ st. nat_le vc.low st.number) t.1.point.snapshots states)
 
--- ---- what is installed is known
+-- ---- installed roots are known
 
 few_faulty : (c : Configuration) → IsConfiguration c → count_below (is_faulty_replica c) (3 * c.faults + 1) ≤ c.faults
 few_faulty c setting = let m = count_members c.faulty_replicas (3 * c.faults + 1) in let k = setting.few in omega arith
@@ -328,7 +328,7 @@ module _ (c : Configuration) (setting : IsConfiguration c) (trace ys : List Entr
       go (inl h) = by_quorum h
       go (inr h) = by_new_view h
 
--- what is got in a page is a text
+-- a page that is received is a text
 got_part : (c : Configuration) (r i : ℕ) (text : List ℕ) (past other : List Entry) (e : Entry) → GetsPage c r i text past e → HasPart text other e
 got_part c r i text past other (Got p bytes) h =
     (record { sender = h.0; message = Page h.1 i text }, heard_said c r bytes (record { sender = h.0; message = Page h.1 i text }) h.2, inl refl)
@@ -356,7 +356,7 @@ few_executed c trace right first (batch ∷ batches) l h =
     let rest = few_executed c trace right (first + 1) batches next h.1 in
     omega arith
 
-pub executed_leave : (c : Configuration) → IsConfiguration c → (trace : List Entry) → AreReplicasSafe c trace → (batches : List (List ℕ)) → AreExecuted c trace 1 batches → IsState (after_batches c opening batches)
+pub executed_leave : (c : Configuration) → IsConfiguration c → (trace : List Entry) → AreReplicasSafe c trace → (batches : List (List ℕ)) → AreExecuted c trace 1 batches → IsReplicatedState (after_batches c opening batches)
 executed_leave c setting trace right batches h =
     let one : 1 ≤ 2 ^ 48 = omega arith in
     let few = few_executed c trace right 1 batches one h in
@@ -371,7 +371,7 @@ module _ (c : Configuration) (setting : IsConfiguration c) (trace : List Entry) 
   firsts st is = executed_first c setting trace right unforged apart 1 is.batches is.executed
 
   -- a state with the root of a state of executed batches, whose texts are apart, is that state
-  same_state : (st : State) → IsStateOf c trace st → (other : State) → IsState other → ((text : List ℕ) → IsUnder (page_text other) text → IsText c trace text)
+  same_state : (st : State) → IsStateOf c trace st → (other : State) → IsReplicatedState other → ((text : List ℕ) → IsUnder (page_text other) text → IsText c trace text)
       → ((i : ℕ) → i < 1024 → IsText c trace (page_text other i)) → root_of st ≡ root_of other → IsStateOf c trace other
   same_state st is other state unders texts root =
       let pages = same_pages c trace (page_text (after_batches c opening is.batches)) (page_text other) apart
@@ -489,7 +489,7 @@ module _ (c : Configuration) (setting : IsConfiguration c) (trace : List Entry) 
   pub states_agree : (r : ℕ) → is_correct_replica c r ≡ true → GoodAll c trace r (history_of r trace)
   states_agree r correct = all_good trace [] refl r correct
 
-  -- of each time, not of the end alone
+  -- at each time, not at the end alone
   pub had_executed : (st : State) → Had c trace st → IsStateOf c trace st
   had_executed st h = pick h.1
     where

@@ -1,4 +1,4 @@
--- The induction over views: what is committed stays, and committed batches of one number agree.
+-- The induction over views: a committed batch stays, and committed batches of one number agree.
 use Rattle.std.proofs.Common.{◌≡◌, ℕ, zero, suc, ◌+◌, ◌-◌, ◌*◌, ◌≤◌, ◌<◌, ◌⊎◌, inl, inr, Bool, true, false, not, List, length, slice_get, Some, refl, sym, ◌∙◌, subst, arith, ◌&&◌, ◌||◌, eqb-true, eq-eqb, bytes_eq}
 use Rattle.std.specs.Prelude.{◌==◌, nat_lt, nat_le}
 use Rattle.std.proofs.lemmas.Bool.{and_parts, or_cases, leb-true, ltb-true, lt-ltb, cases_lt, cases_order, and_from, not_from_false, not_from_true}
@@ -25,7 +25,7 @@ use Rattle.protocol.proofs.Agreement.Settling.{Settled, settled_logged}
 use Rattle.protocol.proofs.Agreement.Agreeing.{prepared_agree, has_digest_is}
 use Rattle.protocol.proofs.Words.Elements.{every_has, has_some, some_of_has}
 
--- ---- what the rules of a new view give
+-- ---- consequences of the rules of a new view
 
 pub record Selected (c : Configuration) (new : NewViewData) : Type 0 where
   pub each : list_all (λ x. (x.1.view == new.view) && is_within c x.1) (changes_of c new) ≡ true
@@ -107,7 +107,7 @@ module _ (c : Configuration) (setting : IsConfiguration c) (trace : List Entry) 
         pledged = pledged c s.0 v i (sha256 a) t.0 (history_of s.0 trace) (right_always c s.0 (history_of s.0 trace) r.0 r.1) commits says higher;
       }
 
-  -- what a committer lists as prepared has the digest
+  -- the P entry of a committer has the digest
   batch_entry_digest : (w : ℕ) → ((u : ℕ) → v < u → u < w → Settled c trace i (sha256 a) u) → (s : ℕ) → is_correct_replica c s ≡ true → (batch_entry : BatchEntry) → batch_entry.view < w
       → Listed c s v i batch_entry (history_of s trace) → batch_entry.digest ≡ sha256 a
   batch_entry_digest w below s who batch_entry lt k = go (cases_order v batch_entry.view)
@@ -121,7 +121,7 @@ module _ (c : Configuration) (setting : IsConfiguration c) (trace : List Entry) 
           sym k.digest_is ∙ settled_logged c trace i (sha256 a) batch_entry.view s right (below batch_entry.view l lt) some who k.batch k.prepared.logged
       go (inr (inr l)) = let at_least = k.at_least in absurd (omega arith)
 
-  -- in a later view than v, what a correct replica logged has the digest
+  -- in a later view than v, each batch that a correct replica logged has the digest
   logged_digest : (w : ℕ) → ((u : ℕ) → v < u → u < w → Settled c trace i (sha256 a) u) → (s u : ℕ) → is_correct_replica c s ≡ true → v < u → u < w
       → (b : List ℕ) → logged c s (history_of s trace) u i ≡ Some b → sha256 b ≡ sha256 a
   logged_digest w below s u who l m b h = let some : 0 < u = omega arith in settled_logged c trace i (sha256 a) u s right (below u l m) some who b h

@@ -1,4 +1,4 @@
--- From the votes that a replica counts to what the voters had logged.
+-- From the votes that a replica counts to the batches that the voters had logged.
 use Rattle.std.proofs.Common.{◌≡◌, ℕ, ◌⊎◌, inl, inr, Bool, true, false, cond, List, [], ◌∷◌, Option, Some, None, not, refl, sym, ap, ◌∙◌, subst, ◌&&◌, eqb-true}
 use Rattle.std.specs.Prelude.{option_and_then, ◌==◌}
 use Rattle.std.proofs.lemmas.Bool.{and_parts}
@@ -49,11 +49,11 @@ prepare_is c s v i d sender (Prepare view number digest) h =
     (rw (es, ev, ei, g.1) refl, o.1)
 prepare_is c s v i d sender _ h = absurd cc
 
--- the entry brings the body: heard or said
+-- the entry brings the body: the party receives or sends it
 abbrev pub Brings : Configuration → Body → List Entry → Entry → Type 0
 Brings c body past e = brought c e ≡ Some body
 
--- what a vote is read from
+-- the body in which a vote was
 pub vote_brought : (c : Configuration) (me v i : ℕ) (d : List ℕ) (vote : Body → Option (List ℕ)) (past : List Entry) (e : Entry) → vote_in c me past e vote v i ≡ Some d
     → (body : Body) × (brought c e ≡ Some body) × (vote body ≡ Some d)
 vote_brought c me v i d vote past e h = go (counts_at c me past e v i) h
@@ -69,7 +69,7 @@ vote_source c me s v i d past e h =
     let is = prepare_is c s v i d r.0.sender r.0.message r.2 in
     (r.1 ∙ ap Some is.0, is.1)
 
--- the primary has no prepare
+-- the primary sends no prepare
 pub primary_votes_not : (c : Configuration) (me v i s : ℕ) (d : List ℕ) (xs : List Entry) → prepare_of c me xs v i s ≡ Some d → not (s == primary c v) ≡ true
 unfolding prepare_of
 primary_votes_not c me v i s d xs h =
@@ -77,7 +77,7 @@ primary_votes_not c me v i s d xs h =
     (once_weaker (λ past e. vote_in c me past e (prepare_from c s v i) v i ≡ Some d) (λ past e. not (s == primary c v) ≡ true)
     (λ past e t. (vote_source c me s v i d past e t).1) xs (given_once (λ past e. vote_in c me past e (prepare_from c s v i) v i) d xs h))
 
--- what a right replica says names it as sender
+-- a right replica is the sender in all that it sends
 pub speaks_as_itself : (c : Configuration) (me : ℕ) (body : Body) (past : List Entry) (e : Entry) → RightAt c me past e → Speaks body past e → body.sender ≡ me
 speaks_as_itself c me body past (Sent p bytes) r h =
     let m = r.may in
@@ -112,7 +112,7 @@ brings_either c p body past (Executed x y z) own h = absurd cc
 brings_either c p body past (Installed x y z) own h = absurd cc
 brings_either c p body past (Accepted x y z) own h = absurd cc
 
--- what a right replica hears of a correct one, or says itself, its sender said
+-- if a right replica receives a correct replica's body, or sends one itself, the sender sent it
 pub brought_was_said : (c : Configuration) (trace : List Entry) (p : ℕ) (body : Body) → AreReplicasSafe c trace → Unforged c trace
     → is_correct_replica c p ≡ true → is_correct_replica c body.sender ≡ true
     → Once (Brings c body) (history_of p trace) → Once (Speaks body) (history_of body.sender trace)
@@ -133,7 +133,7 @@ brought_was_said c trace p body right unforged correct from h = go (once_either 
         (once_right c p (Speaks body) (history_of p trace) (right p correct) h)) in
         subst (λ (x : ℕ). Once (Speaks body) (history_of x trace)) (sym is) h
 
--- ---- what was prepared was logged
+-- ---- prepared batches were logged
 
 pub record Logs (c : Configuration) (me v i : ℕ) (d : List ℕ) (past : List Entry) : Type 0 where
   pub batch : List ℕ

@@ -1,4 +1,4 @@
--- What an acceptance says: of a read the space at its number, of an ordered call a request that ran.
+-- An accepted answer is, of a read, the space's at its number, and of an ordered call that of a request that ran.
 use Rattle.std.proofs.Common.{◌≡◌, ℕ, zero, suc, ◌+◌, ◌-◌, ◌*◌, ◌≤◌, ◌<◌, inl, inr, Bool, true, false, cond, List, [], ◌∷◌, ◌++◌, length, refl, sym, ap, ◌∙◌, subst, arith, ◌&&◌, ◌||◌, Option, Some, None, eqb-true, eq-eqb, bytes_eq}
 use Rattle.std.specs.Prelude.{◌==◌}
 use Rattle.std.proofs.lemmas.Bool.{and_parts, leb-true, ltb-true}
@@ -189,7 +189,7 @@ accepted_place c trace later past e p t a is x =
     some : past ≡ [] → ⊥
     some none = let bad : None ≡ Some x.vote = sym (ap (λ (ys : List Entry). newest_vote c p (history_of p ys) t) none) ∙ x.newest in absurd cc
 
--- ---- what a correct replica replied
+-- ---- the replies of a correct replica
 
 once_history_more : (Q : List Entry → Entry → Type 0) (s : ℕ) (e : Entry) (xs : List Entry) → Once Q (history_of s xs) → Once Q (history_of s (e ∷ xs))
 once_history_more Q s e xs h = go (party_of e == s) h
@@ -217,7 +217,7 @@ reply_may c s p t mode number answer past (Executed x y z) r h = absurd h
 reply_may c s p t mode number answer past (Installed x y z) r h = absurd h
 reply_may c s p t mode number answer past (Accepted x y z) r h = absurd h
 
--- where it replied
+-- the entry at which it replied
 pub record Replied (c : Configuration) (trace : List Entry) (s p t : ℕ) (mode : Mode) (number : ℕ) (answer : Outcome) : Type 0 where
   pub past : List Entry
   pub entry : Entry

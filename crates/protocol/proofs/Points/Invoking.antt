@@ -52,7 +52,7 @@ once_within Q [] h = h
 once_within Q (e ∷ past) (inl h) = inl (h, omega arith)
 once_within Q (e ∷ past) (inr h) = inr (once_weaker (λ past' e'. Q past' e' × (length past' < length past)) (λ past' e'. Q past' e' × (length past' < suc (length past))) (λ past' e' t. (t.0, let l = t.1 in omega arith)) past (once_within Q past h))
 
--- ---- what a client asked it invoked, with the operation
+-- ---- a client invoked each call that it sent a request of, with the operation
 
 opened_op : (p t : ℕ) (op : Operation) (xs : List Entry) → Always (λ past e. party_of e ≡ p) xs → open_call xs ≡ Some (record { timestamp = t; op = op }) → Once (Invokes p t op) xs
 opened_op p t op [] own h = absurd cc
@@ -133,7 +133,7 @@ one_invocation c p t a b (Executed x y z ∷ past) r (inr h) (inl k) = absurd k
 one_invocation c p t a b (Installed x y z ∷ past) r (inr h) (inl k) = absurd k
 one_invocation c p t a b (Accepted x y z ∷ past) r (inr h) (inl k) = absurd k
 
--- ---- a carried frame that was heard was said
+-- ---- a sender sent each carried frame that is authentic
 
 pub asks_said : (c : Configuration) (xs : List Entry) (frame : List ℕ) (body : Body) → Runs c xs → said frame ≡ Some body → is_correct c body.sender ≡ true
     → Once (AsksFrame c frame) xs → Once (Speaks body) (history_of body.sender xs)
@@ -212,7 +212,7 @@ asks_request c frame sender t op is past (Accepted x y z) h = absurd h
 
 -- ---- the requests that ran
 
--- what is executed was asked before
+-- a request that is executed was asked before
 pub executed_asked : (c : Configuration) (xs : List Entry) (k : ℕ) (b : List ℕ) → Run c xs → Once (ExecutesBatch c k b) xs → (frame : List ℕ) (call : Call) → Has (λ x. x ≡ frame) (requests_of b) → call_of c frame ≡ Some call
     → Once (AsksFrame c frame) xs
 executed_asked c xs k b run h frame call has is =
@@ -221,7 +221,7 @@ executed_asked c xs k b run h frame call has is =
     all_asked c run.setting xs run.runs.replicas run.runs.unforged run.apart ready.view p.0 k b p.1 ready.committed.prepared.logged frame call has is
 
 module _ (c : Configuration) (trace : List Entry) (run : Run c trace) (x : Placing) (s : Source c trace x) (positive : 1 ≤ x.number) where
-  -- the request was asked where its batch's level came, or before
+  -- the request was asked at the point's position, or before
   source_asked : At (λ past e. (length past ≡ s.position) × Once (AsksFrame c s.from.frame) (e ∷ past)) trace
   source_asked =
       let given = given_once (λ past e. then_some (is_level c (e ∷ past) s.number) (length past)) s.position trace s.place in

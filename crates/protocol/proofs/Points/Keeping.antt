@@ -28,7 +28,7 @@ use Rattle.protocol.specs.Replica.RightReplica.{waiting_after}
 use Rattle.protocol.proofs.Words.Leaving.{last_put, none_kept, opening_is, executed_number}
 use Rattle.protocol.proofs.Words.Elements.{has_either, has_left, has_right}
 
--- ---- what ran in n batches from the number k on
+-- ---- requests that ran in n batches from the number k on
 
 abbrev pub RanBy : Configuration → List Entry → State → ℕ → ℕ → (ℕ → Ran → Type 0) → Type 0
 RanBy c xs st k zero Q = ⊥
@@ -95,7 +95,7 @@ kept_ran c xs st k (suc n) cl kept is h =
         pick (inl e) = inl e
         pick (inr e) = inr (inl e)
 
--- what is kept after n batches ran in one of them
+-- a reply that is kept after n batches is of a request that ran in one of them
 pub kept_ran-opening : (c : Configuration) (xs : List Entry) (n cl : ℕ) (kept : Kept) → kept_of (state_by c xs opening 1 n) cl ≡ Some kept → RanBy c xs opening 1 n (Keeps cl kept)
 kept_ran-opening c xs n cl kept h = go (kept_ran c xs opening 1 n cl kept refl h)
   where
@@ -103,7 +103,7 @@ kept_ran-opening c xs n cl kept h = go (kept_ran c xs opening 1 n cl kept refl h
     go (inl e) = absurd (let none : None ≡ Some kept = sym (none_kept cl) ∙ e in cc)
     go (inr e) = e
 
--- ---- what ran in the running event
+-- ---- requests that ran in the running event
 
 abbrev pub IsRun : Ran → ℕ → Ran → Type 0
 IsRun x j y = (y ≡ x) × (y.kept.number ≡ j) × (y.kept.timestamp ≡ y.call.timestamp)

@@ -18,7 +18,7 @@ use Rattle.protocol.proofs.Words.Leaving.{executed_number}
 abbrev pub item_of : ℕ → ℕ → Ran → Item
 item_of position k ran = (ordered_point position k ran).item
 
--- what runs in some frames is legal, and then what is legal behind them
+-- the requests that run in some frames are legal, if what follows them is legal after these frames
 pub legal_ran : (c : Configuration) (position k : ℕ) (st : State) (frames : List (List ℕ)) (rest : List Item) → LegalFrom (tuples (fold (run_frame c k) st frames)) rest
     → LegalFrom (tuples st) (map (item_of position k) (ran_in c k st frames) ++ rest)
 legal_ran c position k st [] rest h = h

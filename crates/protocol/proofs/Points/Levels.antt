@@ -1,4 +1,4 @@
--- Levels: what all but f correct replicas have reached.
+-- Levels: the numbers that all correct replicas but at most f have reached.
 use Rattle.std.proofs.Common.{◌≡◌, ℕ, suc, ◌+◌, ◌*◌, ◌≤◌, ◌<◌, Bool, true, false, not, cond, max, List, [], ◌∷◌, refl, ap, arith, ◌&&◌, eq-eqb}
 use Rattle.std.specs.Prelude.{◌==◌, nat_le}
 use Rattle.std.proofs.lemmas.Bool.{and_parts, and_from, leb-true, le-leb, lt-ltb, false_from_ne_true, and_right}
@@ -24,7 +24,7 @@ many_correct c setting =
     count_mono (λ k. not (is_faulty_replica c k)) (is_correct_replica c) (3 * c.faults + 1) (λ k l h. and_from (is_replica c k) (not (is_faulty_replica c k)) (lt-ltb k (3 * c.faults + 1) l) h) in
     omega arith
 
--- ---- what was reached stays
+-- ---- reached numbers stay reached
 
 pub reached_grows : (e : Entry) (past : List Entry) (r : ℕ) → reached past r ≤ reached (e ∷ past) r
 reached_grows e past r = omega arith
@@ -61,8 +61,8 @@ level_below c past j k le h =
 
 -- ---- a quorum that answers with a number
 
--- where 2f + 1 replicas answered, of which the correct ones were at most at r before and at least at r after, r is no
--- less than the level before and no more than the level after
+-- If 2f + 1 replicas answered, the correct ones of which had reached at most r before and at least r after, then r is
+-- at least the level before and at most the level after.
 module _ (c : Configuration) (setting : IsConfiguration c) (before after : List Entry) (r : ℕ) (answered : ℕ → Bool)
     (enough : 2 * c.faults + 1 ≤ count_below answered (3 * c.faults + 1))
     (high : (s : ℕ) → is_correct_replica c s ≡ true → answered s ≡ true → r ≤ reached after s)

@@ -1,4 +1,4 @@
--- A number that an ordered call is accepted with was reached by all but f correct replicas.
+-- All correct replicas but at most f have reached the number with which an ordered call is accepted.
 use Rattle.std.proofs.Common.{◌≡◌, ℕ, suc, ◌+◌, ◌*◌, ◌≤◌, ◌⊎◌, inl, inr, Bool, true, false, cond, List, [], ◌∷◌, ◌++◌, fold, refl, sym, ap, ◌∙◌, subst, arith, Option, Some, None, eqb-true, bytes_eq}
 use Rattle.std.specs.Prelude.{◌==◌}
 use Rattle.std.specs.Option.{option_map_or}
@@ -86,7 +86,7 @@ after_at_most c st (batch ∷ batches) most =
 kept_at_most : (c : Configuration) (trace : List Entry) (st : State) → IsStateOf c trace st → AreAtMost st.number st
 kept_at_most c trace st s = subst (λ (x : State). AreAtMost x.number x) (sym s.is) (after_at_most c opening s.batches none_at_most)
 
--- what ran in the event has a number that the state has reached
+-- the requests that ran in the event have a number that the state has reached
 ran_at_most : (c : Configuration) (r : ℕ) (xs : List Entry) (point : RightReplica.Point) → Leaves c r xs point → (x : Ran) → Has (λ y. y ≡ x) point.ran → x.kept.number ≤ point.state.number
 ran_at_most c r [] point h x k = absurd (subst (λ (p : RightReplica.Point). Has (λ y. y ≡ x) p.ran) h k)
 ran_at_most c r (e ∷ past) point h x k = go e h.2.may h.2.moves (ran_at_most c r past h.0 h.1 x)
@@ -116,7 +116,7 @@ ran_at_most c r (e ∷ past) point h x k = go e h.2.may h.2.moves (ran_at_most c
 abbrev pub ordering : ℕ → ℕ → ℕ → ℕ → Outcome → Body
 ordering s p t number answer = record { sender = s; message = Reply p t modes.Ordered number answer }
 
--- what a reply of something kept says
+-- the contents of a kept reply
 pub record RepliesTo (client timestamp number : ℕ) (answer : Outcome) (call_client : ℕ) (kept : Kept) : Type 0 where
   pub client_is : client ≡ 256 + call_client
   pub time : kept.timestamp ≡ timestamp
@@ -164,7 +164,7 @@ ordered_reached c setting s p t number answer xs runs apart correct h =
     (once_right c s (Speaks (ordering s p t number answer)) (history_of s xs) (runs.replicas s correct) h))) in
     let same = reached_history s xs in omega arith
 
--- a number with which 2f + 1 ordered replies are alike is one of the level
+-- if 2f + 1 ordered replies agree, their number is at most the level
 pub ordered_level : (c : Configuration) → IsConfiguration c → (past : List Entry) → Runs c past → NoCollision c past → (p t : ℕ) → is_correct_client c p ≡ true → (vote : Vote)
     → 2 * c.faults + 1 ≤ count_below (λ s. is_alike vote (latest c p (history_of p past) t modes.Ordered s)) (3 * c.faults + 1) → is_level c past vote.number ≡ true
 ordered_level c setting past runs apart p t client vote enough =

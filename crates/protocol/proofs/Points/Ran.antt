@@ -1,4 +1,4 @@
--- The requests that ran, by number: where they come from, where they stand, and what they leave.
+-- The requests that ran, by number: their origin, their positions, and the tuples that they leave.
 use Rattle.std.proofs.Common.{◌≡◌, ℕ, zero, suc, ◌+◌, ◌-◌, ◌≤◌, ◌<◌, inl, inr, Bool, true, false, cond, List, [], ◌∷◌, ◌++◌, length, map, fold, refl, sym, ap, ◌∙◌, subst, arith, Option, Some, None}
 use Rattle.std.specs.Prelude.{nat_le}
 use Rattle.std.specs.Option.{option_map_or}
@@ -167,7 +167,7 @@ map_append : (f : Ran → Placing) (xs ys : List Ran) → map f (xs ++ ys) ≡ m
 map_append f [] ys = refl
 map_append f (x ∷ xs) ys = ap (λ t. f x ∷ t) (map_append f xs ys)
 
--- the tuples behind the points of the first n numbers are those of the state after n batches
+-- the tuples after the points of the first n numbers are those of the state after n batches
 pub tuples_by : (c : Configuration) (trace : List Entry) (st : State) (k more n r : ℕ) → k ≡ suc st.number → r ≡ st.number + n → n ≤ more → ((j : ℕ) → k ≤ j → j ≤ r → (q : ℕ) × (first_position c trace j ≡ Some q))
     → tuples_at r (tuples st) (ordered_points c trace st k more) ≡ tuples (state_by c trace st k n)
 unfolding state_by

@@ -82,7 +82,7 @@ own_entries c p (e ∷ xs) r = (r.0.0, own_entries c p xs r.1)
 abbrev pub asking : ℕ → ℕ → Mode → Operation → Body
 asking p t mode text = record { sender = p; message = Request t mode text }
 
--- what a right client asks it invoked
+-- a right client invoked each call that it sends a request of
 pub asked_invoked : (c : Configuration) (p t : ℕ) (mode : Mode) (text : Operation) (xs : List Entry) → SafeClient c p xs → Once (Speaks (asking p t mode text)) xs → Once (InvokesAt p t) xs
 asked_invoked c p t mode text [] r h = absurd h
 asked_invoked c p t mode text (e ∷ past) r (inr h) = inr (asked_invoked c p t mode text past r.1 h)
@@ -98,7 +98,7 @@ asked_invoked c p t mode text (Executed x y z ∷ past) r (inl h) = absurd h
 asked_invoked c p t mode text (Installed x y z ∷ past) r (inl h) = absurd h
 asked_invoked c p t mode text (Accepted x y z ∷ past) r (inl h) = absurd h
 
--- ---- a read-only reply stands behind its request's invocation, at the replica's number
+-- ---- a read-only reply comes after its request's invocation, at the replica's number
 
 abbrev pub replying : ℕ → ℕ → ℕ → Mode → ℕ → Outcome → Body
 replying s p t mode number answer = record { sender = s; message = Reply p t mode number answer }
@@ -274,7 +274,7 @@ invoked_le c p t (Accepted x y z ∷ past) runs client (inr h) = invoked_le c p 
 pub InvokedLow : ℕ → ℕ → ℕ → ℕ → List Entry → Entry → Type 0
 InvokedLow s p t number past e = InvokesAt p t past e × (reached past s ≤ number)
 
--- what holds at the invocation of the latest timestamp holds at the latest invocation
+-- a property of the invocation with the latest timestamp holds at the latest invocation
 at_latest : (c : Configuration) (s p t number : ℕ) (xs : List Entry) → Runs c xs → is_correct_client c p ≡ true → last_of p xs ≡ t → Once (InvokedLow s p t number) xs → reached (invoke_past p xs) s ≤ number
 unfolding InvokedLow InvokesAt
 at_latest c s p t number [] runs client is h = absurd h
@@ -300,7 +300,7 @@ at_latest c s p t number (Executed x y z ∷ past) runs client is (inr h) = at_l
 at_latest c s p t number (Installed x y z ∷ past) runs client is (inr h) = at_latest c s p t number past (runs_earlier c (Installed x y z) past runs) client is h
 at_latest c s p t number (Accepted x y z ∷ past) runs client is (inr h) = at_latest c s p t number past (runs_earlier c (Accepted x y z) past runs) client is h
 
--- ---- what was answered lies between
+-- ---- the number of an answer lies between
 
 invoked_low : (s p t number : ℕ) (xs : List Entry) → reached xs s ≤ number → Once (InvokesAt p t) xs → Once (InvokedLow s p t number) xs
 unfolding InvokedLow

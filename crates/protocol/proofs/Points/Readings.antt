@@ -70,7 +70,7 @@ here_made c trace y past cl t a m =
     ∙ ap (λ (mode : Mode). then_some (same_mode mode modes.ReadOnly) (read_of c trace (256 + cl) m.0 a past m.1)) m.4
     ∙ ap Some m.5
 
--- each read was made at an acceptance
+-- each read's point comes from an acceptance
 pub reads_made : (c : Configuration) (trace xs : List Entry) → AllOf (λ y. Once (MadeAt c trace y) xs) (read_points c trace xs)
 reads_made c trace [] = tt
 reads_made c trace (Accepted cl t a ∷ past) = go (made_option c trace (256 + cl) t a past) refl (all_weaker (λ y. Once (MadeAt c trace y) past) (λ y. Once (MadeAt c trace y) (Accepted cl t a ∷ past)) (λ y h. inr h) (read_points c trace past) (reads_made c trace past))
@@ -86,7 +86,7 @@ reads_made c trace (Sent x y ∷ past) = all_weaker (λ y. Once (MadeAt c trace 
 reads_made c trace (Executed x y z ∷ past) = all_weaker (λ y. Once (MadeAt c trace y) past) (λ w. Once (MadeAt c trace w) (Executed x y z ∷ past)) (λ y h. inr h) (read_points c trace past) (reads_made c trace past)
 reads_made c trace (Installed x y z ∷ past) = all_weaker (λ y. Once (MadeAt c trace y) past) (λ w. Once (MadeAt c trace w) (Installed x y z ∷ past)) (λ y h. inr h) (read_points c trace past) (reads_made c trace past)
 
--- and each acceptance of a read made its point
+-- and each acceptance of a read has its point
 pub made_read : (c : Configuration) (trace : List Entry) (y : Placing) (xs : List Entry) → Once (MadeAt c trace y) xs → Has (λ z. z ≡ y) (read_points c trace xs)
 made_read c trace y [] h = h
 made_read c trace y (Accepted cl t a ∷ past) (inr h) = has_right (λ z. z ≡ y) _ _ (made_read c trace y past h)

@@ -158,7 +158,7 @@ pub state_is_by : (c : Configuration) (xs : List Entry) (r : ℕ) (point : Right
 state_is_by c xs r point run correct leaves =
     is_by c xs point.state run ((states_agree c run.setting xs run.runs.replicas run.runs.unforged run.apart r correct).0 point leaves).state
 
--- ---- what a level says
+-- ---- consequences of a level
 
 -- a correct replica has reached the level
 pub level_reached : (c : Configuration) (xs : List Entry) (k : ℕ) → IsConfiguration c → is_level c xs k ≡ true → (r : ℕ) × (is_correct_replica c r ≡ true) × (k ≤ reached xs r)

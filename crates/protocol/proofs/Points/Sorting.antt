@@ -1,4 +1,4 @@
--- The points in order: the ordered requests as they ran, each read behind the requests of its number.
+-- The points in order: the ordered requests as they ran, each read after the requests of its number.
 use Rattle.std.proofs.Common.{◌≡◌, ℕ, ◌-◌, ◌≤◌, ◌<◌, ◌⊎◌, inl, inr, Bool, true, false, cond, List, [], ◌∷◌, ◌++◌, map, filter, refl, sym, ap, ◌∙◌, subst, arith, ◌&&◌, ◌||◌, Option, Some, eqb-true}
 use Rattle.std.specs.Prelude.{◌==◌, nat_lt, nat_le, ⊤}
 use Rattle.std.proofs.lemmas.Bool.{ltb-true, ltb-false, leb-true, leb-false, eqb-false, le-leb, cases_order}
@@ -83,14 +83,14 @@ comes_not_cases x y h = go (nat_lt x.item.position y.item.position) refl (x.item
     go false ea true eb false ed false ee r er h = let l = ltb-false x.number y.number ed in let n = eqb-false x.number y.number ee in inr (eqb-true x.item.position y.item.position eb, inl (omega arith))
     go false ea false eb d ed e ee r er h = let l = ltb-false x.item.position y.item.position ea in let n = eqb-false x.item.position y.item.position eb in inl (omega arith)
 
--- the point stands at or behind the place of its number, and not behind that of a later one
+-- the point stands at or after the place of its number, and not after that of a later one
 pub record Stands (place : ℕ → Option ℕ) (x : Placing) : Type 0 where
   pub at : ℕ
   pub is_at : place x.number ≡ Some at
   pub after : at ≤ x.item.position
   pub before : (k p : ℕ) → x.number < k → place k ≡ Some p → x.item.position ≤ p
 
--- and it is a request that ran: it stands there
+-- and it stands at that place, as a request that ran does
 pub record IsOrdered (place : ℕ → Option ℕ) (x : Placing) : Type 0 where
   pub stands : Stands place x
   pub exact : x.item.position ≤ stands.at
@@ -252,7 +252,7 @@ each_behind (o ∷ os) rs x a = ap (insert_point o) (each_behind os rs x a.1) �
 
 -- ---- legal
 
--- the tuples behind the points of the numbers up to the given one
+-- the tuples after the points of the numbers up to the given one
 abbrev pub tuples_at : ℕ → Contents → List Placing → Contents
 tuples_at r tuples [] = tuples
 tuples_at r tuples (o ∷ os) = tuples_at r (cond (nat_le o.number r) (item_after tuples o.item) tuples) os

@@ -122,7 +122,7 @@ invoked_in_history p t op xs h = once_in_history (Invokes p t op) p xs (once_wea
 
 -- ---- the points
 
--- what an item needs beside the acceptances
+-- an item's conditions, but for those on acceptances
 pub record ItemFacts (c : Configuration) (trace : List Entry) (item : Item) : Type 0 where
   pub invoked : is_correct_client c item.client ≡ true → Once (λ past e. Invokes item.client item.timestamp item.op past e × (length past ≤ item.position)) trace
   pub asked : is_correct_client c item.client ≡ false → Once (λ past e. Asks c item.client item.timestamp item.op past e × (length past ≤ item.position)) trace
@@ -301,7 +301,7 @@ module _ (c : Configuration) (trace : List Entry) (run : Run c trace) where
       go later past (Executed x z w) is m = absurd m
       go later past (Installed x z w) is m = absurd m
 
-  -- no point of an accepted call is behind its acceptance
+  -- no point of an accepted call is after its acceptance
   before_accepted : (x : Placing) → Has (λ y. y ≡ x) all_points → (a : Outcome) → Always (λ past e. Accepts x.item.client x.item.timestamp a past e → x.item.position ≤ length past) trace
   before_accepted x has a = always_split (λ past e. Accepts x.item.client x.item.timestamp a past e → x.item.position ≤ length past) trace go
     where

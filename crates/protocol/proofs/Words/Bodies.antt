@@ -1,5 +1,5 @@
--- What the laws use of how bodies are read: their operations and answers are within the limits, timestamps fit their
--- bytes, and a batch has at most 16 requests.
+-- The part of the reading of bodies that the laws use: operations and answers are within the limits, timestamps fit
+-- their bytes, and a batch has at most 16 requests.
 use Rattle.std.proofs.Common.{◌≡◌, ℕ, zero, suc, ◌+◌, ◌^◌, ◌≤◌, ◌<◌, Bool, cond, List, [], ◌∷◌, ◌++◌, length, refl, ap, subst, arith, ◌&&◌, Option, Some, None}
 use Rattle.std.specs.Prelude.{nat_le, ⊤}
 use Rattle.std.proofs.lemmas.Bool.{and_parts, leb-true}
@@ -18,7 +18,7 @@ use Rattle.protocol.proofs.Words.Options.{some_injective}
 use Rattle.protocol.proofs.Words.Linking.{heard_said}
 use Rattle.wire.proofs.Forms.{passed_on}
 
--- ---- what a message has
+-- ---- the contents of a message
 
 abbrev pub FitsMessage : Message → Type 0
 FitsMessage (Request t mode op) = (t < 2 ^ 64) × IsOperation op

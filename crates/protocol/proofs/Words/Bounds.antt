@@ -1,4 +1,4 @@
--- A view change is within its bounds exactly where each of its parts is.
+-- A view change is within its bounds if and only if each of its parts is.
 use Rattle.std.proofs.Common.{◌≡◌, ◌^◌, ◌+◌, ◌%◌, true, ◌&&◌, eqb-true, eq-eqb}
 use Rattle.std.specs.Prelude.{◌==◌, nat_le, nat_lt}
 use Rattle.std.specs.List.{list_all}
@@ -9,7 +9,7 @@ use Rattle.protocol.specs.Replica.Selection.{is_batch_entry_within, is_checkpoin
 use Rattle.protocol.specs.Laws.Bounds.{IsBatchEntryBounded, IsCheckpointBounded, IsBounded}
 use Rattle.protocol.proofs.Words.Elements.{every_has, all_where}
 
--- ---- where the test passes
+-- ---- if the test passes
 
 batch_entry_bounded : (c : Configuration) (vc : ViewChangeData) (batch_entry : BatchEntry) → is_batch_entry_within c vc batch_entry ≡ true → IsBatchEntryBounded c vc batch_entry
 batch_entry_bounded c vc batch_entry h =

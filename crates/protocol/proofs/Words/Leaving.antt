@@ -17,7 +17,7 @@ use Rattle.terms.specs.declared.order.Mode.TheVariants as modes
 use Rattle.protocol.specs.System.Frames.{same_mode}
 use Rattle.reply_cache.specs.Replies.{Kept, Replies, no_replies, last_of, with_reply, IsKept, IsReply, AreReplies}
 use Rattle.reply_cache.proofs.Slots.{AreReplies-none}
-use Rattle.protocol.specs.Replica.State.{State, IsState, Call, opening, kept_of, last_time, call_in, call_of, runs, kept_by, ran_call, run_call, run_frame, execute, after_batches}
+use Rattle.protocol.specs.Replica.State.{State, IsReplicatedState, Call, opening, kept_of, last_time, call_in, call_of, runs, kept_by, ran_call, run_call, run_frame, execute, after_batches}
 use Rattle.protocol.specs.Laws.Histories.{BatchesLeaveStates}
 use Rattle.protocol.proofs.Words.Options.{and_then_some, some_injective}
 use Rattle.protocol.proofs.Words.Bodies.{said_fits, FitsMessage, requests_few}
@@ -58,7 +58,7 @@ none_kept client = go 256 client
 
 -- ---- through a batch
 
--- what holds between the requests of a batch
+-- the invariant between the requests of a batch
 record Running (st : State) (most : ℕ) : Type 0 where
   space : IsSpace st.space
   births : st.space.next ≤ most
@@ -113,7 +113,7 @@ frames_leave c number small (frame ∷ frames) st most r =
     one (Some call) is = call_leaves number small st most call (call_fits c frame call is) r
 
 -- a batch leaves a state, of the next number
-pub execute_leaves : (c : Configuration) (st : State) (batch : List ℕ) → st.number + 1 < 2 ^ 48 → IsState st → IsState (execute c st batch)
+pub execute_leaves : (c : Configuration) (st : State) (batch : List ℕ) → st.number + 1 < 2 ^ 48 → IsReplicatedState st → IsReplicatedState (execute c st batch)
 unfolding execute
 execute_leaves c st batch below is =
     let small : suc st.number < 2 ^ 64 = omega arith in
@@ -126,13 +126,13 @@ execute_leaves c st batch below is =
       replies = r.replies;
     }
 
-pub opening_is : IsState opening
+pub opening_is : IsReplicatedState opening
 opening_is = record {
   space = record { state = IsState-empty versions.One; births = omega arith; few = omega arith };
   replies = AreReplies-none;
 }
 
-pub leaves_from : (c : Configuration) (batches : List (List ℕ)) (st : State) → st.number + length batches < 2 ^ 48 → IsState st → IsState (after_batches c st batches)
+pub leaves_from : (c : Configuration) (batches : List (List ℕ)) (st : State) → st.number + length batches < 2 ^ 48 → IsReplicatedState st → IsReplicatedState (after_batches c st batches)
 unfolding execute
 leaves_from c [] st below is = is
 leaves_from c (batch ∷ batches) st below is =

@@ -1,4 +1,4 @@
--- What a correct replica hears of a correct sender, that sender said.
+-- A correct sender sent what a correct replica hears of it.
 use Rattle.std.proofs.Common.{◌≡◌, ℕ, true, List, Some, ap, ◌∙◌}
 use Rattle.wire.specs.Messages.{BodyData as Body, MessageData as Message}
 use Rattle.wire.specs.Words.{said}
@@ -16,7 +16,7 @@ abbrev pub Speaks : Body → List Entry → Entry → Type 0
 Speaks body past (Sent p bytes) = said bytes ≡ Some body
 Speaks body past _ = ⊥
 
--- what is said in an event is spoken
+-- a message that the replica sends is spoken
 pub saying_speaks : (me : ℕ) (message : Message) (past : List Entry) (e : Entry) → IsSaying me message e → Speaks (record { sender = me; message = message }) past e
 saying_speaks me message past (Sent p bytes) h = h
 saying_speaks me message past (Invoke x y z) h = absurd h
@@ -26,11 +26,11 @@ saying_speaks me message past (Executed x y z) h = absurd h
 saying_speaks me message past (Installed x y z) h = absurd h
 saying_speaks me message past (Accepted x y z) h = absurd h
 
--- what is heard is what the bytes say
+-- a body that is heard is the body that the bytes say
 pub heard_said : (c : Configuration) (me : ℕ) (bytes : List ℕ) (body : Body) → heard (members c) me bytes ≡ Some body → said bytes ≡ Some body
 heard_said c me bytes body h = let o = heard_was_opened (members c) me bytes body h in reads_said bytes o.frame o.opens.spelled ∙ ap Some o.body_is
 
--- and so is what is signed
+-- and so is a signed body
 pub signed_said : (c : Configuration) (bytes : List ℕ) (body : Body) → signed_body (members c) bytes ≡ Some body → said bytes ≡ Some body
 signed_said c bytes body h = let s = signed_was_signed (members c) bytes body h in reads_said bytes s.frame s.spelled ∙ ap Some s.body_is
 

@@ -116,7 +116,7 @@ below_rest x (y ∷ ys) s vc h (inr rest) =
     let more = below_rest y ys s vc (later x (y ∷ ys) h) rest in
     omega arith
 
--- what a replica has in the set is the first of its view changes there
+-- a replica's view change in the set is the first of its view changes there
 pub change_of : (xs : List (ℕ × ViewChangeData)) (s : ℕ) (vc : ViewChangeData) → ascending xs ≡ true → Has (λ y. y ≡ (s, vc)) xs → change_by xs s ≡ Some vc
 change_of [] s vc h has = absurd has
 change_of (x ∷ xs) s vc h (inl same) =
@@ -127,7 +127,7 @@ change_of (x ∷ xs) s vc h (inr rest) =
     let other : (x.0 == s) ≡ false = ne_eqb x.0 s (λ e. absurd (omega arith)) in
     rw other (change_of xs s vc (later x xs h) rest)
 
--- ---- what a new view carries
+-- ---- the view changes that a new view carries
 
 pub no_longer : {A : Type 0} (xs : List (Option A)) → length (list_of xs) ≤ length xs
 no_longer [] = omega arith

@@ -1,4 +1,4 @@
--- What gives a replica no reason to move to a view.
+-- Inputs that give a replica no reason to move to a view.
 use Rattle.std.proofs.Common.{◌≡◌, ℕ, inl, inr, List, ◌∷◌, Some, ap}
 use Rattle.wire.specs.Messages.{ViewChangeData, view_change as ViewChange}
 use Rattle.signing.specs.Heard.{heard}
@@ -10,7 +10,7 @@ use Rattle.protocol.specs.Replica.RightReplica.{TimesOut}
 use Rattle.protocol.specs.Replica.Owed.{HasToMove}
 use Rattle.protocol.proofs.Words.Options.{some_injective}
 
--- no time runs out where bytes are got
+-- no timeout comes of received bytes
 pub no_time : (c : Configuration) (me p : ℕ) (before : List Entry) (bytes : List ℕ) (waiting : List Call) (v : ℕ) → TimesOut c me (Got p bytes ∷ before) waiting v → ⊥
 no_time c me p before bytes waiting v t =
     absurd (let bad : Got p bytes ≡ Tick me = ap (λ (x : Entry × List Entry). x.0) (some_injective (Got p bytes, before) (Tick me, t.before) t.tick) in cc)

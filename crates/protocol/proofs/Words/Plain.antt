@@ -19,7 +19,7 @@ pub record Plain (c : Configuration) (past : List Entry) (e : Entry) : Type 0 wh
   pub checkpoint : checkpoint_in c e ≡ None
   pub installed : installed_at e ≡ 0
 
--- ---- by what is heard or said
+-- ---- by the message that is received or sent
 
 -- messages that are no checkpoint, view change or new view
 abbrev pub IsPlain : Message → Type 0
@@ -76,7 +76,7 @@ said_plain c past p bytes body h o = record {
 
 -- ---- what stays
 
--- what is no checkpoint, no installation and no new view leaves the low mark
+-- an entry without checkpoint, installation and new view leaves the low mark
 pub low_same : (c : Configuration) (me : ℕ) (past : List Entry) (e : Entry) → checkpoint_in c e ≡ None → installed_at e ≡ 0 → new_view_in c e ≡ None → low c me (e ∷ past) ≡ low c me past
 unfolding low
 low_same c me past e no_checkpoint no_installation no_view =

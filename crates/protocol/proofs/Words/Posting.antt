@@ -1,4 +1,4 @@
--- What is sealed or signed is posted, and what is posted may be sent where its message may be said. A leaf signs one frame.
+-- Sealed and signed frames are posted, and may be sent if their message may be said. A leaf signs one frame.
 use Rattle.std.proofs.Common.{◌≡◌, ℕ, inl, inr, Bool, true, false, List, [], ◌∷◌, Option, Some, None, ◌∙◌, refl, sym, ap, subst}
 use Rattle.std.specs.Prelude.{option_and_then}
 use Rattle.std.proofs.lemmas.List.Elements.{All-map}
@@ -17,9 +17,9 @@ use Rattle.protocol.specs.Laws.Histories.{PostedMaySend, LeavesSignOnce}
 use Rattle.protocol.proofs.Words.Options.{some_injective}
 use Rattle.wire.proofs.Saying.{reads_frames, reads_said}
 
--- ---- what is posted
+-- ---- posted frames
 
--- a frame that the bytes spell, where it is sealed so
+-- a frame that the bytes spell, if it is sealed well
 pub frame_is_posted : (c : Configuration) (bytes : List ℕ) (frame : Frame) → SpellsFrame bytes frame → IsSealed c frame
     → IsPosted c frame.body.sender frame.body.message (receivers_of frame.authenticator) bytes
 frame_is_posted c bytes frame spells well = record {
@@ -36,14 +36,14 @@ sealed_receivers : (c : Configuration) (body : Body) (parties : List ℕ) → re
 sealed_receivers c body [] = refl
 sealed_receivers c body (p ∷ ps) = ap (λ (xs : List ℕ). p ∷ xs) (sealed_receivers c body ps)
 
--- what is sealed for these parties
+-- a frame that is sealed for these parties
 pub sealed_is_posted : (c : Configuration) (body : Body) (parties bytes : List ℕ) → SpellsFrame bytes (sealed_for c.seed body parties)
     → IsPosted c body.sender body.message parties bytes
 sealed_is_posted c body parties bytes spells =
     subst (λ (xs : List ℕ). IsPosted c body.sender body.message xs bytes) (sealed_receivers c body parties)
     (frame_is_posted c bytes (sealed_for c.seed body parties) spells (sealed_well c body parties))
 
--- what is signed
+-- a frame that is signed
 pub signed_is_posted : (c : Configuration) (body : Body) (text bytes : List ℕ) → SpellsFrame bytes (record { body = body; authenticator = signature text })
     → has_signature c.seed (record { body = body; authenticator = signature text }) ≡ true → IsPosted c body.sender body.message [] bytes
 signed_is_posted c body text bytes spells signed = frame_is_posted c bytes (record { body = body; authenticator = signature text }) spells signed
@@ -79,7 +79,7 @@ unsigned_no_leaf bytes body says unsigned = go (frame_of bytes) refl
 pub unsigned_have_no_leaf : (past : List Entry) (bytes : List ℕ) (body : Body) → said bytes ≡ Some body → is_signed body.message ≡ false → HasOwnLeaf bytes past
 unsigned_have_no_leaf past bytes body says unsigned = none_by past bytes (unsigned_no_leaf bytes body says unsigned)
 
--- ---- what is posted may be sent
+-- ---- posted frames may be sent
 
 addressed : (c : Configuration) (me : ℕ) (past : List Entry) (message : Message) (authenticator : Authenticator) (receivers : List ℕ) → receivers_of authenticator ≡ receivers → IsFor c me past message receivers
     → IsAddressed c me past message authenticator

@@ -1,4 +1,4 @@
--- What a client gives in its events, it may do; and so for a replica.
+-- A client may give the outputs of its events; and so may a replica.
 use Rattle.std.proofs.Common.{◌≡◌, ℕ, inl, inr, Bool, true, false, not, cond, List, [], ◌∷◌, ◌++◌, refl, sym, ap, ◌∙◌, subst, ◌&&◌, Option, Some, None, reverse}
 use Rattle.std.specs.Option.{option_map_or}
 use Rattle.space.specs.Applying.{is_read_only}
@@ -6,10 +6,11 @@ use Rattle.terms.specs.declared.order.Mode.{Mode}
 use Rattle.terms.specs.declared.order.Mode.TheVariants as modes
 use Rattle.tuple_codec.specs.Operations.{Operation, Outcome}
 use Rattle.protocol.specs.System.Configuration.{Configuration}
-use Rattle.wire.specs.Messages.{request as Request}
+use Rattle.wire.specs.Messages.{MessageData as Message, request as Request}
+use Rattle.wire.specs.Words.{said}
 use Rattle.protocol.specs.System.Trace.{Entry, party_of, is_output, Always, either}
 use Rattle.protocol.specs.System.Trace.Entry.{Invoke, Got, Tick, Executed, Installed, Sent, Accepted}
-use Rattle.protocol.specs.Client.RightClient.{OpenCall, open_call, Vote, newest_vote, is_complete, went_ordered, is_answered, Reaction, fallback, on_reply, on_got, first_mode, reaction, IsReaction, MayInput, Reacts, IsClient, MayAccept, MayClient, SafeClient}
+use Rattle.protocol.specs.Client.RightClient.{OpenCall, open_call, Vote, newest_vote, is_complete, went_ordered, is_answered, Reaction, fallback, on_reply, on_got, first_mode, reaction, IsReaction, MayInput, Reacts, IsClient, MayAccept, MayAsk, MayClient, SafeClient}
 use Rattle.protocol.specs.Client.RightClient.Reaction.{nothing, asks, accepts}
 use Rattle.protocol.specs.Replica.RightReplica.{first_point, Point, Leaves, SafeReplica, waiting_after}
 use Rattle.protocol.specs.Replica.Owed.{Owes, Proceeds, IsInput, IsReplica}
@@ -32,7 +33,7 @@ module _ (c : Configuration) (me : ℕ) where
       go true k below = below k
       go false k below = two (reaction c me (e ∷ past)) k.1
 
--- ---- what a client reacts
+-- ---- a client's reactions
 
 falls_back : (c : Configuration) (me : ℕ) (now : List Entry) (call x : OpenCall) (mode : Mode) → fallback c me now call ≡ asks mode x → (x ≡ call) × (mode ≡ modes.Ordered)
 falls_back c me now call x mode h = go (not (went_ordered now call.timestamp) && is_answered c me now call.timestamp) h
@@ -58,7 +59,7 @@ not_read : (mode : Mode) → mode ≡ modes.Ordered → mode ≡ modes.ReadOnly 
 not_read modes.Ordered e f X = absurd cc
 not_read modes.ReadOnly e f X = absurd cc
 
--- what is asked read-only first is a read
+-- a call whose first request is read-only is a read
 first_read : (op : Operation) → first_mode op ≡ modes.ReadOnly → is_read_only op ≡ true
 first_read op h = go (is_read_only op) h
   where
@@ -140,10 +141,10 @@ client_accepts c me (Installed x y z ∷ past) t a h = absurd cc
 client_accepts c me (Sent x y ∷ past) t a h = absurd cc
 client_accepts c me (Accepted x y z ∷ past) t a h = absurd cc
 
--- ---- what it gives it may do
+-- ---- it may do what it gives
 
 module _ (c : Configuration) (me : ℕ) where
-  -- it is what the client may do
+  -- the client may have the output
   output_may : (e : Entry) (outputs now : List Entry) (r : Reaction) → reaction c me now ≡ r → IsReaction c me r (e ∷ outputs) → MayClient (MayAccept c me) me now e
   output_may e outputs now nothing is h = absurd cc
   output_may e outputs now (asks mode call) is h = subst (MayClient (MayAccept c me) me now) (sym (head e (Sent me h.0) outputs h.1)) asked
@@ -188,6 +189,19 @@ module _ (c : Configuration) (me : ℕ) where
   is_client_right [] h = tt
   is_client_right (e ∷ past) (inl h) = reacts_right [] (e ∷ past) h
   is_client_right (e ∷ past) (inr h) = ((h.0, input_may past e h.1), is_client_right past h.2)
+
+  -- a safe client's frame is its request for the open call, read-only for a read alone
+  pub asks_its_call : (bytes : List ℕ) (past : List Entry) → SafeClient c me (Sent me bytes ∷ past)
+      → (mode : Mode) × (call : OpenCall) × (said bytes ≡ Some (record { sender = me; message = Request call.timestamp mode call.op }))
+      × (open_call past ≡ Some call) × (mode ≡ modes.ReadOnly → is_read_only call.op ≡ true)
+  asks_its_call bytes past right = let may = right.0.1 in go may.0.sender may.0.message may.1 may.2 may.3
+    where
+      go : (s : ℕ) (m : Message) → said bytes ≡ Some (record { sender = s; message = m }) → s ≡ me → MayAsk past m
+          → (mode : Mode) × (call : OpenCall) × (said bytes ≡ Some (record { sender = me; message = Request call.timestamp mode call.op }))
+          × (open_call past ≡ Some call) × (mode ≡ modes.ReadOnly → is_read_only call.op ≡ true)
+      go s (Request t mode op) says own ask =
+          (mode, record { timestamp = t; op = op }, subst (λ (n : ℕ). said bytes ≡ Some (record { sender = n; message = Request t mode op })) own says, ask.0, ask.1)
+      go s _ says own ask = absurd ask
 
 -- ---- a replica
 

@@ -1,4 +1,4 @@
--- A new view starts at most at the low mark behind it.
+-- A new view starts at most at the low mark after it.
 use Rattle.std.proofs.Common.{◌≡◌, ℕ, ◌≤◌, max, inl, inr, List, [], ◌∷◌, refl, ap, arith, Option}
 use Rattle.std.specs.Option.{option_map_or}
 use Rattle.wire.specs.Messages.{NewViewData}

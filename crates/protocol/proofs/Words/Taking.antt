@@ -1,4 +1,4 @@
--- Laws of what a transfer took, and of what is in place.
+-- Laws of the pages that a transfer took, and of the pages in place.
 use Rattle.std.proofs.Common.{◌≡◌, ℕ, zero, suc, ◌+◌, ◌≤◌, ◌<◌, ◌⊎◌, inl, inr, Bool, true, false, cond, List, [], ◌∷◌, map, refl, sym, ap, ap₂, ◌∙◌, subst, arith, ◌&&◌, Option, Some, None, eqb-true}
 use Rattle.std.specs.Prelude.{◌==◌, nat_le}
 use Rattle.std.specs.List.{concat, range_with_len}
@@ -18,7 +18,7 @@ use Rattle.protocol.specs.System.Texts.{IsUnder}
 use Rattle.protocol.specs.System.Texts.IsUnder.{inner, top}
 use Rattle.protocol.proofs.Words.Options.{or_else_cases, and_then_some, then_some_gives}
 
--- ---- what was taken was got
+-- ---- pages that were taken were received
 
 given_page : (past : List Entry) (k i sender : ℕ) (message : Message) (text : List ℕ) → text_given past k i (record { sender = sender; message = message }) ≡ Some text
     → (number : ℕ) × (message ≡ Page number i text)
@@ -57,7 +57,7 @@ took_got c me i next (Installed r number root ∷ past) text h = absurd cc
 took_got c me i next (Invoke x y z ∷ past) text h = inr (took_got c me i next past text h)
 took_got c me i next (Accepted x y z ∷ past) text h = inr (took_got c me i next past text h)
 
--- what is in place is the state's own, or was got for its place
+-- a page in place is the state's own, or was received for its place
 pub is_own_or_got : (c : Configuration) (me k i : ℕ) (past : List Entry) (st : State) (text : List ℕ) → text ≡ in_place c me k past st i
     → (text ≡ page_text st i) ⊎ Once (GetsPage c me i text) past
 is_own_or_got c me k i past st text is = go (took c me (Some k) past i) refl is

@@ -1,6 +1,6 @@
--- What a correct client's history is (Castro and Liskov, TOCS 2002, on the client and on read-only operations; that it
--- waits for 2f + 1 replies alike in answer and number, for writes and reads alike, is our own). A client has one call
--- at a time, and what it gives in an event is determined by its past.
+-- The histories of a correct client (Castro and Liskov, TOCS 2002, on the client and on read-only operations). A client
+-- has one open call at a time, and its past determines its output. That it waits for 2f + 1 replies that agree in
+-- answer and number, for writes and reads alike, is our own.
 use Rattle.std.specs.Prelude.{◌≡◌, ℕ, suc, ◌⊎◌, Bool, true, false, ◌&&◌, ◌||◌, not, List, [], ◌∷◌, nat_le, ◌==◌, if◌then◌else◌, Option, Some, None, is_some, option_and_then, bytes_eq, ⊤}
 use Rattle.std.specs.Bool.{then_some}
 use Rattle.std.specs.List.{range_with_len}
@@ -22,13 +22,13 @@ use Rattle.protocol.specs.Replica.Selection.{is_quorum}
 
 -- ---- the open call
 
--- the last timestamp, first 0
+-- the timestamp of the client's last call, 0 before the first
 abbrev pub last_call : List Entry → ℕ
 last_call [] = 0
 last_call (Invoke client timestamp op ∷ past) = timestamp
 last_call (_ ∷ past) = last_call past
 
--- a call that is not answered yet
+-- a call whose answer the client has not accepted yet
 pub record OpenCall : Type 0 where
   pub timestamp : ℕ
   pub op : Operation
@@ -48,7 +48,7 @@ pub record Vote : Type 0 where
   pub number : ℕ
   pub answer : Outcome
 
--- what a message of the replica s is as a reply to the client's call of this timestamp
+-- the vote in a body, if it is replica s's reply to the client's call of this timestamp
 abbrev pub vote_of : ℕ → ℕ → ℕ → Body → Option Vote
 vote_of me timestamp s body = elim body.message [
   | Reply client t mode number answer ↦ then_some ((body.sender == s) && (client == me) && (t == timestamp))
@@ -56,12 +56,12 @@ vote_of me timestamp s body = elim body.message [
   | _ ↦ None
 ]
 
--- the later reply, where it is of the mode that is asked for, else the earlier
+-- the later reply if it has the given mode, else the earlier
 abbrev pub later_vote : Mode → Option Vote → Option Vote → Option Vote
 later_vote mode None earlier = earlier
 later_vote mode (Some vote) earlier = if same_mode vote.mode mode then Some vote else earlier
 
--- the latest reply of the replica s of one mode that was got since the call began, and names client and timestamp
+-- replica s's latest reply of the mode to the call of this timestamp, received since the latest invocation
 unfoldable pub latest : Configuration → ℕ → List Entry → ℕ → Mode → ℕ → Option Vote
 latest c me [] timestamp mode s = None
 latest c me (Invoke client t op ∷ past) timestamp mode s = None
@@ -70,22 +70,22 @@ latest c me (Got p bytes ∷ past) timestamp mode s =
     (latest c me past timestamp mode s)
 latest c me (_ ∷ past) timestamp mode s = latest c me past timestamp mode s
 
--- alike in number and answer (outcomes of one spelling are one)
+-- the reply agrees with the vote in number and answer (outcomes of one spelling are one)
 abbrev pub is_alike : Vote → Option Vote → Bool
 is_alike vote other =
     option_map_or (λ o. (o.number == vote.number)
     && bytes_eq (outcome_spelling o.answer) (outcome_spelling vote.answer)) other false
 
--- how many different replicas' latest replies of its mode are alike
+-- how many replicas' latest replies of the vote's mode agree with it in number and answer
 abbrev pub count_alike : Configuration → ℕ → List Entry → ℕ → Vote → ℕ
 count_alike c me past timestamp vote =
     count_below (λ s. is_alike vote (latest c me past timestamp vote.mode s)) (replicas c)
 
--- a quorum of replies ends a call
+-- a quorum of replies agrees with the vote, which ends the call
 abbrev pub is_complete : Configuration → ℕ → List Entry → ℕ → Vote → Bool
 is_complete c me past timestamp vote = is_quorum c (count_alike c me past timestamp vote)
 
--- the vote that the newest entry brings
+-- the vote in the reply to the call of this timestamp that the newest entry receives, if it receives one
 abbrev pub newest_vote : Configuration → ℕ → List Entry → ℕ → Option Vote
 newest_vote c me past timestamp = elim past [
   | [] ↦ None
@@ -95,9 +95,9 @@ newest_vote c me past timestamp = elim past [
   ])
 ]
 
--- ---- what a client gives
+-- ---- a client's outputs
 
--- nothing, a request of a call, or the acceptance of a call's answer
+-- a client's output in an event: nothing, a request of its call, or the acceptance of an answer
 pub data Reaction : Type 0 where
   nothing : Reaction
   asks : (mode : Mode) (call : OpenCall) → Reaction
@@ -108,7 +108,7 @@ abbrev pub is_ordered_request : ℕ → Body → Bool
 is_ordered_request timestamp body =
     elim body.message [ Request t mode op ↦ (t == timestamp) && same_mode mode modes.Ordered | _ ↦ false ]
 
--- the open call's request was sent ordered
+-- the client has sent the open call's request as an ordered one
 abbrev pub went_ordered : List Entry → ℕ → Bool
 went_ordered [] timestamp = false
 went_ordered (Invoke client t op ∷ past) timestamp = false
@@ -116,27 +116,27 @@ went_ordered (Sent p bytes ∷ past) timestamp =
     option_map_or (is_ordered_request timestamp) (said bytes) false || went_ordered past timestamp
 went_ordered (_ ∷ past) timestamp = went_ordered past timestamp
 
--- each replica has a read-only reply
+-- the client has a read-only reply from each replica
 abbrev pub is_answered : Configuration → ℕ → List Entry → ℕ → Bool
 is_answered c me past timestamp =
     nat_le (replicas c) (count_below (λ s. is_some (latest c me past timestamp modes.ReadOnly s)) (replicas c))
 
--- a read falls back to an ordered request once each replica has answered it, and no quorum alike
+-- a read falls back to an ordered request once each replica has answered it and no quorum agrees
 abbrev pub fallback : Configuration → ℕ → List Entry → OpenCall → Reaction
 fallback c me now call =
     if not (went_ordered now call.timestamp) && is_answered c me now call.timestamp then asks modes.Ordered call
     else nothing
 
--- a reply that makes a quorum alike is accepted
+-- the client accepts an answer once a quorum of replies agrees with it
 abbrev pub on_reply : Configuration → ℕ → List Entry → OpenCall → Vote → Reaction
 on_reply c me now call vote =
     if is_complete c me now call.timestamp vote then accepts call.timestamp vote.answer else fallback c me now call
 
--- a frame that brings no reply to the open call changes nothing
+-- a frame that brings no reply to the open call causes no output
 abbrev pub on_got : Configuration → ℕ → List Entry → OpenCall → Reaction
 on_got c me now call = option_map_or (on_reply c me now call) (newest_vote c me now call.timestamp) nothing
 
--- at a tick an open call's request goes ordered, again where it did before
+-- at a tick the client sends an open call's request as an ordered one, again if it did so before
 abbrev pub on_tick : List Entry → Reaction
 on_tick past = option_map_or (asks modes.Ordered) (open_call past) nothing
 
@@ -144,7 +144,7 @@ on_tick past = option_map_or (asks modes.Ordered) (open_call past) nothing
 abbrev pub first_mode : Operation → Mode
 first_mode op = if is_read_only op then modes.ReadOnly else modes.Ordered
 
--- What a client gives in the event of an input, the newest entry. A read is asked read-only first.
+-- The client's output for an input, which is the newest entry. It sends a read as a read-only request first.
 abbrev pub reaction : Configuration → ℕ → List Entry → Reaction
 reaction c me [] = nothing
 reaction c me (Invoke client timestamp op ∷ past) = asks (first_mode op) (record { timestamp = timestamp; op = op })
@@ -159,14 +159,14 @@ abbrev pub IsRequest : Configuration → ℕ → Mode → OpenCall → List ℕ 
 IsRequest c me mode call bytes =
     IsPosted c me (Request call.timestamp mode call.op) (range_with_len 0 (replicas c)) bytes
 
--- the outputs of an event, the oldest first, are what the client gives
+-- the outputs of an event, the oldest first, are those of the reaction
 abbrev pub IsReaction : Configuration → ℕ → Reaction → List Entry → Type 0
 IsReaction c me nothing outputs = outputs ≡ []
 IsReaction c me (asks mode call) outputs =
     (bytes : List ℕ) × (outputs ≡ Sent me bytes ∷ []) × IsRequest c me mode call bytes
 IsReaction c me (accepts timestamp answer) outputs = (k : ℕ) × (outputs ≡ Accepted k timestamp answer ∷ [])
 
--- a call begins where none is open, with the next timestamp
+-- a call begins only if none is open, with the next timestamp; frames and ticks may always come
 abbrev pub MayInput : List Entry → Entry → Type 0
 MayInput past (Invoke client timestamp op) =
     (timestamp ≡ suc (last_call past)) × (open_call past ≡ None) × IsOperation op
@@ -174,7 +174,7 @@ MayInput past (Got p bytes) = ⊤
 MayInput past (Tick p) = ⊤
 MayInput past _ = ⊥
 
--- each event gives what it is to; outputs: those of the newest event, the oldest first, that stand behind the list
+-- Each event's outputs are its reaction's. outputs: the newest event's that come after this list, the oldest first.
 abbrev pub Reacts : Configuration → ℕ → (List Entry → Reaction) → List Entry → List Entry → Type 0
 Reacts c me react outputs [] = outputs ≡ []
 Reacts c me react outputs (e ∷ past) =
@@ -182,40 +182,40 @@ Reacts c me react outputs (e ∷ past) =
     × either (is_output e) (Reacts c me react (e ∷ outputs) past)
     (MayInput past e × IsReaction c me (react (e ∷ past)) outputs × Reacts c me react [] past)
 
--- Each event gives what it is to; or the client stopped, and from some input on there is no output at all.
+-- Each event's outputs are its reaction's; or the client stopped, and gives no output from some input on.
 abbrev pub IsClientBy : Configuration → ℕ → (List Entry → Reaction) → List Entry → Type 0
 IsClientBy c me react [] = ⊤
 IsClientBy c me react (e ∷ past) =
     Reacts c me react [] (e ∷ past) ⊎ ((party_of e ≡ me) × MayInput past e × IsClientBy c me react past)
 
--- The client has not stopped: each event of its history, to its end, gives what it is to.
+-- The client has not stopped: the outputs of each event, to the end of its history, are its reaction's.
 abbrev pub IsPromptClient : Configuration → ℕ → List Entry → Type 0
 IsPromptClient c me history = Reacts c me (reaction c me) [] history
 
--- the whole of what a correct client's history is
+-- the history is a correct client's
 abbrev pub IsClient : Configuration → ℕ → List Entry → Type 0
 IsClient c me history = IsClientBy c me (reaction c me) history
 
--- ---- what each entry may be; the laws over all runs use no more, and a history that has nothing else is safe
+-- ---- safe histories: what each entry may be; the laws over all runs use no more
 
--- the newest entry brings the reply that ends the open call, at a quorum alike
+-- the newest entry receives a reply to the open call, and a quorum of replies agrees with it
 abbrev pub MayAccept : Configuration → ℕ → List Entry → ℕ → Outcome → Type 0
 MayAccept c me past timestamp answer =
     (call : OpenCall) × (vote : Vote) × (open_call past ≡ Some call) × (call.timestamp ≡ timestamp)
     × (vote.answer ≡ answer)
     × (newest_vote c me past timestamp ≡ Some vote) × (is_complete c me past call.timestamp vote ≡ true)
 
--- a request of the open call, read-only for a read alone
+-- the request is the open call's, and read-only only if the operation is a read
 abbrev pub MayRequest : List Entry → ℕ → Mode → Operation → Type 0
 MayRequest past timestamp mode op =
     (open_call past ≡ Some (record { timestamp = timestamp; op = op }))
     × (mode ≡ modes.ReadOnly → is_read_only op ≡ true)
 
--- requests are all that a client says
+-- a client sends only requests
 abbrev pub MayAsk : List Entry → Message → Type 0
 MayAsk past message = elim message [ Request timestamp mode op ↦ MayRequest past timestamp mode op | _ ↦ ⊥ ]
 
--- an entry that a client may have: its requests, its acceptances by the rule given, and what begins an event
+-- the entries that a client may have: its requests, acceptances by the given rule, and inputs
 abbrev pub MayClient : (List Entry → ℕ → Outcome → Type 0) → ℕ → List Entry → Entry → Type 0
 MayClient Accepting me past (Sent p bytes) =
     (body : Body) × (said bytes ≡ Some body) × (body.sender ≡ me) × MayAsk past body.message
@@ -226,6 +226,6 @@ MayClient Accepting me past e = MayInput past e
 abbrev pub RightBy : (List Entry → ℕ → Outcome → Type 0) → ℕ → List Entry → Type 0
 RightBy Accepting me history = Always (λ past e. (party_of e ≡ me) × MayClient Accepting me past e) history
 
--- The history is safe: it has nothing that a correct client may not do.
+-- The history is safe: each entry is one that a correct client may have.
 abbrev pub SafeClient : Configuration → ℕ → List Entry → Type 0
 SafeClient c me history = RightBy (MayAccept c me) me history

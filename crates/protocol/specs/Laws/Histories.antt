@@ -12,14 +12,14 @@ use Rattle.protocol.specs.Replica.Certificates.{Prepared, Committed, view, taken
 use Rattle.protocol.specs.Replica.RightReplica.{Point, Leaves, HasSeen, SentBefore, SentInEvent, HasOwnLeaf, SafeReplica, HadQuorum, StartsAt, MaySay, IsFor, MaySend}
 use Rattle.protocol.specs.Client.RightClient.{SafeClient}
 use Rattle.protocol.specs.Space.Linear.{points, IsLinear}
-use Rattle.protocol.specs.Replica.State.{State, IsState, opening, after_batches, page_text, root_of}
+use Rattle.protocol.specs.Replica.State.{State, IsReplicatedState, opening, after_batches, page_text, root_of}
 use Rattle.protocol.specs.System.Texts.{NoCollision}
 use Rattle.wire.specs.Lists.{Each}
 
 -- ---- what may be sent
 
--- What a replica posts for those it is for, over frames that it has seen, it may send if it may say the message and the
--- event has not sent the frame. A signed frame needs a leaf of its own.
+-- A replica may send a frame that it posts for the right receivers, over frames that it has seen, if it may say the
+-- message and the event has not sent the frame. A signed frame needs a leaf of its own.
 abbrev pub PostedMaySend : Type 0
 PostedMaySend =
     (c : Configuration) (me : ℕ) (past : List Entry) (point : Point) (e : Entry) (bytes receivers : List ℕ)
@@ -42,24 +42,24 @@ LeavesSignOnce =
 abbrev pub AreReplicasSafe : Configuration → List Entry → Type 0
 AreReplicasSafe c trace = (p : ℕ) → is_correct_replica c p ≡ true → SafeReplica c p (history_of p trace)
 
--- What two correct replicas hold prepared in one view for one number has one digest.
+-- Batches that two correct replicas hold prepared in one view for one number have one digest.
 abbrev pub PreparedAgree : Type 0
 PreparedAgree =
     (c : Configuration) → IsConfiguration c → (trace : List Entry) → AreReplicasSafe c trace → Unforged c trace
     → (p q v i : ℕ) (a b : List ℕ) → is_correct_replica c p ≡ true → is_correct_replica c q ≡ true
     → Prepared c p (history_of p trace) v i a → Prepared c q (history_of q trace) v i b → sha256 a ≡ sha256 b
 
--- the new view has a batch of this digest for the number, or starts at or above it
+-- the new view assigns a batch of this digest to the number, or starts at or above it
 abbrev pub HasOrStartsAbove : ℕ → List ℕ → NewViewData → Type 0
 HasOrStartsAbove i digest new =
     (i ≤ new.start) ⊎ ((batch : List ℕ) × (batch_begun new.view i new ≡ Some batch) × (sha256 batch ≡ digest))
 
--- the new view is taken here, or sent
+-- the replica takes or sends the new view in this entry
 abbrev pub Takes : Configuration → NewViewData → List Entry → Entry → Type 0
 Takes c new past e = taken c past e ≡ Some new
 
--- What is committed for a number, each new view of a later view that a correct replica takes or sends has there, or it
--- starts at or above the number.
+-- If a batch is committed, each new view of a later view that a correct replica takes or sends assigns its digest to
+-- its number, or starts at or above the number.
 abbrev pub CommittedStays : Type 0
 CommittedStays =
     (c : Configuration) → IsConfiguration c → (trace : List Entry) → AreReplicasSafe c trace → Unforged c trace
@@ -67,19 +67,19 @@ CommittedStays =
     → Committed c p (history_of p trace) v i a → Once (Takes c new) (history_of q trace) → v < new.view
     → HasOrStartsAbove i (sha256 a) new
 
--- What two correct replicas hold committed for one number has one digest, over all views.
+-- Batches that two correct replicas hold committed for one number have one digest, over all views.
 abbrev pub CommittedAgree : Type 0
 CommittedAgree =
     (c : Configuration) → IsConfiguration c → (trace : List Entry) → AreReplicasSafe c trace → Unforged c trace
     → (p q v w i : ℕ) (a b : List ℕ) → is_correct_replica c p ≡ true → is_correct_replica c q ≡ true
     → Committed c p (history_of p trace) v i a → Committed c q (history_of q trace) w i b → sha256 a ≡ sha256 b
 
--- a correct replica executed the batch for the number
+-- a correct replica executes the batch for the number in this entry
 abbrev pub ExecutesBatch : Configuration → ℕ → List ℕ → List Entry → Entry → Type 0
 ExecutesBatch c k batch past (Executed r number text) = (is_correct_replica c r ≡ true) × (number ≡ k) × (text ≡ batch)
 ExecutesBatch c k batch past _ = ⊥
 
--- What two correct replicas execute for one number is one batch.
+-- Batches that two correct replicas execute for one number are one batch.
 abbrev pub ExecutedAgree : Type 0
 ExecutedAgree =
     (c : Configuration) → IsConfiguration c → (trace : List Entry) → AreReplicasSafe c trace → Unforged c trace
@@ -94,17 +94,17 @@ PointsAreOne =
     (c : Configuration) (me : ℕ) (history : List Entry) (x y : Point)
     → Leaves c me history x → Leaves c me history y → x ≡ y
 
--- States are equal where their pages are.
+-- States are equal if their pages are.
 abbrev pub PagesDetermine : Type 0
 PagesDetermine =
-    (st other : State) → IsState st → IsState other → ((i : ℕ) → i < 1024 → page_text st i ≡ page_text other i)
+    (st other : State) → IsReplicatedState st → IsReplicatedState other → ((i : ℕ) → i < 1024 → page_text st i ≡ page_text other i)
     → st ≡ other
 
--- Batches leave a state, as long as there are fewer than 2^48.
+-- Fewer than 2^48 batches leave a well-formed state.
 abbrev pub BatchesLeaveStates : Type 0
 BatchesLeaveStates =
     (c : Configuration) (batches : List (List ℕ)) → IsConfiguration c → length batches < 2 ^ 48
-    → IsState (after_batches c opening batches)
+    → IsReplicatedState (after_batches c opening batches)
 
 -- each batch was executed for its number, from the first on
 abbrev pub AreExecuted : Configuration → List Entry → ℕ → List (List ℕ) → Type 0
@@ -154,12 +154,12 @@ pub record IsRootOf (c : Configuration) (trace : List Entry) (k : ℕ) (root : L
   pub executed : AreExecuted c trace 1 batches
   pub root_is : root ≡ root_of (after_batches c opening batches)
 
--- a state of this number and root is installed here
+-- a state of this number and root is installed in this entry
 abbrev pub Installs : ℕ → List ℕ → List Entry → Entry → Type 0
 Installs k root past (Installed r number digest) = (number ≡ k) × (digest ≡ root)
 Installs k root past _ = ⊥
 
--- what happens at a correct replica with a number and a root gives the root of the executed batches
+-- if this happens at a correct replica with a number and a root, the root is that of the executed batches
 abbrev pub GivesRoots : (Configuration → ℕ → List ℕ → List Entry → Type 0) → Type 0
 GivesRoots Happens =
     (c : Configuration) → IsConfiguration c → (trace : List Entry) → AreReplicasSafe c trace → Unforged c trace
@@ -167,8 +167,8 @@ GivesRoots Happens =
     → (r k : ℕ) (root : List ℕ) → is_correct_replica c r ≡ true → Happens c k root (history_of r trace)
     → IsRootOf c trace k root
 
--- What a quorum of checkpoints says, what is installed, and what a new view starts with, has the root of the executed
--- batches.
+-- A root is that of the executed batches if a quorum of checkpoints has it, a replica installed it, or a new view
+-- starts with it.
 abbrev pub StableAgree : Type 0
 StableAgree = GivesRoots (λ c k root history. HadQuorum c (record { number = k; digest = root }) history)
 
@@ -180,7 +180,7 @@ StartsAgree = GivesRoots (λ c k root history. Once (StartsAt c k root) history)
 
 -- ---- points
 
--- what the laws use of a run: what its correct replicas and clients do, they may do, and no others have entries
+-- the part of a run that the laws use: its correct parties' histories are safe, and no others have entries
 pub record IsSafeTrace (c : Configuration) (trace : List Entry) : Type 0 where
   pub replicas : AreReplicasSafe c trace
   pub clients : (p : ℕ) → is_correct_client c p ≡ true → SafeClient c p (history_of p trace)

@@ -1,4 +1,4 @@
--- What is proved of runs: the headline, the levels at which answers are accepted, and that none runs twice.
+-- Laws over all runs: the headline, the levels at which answers are accepted, and that no request runs twice.
 use Rattle.std.specs.Prelude.{◌≡◌, ℕ, ◌+◌, ◌<◌, true, List, [], ◌∷◌, Some, ⊤, map, suc, ◌++◌}
 use Rattle.terms.specs.declared.order.Mode.TheVariants as modes
 use Rattle.protocol.specs.System.Configuration.{Configuration, IsConfiguration}
@@ -12,10 +12,10 @@ use Rattle.protocol.specs.Space.Linear.{points, IsLinear, Linear, is_level, invo
 use Rattle.protocol.specs.Laws.Histories.{IsSafeTrace}
 use Rattle.protocol.specs.System.Run.{IsRun}
 
--- Over every run of a valid configuration that is unforged and whose texts do not collide, the points are legal, cover
--- the trace and are placed: the answers that correct clients accept, of reads and writes alike, are those of one
--- sequential tuple space, in which each operation acts at most once, an accepted one exactly once, at a position
--- between its invocation and its acceptance.
+-- Over every run of a valid configuration, if it is unforged and its texts do not collide, the points linearize it. So
+-- the answers that correct clients accept, of reads and writes alike, are those of one sequential tuple space. Each
+-- operation acts at most once there, an accepted one exactly once, at a position between its invocation and its
+-- acceptance.
 abbrev pub PointsAreLinear : Type 0
 PointsAreLinear =
     (c : Configuration) → IsConfiguration c → (trace : List Entry) → IsRun c trace → Unforged c trace
@@ -28,7 +28,7 @@ RunsAreLinear =
     (c : Configuration) → IsConfiguration c → (trace : List Entry) → IsRun c trace → Unforged c trace
     → NoCollision c trace → Linear c trace
 
--- ---- the levels of what is accepted
+-- ---- the levels of accepted answers
 
 -- At an acceptance all but f of the correct replicas had reached the replies' number. When a read was invoked, no
 -- greater number had been reached by all but f.

@@ -1,6 +1,6 @@
--- What a correct replica owes in an event: all that the event's input brings about, until nothing more is due, and
--- nothing where the input is dropped (Castro and Liskov, TOCS 2002, on normal-case operation, garbage collection, view
--- changes and state transfer). No law of agreement uses it. It speaks of the same states as what the replica may do.
+-- What a correct replica owes in an event: all outputs that the input makes due, and none if the input is dropped
+-- (Castro and Liskov, TOCS 2002, on normal-case operation, garbage collection, view changes and state transfer). No law
+-- of agreement uses it. It speaks of the same points as what a replica may do.
 use Rattle.std.specs.Prelude.{◌≡◌, ◌≢◌, ℕ, suc, ◌+◌, ◌-◌, ◌/◌, ◌%◌, ◌≤◌, ◌<◌, ◌⊎◌, Bool, true, false, List, [], ◌∷◌, ◌++◌, length, reverse, ◌==◌, Option, Some, None, slice_get, AllPairs, ⊤}
 use Rattle.std.specs.List.{list_any}
 use Rattle.std.specs.Option.{option_map_or}
@@ -29,34 +29,34 @@ use Rattle.wire.specs.Lists.{Each}
 
 -- ---- words on outputs
 
--- a frame of this message is sent here
+-- the replica sends a frame of this message in this entry
 abbrev pub IsSaying : ℕ → Message → Entry → Type 0
 IsSaying me message (Sent p bytes) = said bytes ≡ Some (record { sender = me; message = message })
 IsSaying me message _ = ⊥
 
 -- one of the outputs is a frame of this message
-abbrev pub Gives : ℕ → Message → List Entry → Type 0
-Gives me message outputs = Has (IsSaying me message) outputs
+abbrev pub SendsMessage : ℕ → Message → List Entry → Type 0
+SendsMessage me message outputs = Has (IsSaying me message) outputs
 
--- a frame of this message is sent here, for the replica s alone
+-- the replica sends a frame of this message in this entry, for replica s alone
 abbrev pub IsSayingTo : ℕ → ℕ → Message → Entry → Type 0
 IsSayingTo me s message (Sent p bytes) =
     (said bytes ≡ Some (record { sender = me; message = message }))
     × (option_map_or (λ frame. receivers_of frame.authenticator) (frame_of bytes) [] ≡ s ∷ [])
 IsSayingTo me s message _ = ⊥
 
--- one of the outputs is such a frame
+-- one of the outputs is a frame of this message, for replica s alone
 abbrev pub GivesTo : ℕ → ℕ → Message → List Entry → Type 0
 GivesTo me s message outputs = Has (IsSayingTo me s message) outputs
 
--- at each of the outputs, the oldest first, with its past
+-- P holds at each of the outputs, the oldest first, with its past
 abbrev pub AtOutputs : (List Entry → Entry → Type 0) → List Entry → List Entry → Type 0
 AtOutputs P past [] = ⊤
 AtOutputs P past (e ∷ outputs) = P past e × AtOutputs P (e ∷ past) outputs
 
 -- ---- requests that a view has numbered
 
--- a new view is taken here, or sent, that begins the view with the batch
+-- the replica takes or sends a new view for view v in this entry that assigns the batch
 abbrev pub BeginsViewWith : Configuration → ℕ → List ℕ → List Entry → Entry → Type 0
 BeginsViewWith c v batch past e =
     (new : NewViewData) × (taken c past e ≡ Some new) × (new.view ≡ v) × Has (λ x. x ≡ batch) new.batches
@@ -82,7 +82,7 @@ AreDifferent c frame other =
     (call twin : Call) → call_of c frame ≡ Some call → call_of c other ≡ Some twin → call.client ≡ twin.client
     → call.timestamp ≡ twin.timestamp → ⊥
 
--- a pre-prepare that isn't sent again numbers no request that the view has numbered, and none twice
+-- a pre-prepare that isn't sent again assigns a number to no request that has one in the view, and to none twice
 abbrev pub NumbersOnce : Configuration → ℕ → List Entry → Entry → Type 0
 NumbersOnce c me past (Sent p bytes) =
     (v i : ℕ) (batch : List ℕ) → said bytes ≡ Some (record { sender = me; message = PrePrepare v i batch })
@@ -91,9 +91,9 @@ NumbersOnce c me past (Sent p bytes) =
     × ((client timestamp : ℕ) → HasRequest c client timestamp batch → IsNumbered c me past v client timestamp → ⊥)
 NumbersOnce c me past _ = ⊤
 
--- ---- the digests that the parts of a transfer are to have (Castro and Liskov, TOCS 2002, on state transfer)
+-- ---- the digests that the parts of a transfer must have (Castro and Liskov, TOCS 2002, on state transfer)
 
--- that of an inner part is told by the root's, and a page's by its inner part's
+-- the root's digests tell the wanted digest of an inner part, and the inner part's digests that of a page
 abbrev pub IsInnerWanted : Configuration → ℕ → List Entry → ℕ → ℕ → List ℕ → Type 0
 IsInnerWanted c me past k index digest =
     (root : List ℕ) × (digests : List (List ℕ)) × IsRootWanted c past k root
@@ -105,13 +105,13 @@ IsPageWanted c me past k index digest =
     × GotBelow c me past levels.Inner (index / 32) inner digests
     × (slice_get digests (index % 32) ≡ Some digest)
 
--- the digest that a part of the state of number k is to have
+-- the digest that a part of the state of number k must have
 abbrev pub IsWanted : Configuration → ℕ → List Entry → ℕ → Level → ℕ → List ℕ → Type 0
 IsWanted c me past k levels.Root index digest = IsRootWanted c past k digest
 IsWanted c me past k levels.Inner index digest = IsInnerWanted c me past k index digest
 IsWanted c me past k levels.Page index digest = IsPageWanted c me past k index digest
 
--- the place was asked for last, for a number above the state's, and this is the digest that it is to have
+-- the replica fetched the place last, for a number above the state's, and this is the digest that it must have
 abbrev pub IsAwaited : Configuration → ℕ → List Entry → Point → ℕ → Level → ℕ → List ℕ → Type 0
 IsAwaited c me past point k level index digest = (asked_last past ≡ Some (k, (level, index))) × (point.state.number < k)
     × IsWanted c me past k level index digest
@@ -135,13 +135,13 @@ CanInstall c me past old k root =
     (new : Point) × IsInstalled c me past old k root new
     × ((client : ℕ) → last_time old.state client ≤ last_time new.state client)
 
--- a new view that is taken here, or sent, starts at the number, above what was fetched
+-- the replica takes or sends a new view in this entry that starts at number k, above what it fetched
 abbrev pub StartsAhead : Configuration → ℕ → List Entry → Entry → Type 0
 StartsAhead c k past e =
     (new : NewViewData) × (taken c past e ≡ Some new) × (new.start ≡ k) × (fetching past < k)
 
--- The transfer of the state of this number goes on: its next part is asked for. Or nothing is left to fetch, and the
--- executed number reaches it, if the state can be installed. past: the past with the part; old: the point before it.
+-- The transfer of the state of number k goes on: the replica fetches its next part. Or nothing is left to fetch, and
+-- the executed number reaches k, if the state can be installed. past: the past with the part; old: the point before it.
 abbrev pub TransferGoesOn : Configuration → ℕ → List Entry → Point → List Entry → ℕ → ℕ → Type 0
 TransferGoesOn c me past old outputs executed k =
     Has (λ e. fetch_sent e ≡ k) outputs
@@ -159,12 +159,12 @@ IsNoOlder waiting client timestamp op =
     Each (λ call. call.client ≡ client
     → (call.timestamp < timestamp) ⊎ ((call.timestamp ≡ timestamp) × (call.op ≡ op))) waiting
 
--- a view change is above the own view, within its bounds, and newer than its sender's last
+-- the view change is for a view above the replica's own and above its sender's last, and within its bounds
 abbrev pub IsLatestChange : Configuration → List Entry → ℕ → ViewChangeData → Type 0
 IsLatestChange c past s vc =
     (view c past < vc.view) × (is_within c vc ≡ true) × (latest_change c past s < vc.view)
 
--- a rule takes the message
+-- the message counts: a rule takes it
 abbrev pub Counts : Configuration → ℕ → List Entry → Point → List ℕ → ℕ → Message → Type 0
 Counts c me past point bytes s (Request t modes.ReadOnly op) = is_read_only op ≡ true
 Counts c me past point bytes s (Request t modes.Ordered op) =
@@ -188,7 +188,7 @@ Counts c me past point bytes s (Meta k level index digests) =
     IsAwaited c me past point k level index (digest_of_children digests)
 Counts c me past point bytes s (Page k index text) = IsAwaited c me past point k levels.Page index (sha256 text)
 
--- The bytes are dropped: what they say to the replica, if anything, no rule takes.
+-- The bytes are dropped: no rule takes what they say to the replica, if anything.
 abbrev pub IsDropped : Configuration → ℕ → List Entry → Point → List ℕ → Type 0
 IsDropped c me past point bytes =
     (body : Body) → heard (members c) me bytes ≡ Some body → Counts c me past point bytes body.sender body.message → ⊥
@@ -201,7 +201,7 @@ TakesChange c me before input =
     (s : ℕ) × (vc : ViewChangeData) × Hears c me (record { sender = s; message = ViewChange vc }) before input
     × IsLatestChange c before s vc
 
--- The replica has a reason to move to the view: time ran out, or it took a view change, and f + 1 others are ahead.
+-- The replica has to move to view v: by a timeout, or because it took a view change and f + 1 others are ahead.
 abbrev pub HasToMove : Configuration → ℕ → List Entry → Entry → List Call → ℕ → Type 0
 HasToMove c me before input waiting v =
     TimesOut c me (input ∷ before) waiting v
@@ -213,12 +213,12 @@ AreKeysSpent past = (leaf : ℕ) → leaf < 64 → (bytes : List ℕ) × (leaf_o
 
 -- ---- new views that are due (Castro and Liskov, TOCS 2002, 4.5.2)
 
--- a view change of the sender counts here
+-- this view change of the sender counts in this entry
 abbrev pub BringsChange : Configuration → ℕ × ViewChangeData → List Entry → Entry → Type 0
 BringsChange c x past (Got p bytes) = (signed_change c bytes ≡ Some x) × IsLatestChange c past x.0 x.1
 BringsChange c x past _ = ⊥
 
--- It is the latest view change of its sender that the replica has: another's that counted, or the own one.
+-- It is the latest view change of its sender that the replica has: another's that counted, or its own.
 abbrev pub HasLatestChange : Configuration → ℕ → List Entry → ℕ × ViewChangeData → Type 0
 HasLatestChange c me past x =
     ((x.0 ≢ me) × Once (BringsChange c x) past × (latest_change c past x.0 ≡ x.1.view))
@@ -230,8 +230,8 @@ HasBatch c me past batch =
     (batch ≡ null_batch)
     ⊎ ((v i : ℕ) × (logged c me past v i ≡ Some batch) × (is_in_marks c (low c me past) i ≡ true))
 
--- The replica has moved to a view that it is the primary of, and is not active in it. The new view meets the rules over
--- view changes and batches that it has.
+-- The replica has left for a view whose primary it is, and is not active in it. The new view meets the rules over view
+-- changes and batches that the replica has.
 pub record CanBeginView (c : Configuration) (me : ℕ) (past : List Entry) (new : NewViewData) : Type 0 where
   pub left : view c past < target past
   pub view : new.view ≡ target past
@@ -240,7 +240,7 @@ pub record CanBeginView (c : Configuration) (me : ℕ) (past : List Entry) (new 
   pub changes : Each (HasLatestChange c me past) (changes_of c new)
   pub batches : Each (HasBatch c me past) new.batches
 
--- ---- what goes again once a request that waits comes again: what was sent may be lost (own)
+-- ---- what a replica sends again once a waiting request comes again, since frames may be lost (own)
 
 -- the input is an ordered request that waits already
 abbrev pub WaitsAlready : Configuration → ℕ → List Entry → Entry → Point → Type 0
@@ -249,7 +249,7 @@ WaitsAlready c me before input old =
     × Hears c me (record { sender = 256 + call.client; message = Request call.timestamp modes.Ordered call.op }) before
     input
 
--- the new view that began the view, if one did, has batches only below the number
+-- the new view that began view v, if one did, assigns only numbers below i
 abbrev pub IsBegunBelow : Configuration → ℕ → ℕ → List Entry → Type 0
 IsBegunBelow c v i history =
     (new : NewViewData) → Once (λ past e. taken c past e ≡ Some new) history → new.view ≡ v
@@ -259,65 +259,65 @@ IsBegunBelow c v i history =
 abbrev pub latest_checkpoint : Configuration → ℕ → List Entry → Option CheckpointEntry
 latest_checkpoint c me past = slice_get (checkpoints_of c past me) 0
 
--- The replica sends again what it sent in the view v for the number i: its prepare, its commit, and as the primary its
--- batch, unless the new view has that.
+-- The replica sends again what it sent in view v for number i: its prepare, its commit, and as the primary its batch,
+-- unless the new view has that.
 pub record SendsRow (c : Configuration) (me : ℕ) (past : List Entry) (v i : ℕ) (outputs : List Entry) : Type 0 where
   pub batch : (batch : List ℕ) → primary c v ≡ me → IsBegunBelow c v i past → logged c me past v i ≡ Some batch
-      → Gives me (PrePrepare v i batch) outputs
-  pub prepare : (digest : List ℕ) → prepare_of c me past v i me ≡ Some digest → Gives me (Prepare v i digest) outputs
-  pub commit : (digest : List ℕ) → commit_of c me past v i me ≡ Some digest → Gives me (Commit v i digest) outputs
+      → SendsMessage me (PrePrepare v i batch) outputs
+  pub prepare : (digest : List ℕ) → prepare_of c me past v i me ≡ Some digest → SendsMessage me (Prepare v i digest) outputs
+  pub commit : (digest : List ℕ) → commit_of c me past v i me ≡ Some digest → SendsMessage me (Commit v i digest) outputs
 
--- A replica that is active in the view v sends again what it sent for the numbers in the marks above the executed one,
--- with its own new view, by which it began the view, and its latest checkpoint.
+-- A replica that is active in view v sends again what it sent for the numbers in the marks above the executed one. It
+-- also sends its own new view, by which it began the view, and its latest checkpoint.
 pub record SendsView (c : Configuration) (me : ℕ) (past : List Entry) (executed v : ℕ) (outputs : List Entry) : Type 0
   where
-    pub new_view : primary c v ≡ me → 0 < v → (new : NewViewData) × (new.view ≡ v) × Gives me (NewView new) outputs
+    pub new_view : primary c v ≡ me → 0 < v → (new : NewViewData) × (new.view ≡ v) × SendsMessage me (NewView new) outputs
     pub rows : (i : ℕ) → executed < i → is_in_marks c (low c me past) i ≡ true → SendsRow c me past v i outputs
     pub checkpoint : (m : CheckpointEntry) → latest_checkpoint c me past ≡ Some m
-        → Gives me (Checkpoint m.number m.digest) outputs
+        → SendsMessage me (Checkpoint m.number m.digest) outputs
 
--- So does an active replica, and an inactive one sends its last view change again.
+-- An active replica sends again what it sent in its view (SendsView), and an inactive one its last view change.
 pub record SendsAgain (c : Configuration) (me : ℕ) (past : List Entry) (executed : ℕ) (outputs : List Entry) : Type 0
   where
     pub active : (v : ℕ) → is_active_in c past v ≡ true → SendsView c me past executed v outputs
     pub inactive : view c past < target past
-        → (vc : ViewChangeData) × (vc.view ≡ target past) × Gives me (ViewChange vc) outputs
+        → (vc : ViewChangeData) × (vc.view ≡ target past) × SendsMessage me (ViewChange vc) outputs
 
--- ---- what is owed
+-- ---- what a replica owes
 
--- What a correct replica owes in an event. before: the past at the input; now: the past behind the event; outputs: what
--- lies between, the oldest first; old and new: the points at the input and behind the event.
+-- What a correct replica owes in an event. before: the past at the input; now: the past after the event; outputs: those
+-- of the event, the oldest first; old and new: the points before the input and after the event.
 pub record Owes (c : Configuration) (me : ℕ) (before : List Entry) (input : Entry) (outputs now : List Entry)
     (old new : Point) : Type 0 where
-  -- no waiting request is without a number at an active primary, while a number is free
+  -- an active primary leaves no waiting request without a number, while a number is free
   pub numbers : (v i : ℕ) (call : Call) → is_active_in c now v ≡ true → primary c v ≡ me
       → Has (λ x. x ≡ call) new.waiting
       → IsFree c me now new.state.number v i → IsNumbered c me now v call.client call.timestamp
   pub numbers_once : AtOutputs (NumbersOnce c me) (input ∷ before) outputs
-  -- an active backup prepares what it logs
+  -- an active backup sends a prepare for what it logs
   pub prepares : (v i : ℕ) (batch : List ℕ) → logged c me before v i ≡ None → logged c me now v i ≡ Some batch
       → is_active_in c now v ≡ true → primary c v ≢ me
-      → Gives me (Prepare v i (sha256 batch)) outputs
-  -- an active replica commits what becomes prepared
+      → SendsMessage me (Prepare v i (sha256 batch)) outputs
+  -- an active replica sends a commit for what becomes prepared
   pub commits : (v i : ℕ) (batch : List ℕ) → (Prepared c me before v i batch → ⊥) → Prepared c me now v i batch
       → is_active_in c now v ≡ true
-      → Gives me (Commit v i (sha256 batch)) outputs
-  -- nothing that is committed and next is left
+      → SendsMessage me (Commit v i (sha256 batch)) outputs
+  -- no batch is left that is committed for the next number
   pub executes : (v : ℕ) (batch : List ℕ) → Committed c me now v (suc new.state.number) batch → ⊥
   pub replies : (ran : Ran) → Has (λ x. x ≡ ran) new.ran
-      → Gives me (reply_of ran.call.client ran.kept) outputs
+      → SendsMessage me (reply_of ran.call.client ran.kept) outputs
   pub checkpoints : (k : ℕ) → Has (λ e. Executes k [] e) outputs → k % c.period ≡ 0
-      → Has (λ st. (st.number ≡ k) × Gives me (Checkpoint k (root_of st)) outputs) new.snapshots
+      → Has (λ st. (st.number ≡ k) × SendsMessage me (Checkpoint k (root_of st)) outputs) new.snapshots
   -- a request of the last timestamp gets its kept reply again
   pub again : (k timestamp : ℕ) (op : Operation) (kept : Kept)
       → Hears c me (record { sender = 256 + k; message = Request timestamp modes.Ordered op }) before input
-      → kept_of old.state k ≡ Some kept → kept.timestamp ≡ timestamp → Gives me (reply_of k kept) outputs
+      → kept_of old.state k ≡ Some kept → kept.timestamp ≡ timestamp → SendsMessage me (reply_of k kept) outputs
   -- a request that waits already makes the replica send again what others may lack
   pub says_again : WaitsAlready c me before input old → SendsAgain c me before old.state.number outputs
   pub reads : (client timestamp : ℕ) (op : Operation)
       → Hears c me (record { sender = client; message = Request timestamp modes.ReadOnly op }) before input
       → is_read_only op ≡ true
-      → Gives me (Reply client timestamp modes.ReadOnly old.state.number (outcome (tuples old.state) (client - 256) op)) outputs
+      → SendsMessage me (Reply client timestamp modes.ReadOnly old.state.number (outcome (tuples old.state) (client - 256) op)) outputs
   pub fetched_digests : (s k index : ℕ) (level : Level) → has_children level ≡ true
       → Hears c me (record { sender = s; message = Fetch k level index }) before input
       → (st : State) → KeptState c me before old k (λ x. x ≡ st)
@@ -326,17 +326,17 @@ pub record Owes (c : Configuration) (me : ℕ) (before : List Entry) (input : En
       → Hears c me (record { sender = s; message = Fetch k levels.Page index }) before input
       → (st : State) → KeptState c me before old k (λ x. x ≡ st)
       → GivesTo me s (Page k index (page_text st index)) outputs
-  -- a quorum of checkpoints above the state, and above an open transfer, starts one
+  -- a quorum of checkpoints above the state, and above an open transfer, starts a state transfer
   pub fetches : (k : ℕ) (root : List ℕ)
       → is_quorum c (count_checkpoints c now (record { number = k; digest = root })) ≡ true
-      → new.state.number < k → fetching before < k → Gives me (Fetch k levels.Root 0) outputs
+      → new.state.number < k → fetching before < k → SendsMessage me (Fetch k levels.Root 0) outputs
   -- so does a new view that starts there
   pub fetches_start : (k : ℕ) → Once (StartsAhead c k) now → new.state.number < k → fetching before < k
-      → Gives me (Fetch k levels.Root 0) outputs
+      → SendsMessage me (Fetch k levels.Root 0) outputs
   -- a tick makes the replica send the fetch of an open transfer again
   pub fetches_again : (k index : ℕ) (level : Level) → IsTick input → asked_last before ≡ Some (k, (level, index))
-      → old.state.number < k → Gives me (Fetch k level index) outputs
-  -- a part that the transfer awaits brings it on
+      → old.state.number < k → SendsMessage me (Fetch k level index) outputs
+  -- a part that the transfer awaits makes it go on
   pub goes_on_by_digests : (s k index : ℕ) (level : Level) (digests : List (List ℕ))
       → Hears c me (record { sender = s; message = Meta k level index digests }) before input
       → IsAwaitedAlone c me before old k level index (digest_of_children digests)
@@ -345,8 +345,8 @@ pub record Owes (c : Configuration) (me : ℕ) (before : List Entry) (input : En
       → Hears c me (record { sender = s; message = Page k index text }) before input
       → IsAwaitedAlone c me before old k levels.Page index (sha256 text)
       → TransferGoesOn c me (input ∷ before) old outputs new.state.number k
-  -- A replica that has to move to a view has sent a view change for that view, or for a later one. Its keys may be
-  -- spent, or no frame may say what it has to say.
+  -- A replica that has to move to a view has sent a view change for that view or for a later one, unless its keys are
+  -- spent or no frame has room for it.
   pub view_changes : (vc : ViewChangeData) (bytes : List ℕ) → HasToMove c me before input old.waiting vc.view
       → IsNewViewChange c me (input ∷ before) old vc → is_within c vc ≡ true
       → said bytes ≡ Some (record { sender = me; message = ViewChange vc })
@@ -357,8 +357,8 @@ pub record Owes (c : Configuration) (me : ℕ) (before : List Entry) (input : En
 
 -- ---- histories
 
--- The history is safe and prompt, over one choice of points. outputs: those of the newest event that stand behind the
--- list, the oldest first; new: the point behind that event; point: the one behind the list.
+-- The history is safe and prompt, over one choice of points. outputs: those of the newest event that come after the
+-- list, the oldest first; new: the point after that event; point: the one after the list.
 abbrev pub Proceeds : Configuration → ℕ → List Entry → List Entry → Point → Point → Type 0
 Proceeds c me [] outputs new point = (point ≡ first_point) × (outputs ≡ [])
 Proceeds c me (e ∷ past) outputs new point =
@@ -375,8 +375,8 @@ IsPromptReplica c me history = (point : Point) × Proceeds c me history [] point
 abbrev pub IsInput : Entry → Type 0
 IsInput e = elim e [ Got p bytes ↦ ⊤ | Tick p ↦ ⊤ | _ ↦ ⊥ ]
 
--- The whole of what a correct replica's history is: safe and prompt; or it stopped, and from some input on there is no
--- output at all.
+-- The history is a correct replica's: it is safe and prompt; or the replica stopped, and gives no output from some
+-- input on.
 abbrev pub IsReplica : Configuration → ℕ → List Entry → Type 0
 IsReplica c me [] = ⊤
 IsReplica c me (e ∷ past) =

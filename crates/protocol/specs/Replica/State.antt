@@ -26,7 +26,7 @@ pub record State : Type 0 where
 abbrev pub opening : State
 opening = record { space = empty_state; number = 0; replies = no_replies }
 
--- the tuples in order of age
+-- the version of the space and its tuples, the oldest first
 abbrev pub tuples : State → Contents
 tuples st = tuples_of st.space
 
@@ -34,7 +34,7 @@ tuples st = tuples_of st.space
 abbrev pub kept_of : State → ℕ → Option Kept
 kept_of st client = last_of st.replies client
 
--- the last timestamp of a client, first 0
+-- the timestamp of a client's last request that ran, 0 before the first
 abbrev pub last_time : State → ℕ → ℕ
 last_time st client = seen_of st.replies client
 
@@ -46,7 +46,7 @@ pub record Call : Type 0 where
   pub timestamp : ℕ
   pub op : Operation
 
--- the call that a message is
+-- the call in a body, if it is an ordered request of a client
 abbrev pub call_in : Configuration → Body → Option Call
 call_in c body = elim body.message [
   | Request timestamp mode op ↦ if same_mode mode modes.Ordered && is_client c body.sender
@@ -54,7 +54,7 @@ call_in c body = elim body.message [
   | _ ↦ None
 ]
 
--- the call that a frame of a batch spells; all others do nothing
+-- the call that a frame of a batch spells; a frame that spells none does nothing
 abbrev pub call_of : Configuration → List ℕ → Option Call
 call_of c frame = option_and_then (call_in c) (said frame)
 
@@ -62,7 +62,7 @@ call_of c frame = option_and_then (call_in c) (said frame)
 abbrev pub runs : State → Call → Bool
 runs st call = nat_lt (last_time st call.client) call.timestamp
 
--- what a request that runs keeps for its client
+-- the reply that a request that runs leaves for its client
 abbrev pub kept_by : State → ℕ → Call → Kept
 kept_by st number call = record { timestamp = call.timestamp; number = number; outcome = outcome (tuples st) call.client call.op }
 
@@ -75,11 +75,11 @@ ran_call st number call =
       replies = with_reply st.replies call.client (kept_by st number call);
     }
 
--- what a request does in the batch of a number
+-- the state after a request in the batch of this number, whether it runs or not
 abbrev pub run_call : State → ℕ → Call → State
 run_call st number call = if runs st call then ran_call st number call else st
 
--- what a frame does there
+-- the state after a frame of the batch of this number
 abbrev pub run_frame : Configuration → ℕ → State → List ℕ → State
 run_frame c number st frame = option_map_or (run_call st number) (call_of c frame) st
 
@@ -92,25 +92,25 @@ abbrev pub after_batches : Configuration → State → List (List ℕ) → State
 after_batches c st [] = st
 after_batches c st (batch ∷ batches) = after_batches c (execute c st batch) batches
 
--- a request that ran, with what it keeps
+-- a request that ran, with the reply that it left
 pub record Ran : Type 0 where
   pub call : Call
   pub kept : Kept
 
--- a request adds itself to what ran, if it runs
+-- the request with its reply if it runs, else nothing
 abbrev pub ran_by : State → ℕ → Call → List Ran
 ran_by st number call = if runs st call then record { call = call; kept = kept_by st number call } ∷ [] else []
 
--- the requests of the frames that run, one after another
+-- the requests of these frames that run, one after another
 abbrev pub ran_in : Configuration → ℕ → State → List (List ℕ) → List Ran
 ran_in c number st [] = []
 ran_in c number st (frame ∷ frames) =
     option_map_or (ran_by st number) (call_of c frame) [] ++ ran_in c number (run_frame c number st frame) frames
 
--- ---- what a state is
+-- ---- well-formed states
 
--- A state: that of a space behind so many batches, and with a reply or none for each of 256 clients.
-pub record IsState (st : State) : Type 0 where
+-- The state is well formed: its space is one after that many batches, and each of 256 clients has a reply or none.
+pub record IsReplicatedState (st : State) : Type 0 where
   pub space : IsStateAt st.space st.number
   pub replies : AreReplies st.replies
 
@@ -128,7 +128,7 @@ page_text st page =
 unfoldable pub all_pages : (ℕ → List ℕ) → List (List ℕ)
 all_pages page = map page (range_with_len 0 1024)
 
--- the pages of a state, and the root of the tree over them, which a checkpoint says
+-- the pages of a state, and the root of the tree over them, which a checkpoint has
 abbrev pub pages_of : State → List (List ℕ)
 pages_of st = all_pages (page_text st)
 

@@ -1,4 +1,4 @@
--- What one sequential tuple space would do, and where; and the points of a trace.
+-- Linearizability of a trace (Herlihy and Wing, Linearizability, TOPLAS 1990), and the points that linearize it.
 use Rattle.std.specs.Prelude.{◌≡◌, ℕ, zero, suc, ◌+◌, ◌-◌, ◌≤◌, Bool, true, false, ◌&&◌, ◌||◌, not, List, [], ◌∷◌, ◌++◌, length, map, max, filter, nat_lt, nat_le, ◌==◌, if◌then◌else◌, Option, Some, None, option_and_then, ⊤}
 use Rattle.std.specs.Bool.{then_some}
 use Rattle.std.specs.Option.{option_map_or}
@@ -19,7 +19,7 @@ use Rattle.protocol.specs.Replica.Certificates.{first_given, greatest}
 use Rattle.protocol.specs.Replica.State.{State, Ran, opening, execute, ran_in}
 use Rattle.protocol.specs.Client.RightClient.{Vote, OpenCall, open_call, newest_vote}
 
--- What is done at a position: client is the party, and position counts the entries before.
+-- An operation at its position in the trace, which counts the entries before it. client is the party's number, 256 + k.
 pub record Item : Type 0 where
   pub client : ℕ
   pub timestamp : ℕ
@@ -29,35 +29,35 @@ pub record Item : Type 0 where
 
 -- ---- legal
 
--- what an item is answered, and what it leaves
+-- the answer that the space gives to the item, and the contents that it leaves
 abbrev pub item_outcome : Contents → Item → Outcome
 item_outcome ts item = outcome ts (item.client - 256) item.op
 
 abbrev pub item_after : Contents → Item → Contents
 item_after ts item = tuples_after ts (item.client - 256) item.op
 
--- each answer is that of one space, which begins with these tuples
+-- each item's answer is that of one space, which runs the items in order from these contents
 abbrev pub LegalFrom : Contents → List Item → Type 0
 LegalFrom ts [] = ⊤
 LegalFrom ts (item ∷ items) = (item.answer ≡ item_outcome ts item) × LegalFrom (item_after ts item) items
 
--- Legal: a sequential history of an empty space (Herlihy and Wing, Linearizability, TOPLAS 1990, section 2).
+-- The items are a legal sequential history of one space, empty at first (Herlihy and Wing, section 2).
 abbrev pub Legal : List Item → Type 0
 Legal items = LegalFrom no_tuples items
 
 -- ---- covers
 
--- the party p, a client, calls the operation here, with this timestamp
+-- in this entry client p, by its party number, invokes the operation with this timestamp
 abbrev pub Invokes : ℕ → ℕ → Operation → List Entry → Entry → Type 0
 Invokes p timestamp op past (Invoke client t o) = (256 + client ≡ p) × (t ≡ timestamp) × (o ≡ op)
 Invokes p timestamp op past _ = ⊥
 
--- it accepts this answer here, to its call of this timestamp
+-- in this entry client p accepts the answer to its call of this timestamp
 abbrev pub Accepts : ℕ → ℕ → Outcome → List Entry → Entry → Type 0
 Accepts p timestamp answer past (Accepted client t a) = (256 + client ≡ p) × (t ≡ timestamp) × (a ≡ answer)
 Accepts p timestamp answer past _ = ⊥
 
--- a correct replica got the ordered request authentic to itself, alone or carried
+-- In this entry a correct replica receives the client's ordered request, alone or carried, authentic to the replica.
 abbrev pub Asks : Configuration → ℕ → ℕ → Operation → List Entry → Entry → Type 0
 Asks c client timestamp op past (Got p bytes) =
     (is_correct_replica c p ≡ true)
@@ -65,14 +65,15 @@ Asks c client timestamp op past (Got p bytes) =
     ≡ Some (record { sender = client; message = Request timestamp modes.Ordered op })) (frames_in bytes)
 Asks c client timestamp op past _ = ⊥
 
--- no two items are of one client and timestamp
+-- no two items have the same client and timestamp
 abbrev pub NoneTwice : List Item → Type 0
 NoneTwice [] = ⊤
 NoneTwice (item ∷ items) =
     (Has (λ x. (x.client ≡ item.client) × (x.timestamp ≡ item.timestamp)) items → ⊥) × NoneTwice items
 
--- Covers: what correct clients accepted is there, once; what is there of a correct client it invoked; what is there of
--- a faulty one some correct replica had been asked by then; and nothing is there twice.
+-- The items cover the trace. Each answer that a correct client accepted has an item, with the operation that was
+-- invoked. A correct client invoked each item of its own. For each other item some correct replica had received the
+-- request by the item's position. No client and timestamp has two items.
 pub record Covers (c : Configuration) (items : List Item) (trace : List Entry) : Type 0 where
   pub accepted : (p timestamp : ℕ) (answer : Outcome) → is_correct_client c p ≡ true
       → Once (Accepts p timestamp answer) trace
@@ -86,14 +87,13 @@ pub record Covers (c : Configuration) (items : List Item) (trace : List Entry) :
 
 -- ---- placed
 
--- no position is below the one before it
+-- positions never decrease along the list
 abbrev pub NeverFall : List Item → Type 0
 NeverFall [] = ⊤
 NeverFall (x ∷ []) = ⊤
 NeverFall (x ∷ y ∷ items) = (x.position ≤ y.position) × NeverFall (y ∷ items)
 
--- Placed: positions never fall; those of a correct client's item are not before its invocation, and not after its
--- acceptance.
+-- Positions never decrease. An item of a correct client stands neither before its invocation nor after its acceptance.
 pub record Placed (c : Configuration) (items : List Item) (trace : List Entry) : Type 0 where
   pub in_order : NeverFall items
   pub after : (item : Item) → Has (λ x. x ≡ item) items → is_correct_client c item.client ≡ true
@@ -107,19 +107,19 @@ pub record IsLinear (c : Configuration) (items : List Item) (trace : List Entry)
   pub covers : Covers c items trace
   pub placed : Placed c items trace
 
--- Linearizable (Herlihy and Wing, section 2).
+-- The trace is linearizable: some items linearize it (Herlihy and Wing, section 2).
 abbrev pub Linear : Configuration → List Entry → Type 0
 Linear c trace = (items : List Item) × IsLinear c items trace
 
 -- ---- the level, and the points
 
--- the number that the replica executes or installs here, else 0
+-- the number that replica r executes or installs in this entry, or 0
 abbrev pub reached_at : ℕ → Entry → ℕ
 reached_at r (Executed replica number batch) = if replica == r then number else 0
 reached_at r (Installed replica number root) = if replica == r then number else 0
 reached_at r _ = 0
 
--- the greatest number that the replica has executed or installed
+-- the greatest number that replica r has executed or installed, or 0
 abbrev pub reached : List Entry → ℕ → ℕ
 reached past r = greatest (reached_at r) past
 
@@ -127,28 +127,28 @@ reached past r = greatest (reached_at r) past
 abbrev pub count_correct : Configuration → ℕ
 count_correct c = count_below (is_correct_replica c) (replicas c)
 
--- a correct replica has executed or installed the number k, or a greater one
+-- replica r is correct and has executed or installed number k or a greater one
 abbrev pub has_reached : Configuration → List Entry → ℕ → ℕ → Bool
 has_reached c past k r = is_correct_replica c r && nat_le k (reached past r)
 
--- all but f of the correct replicas have reached the number
+-- all correct replicas but at most f have reached number k
 abbrev pub is_level : Configuration → List Entry → ℕ → Bool
 is_level c past k = nat_le (count_correct c) (count_below (has_reached c past k) (replicas c) + c.faults)
 
--- the first position at which the level is at least the number
+-- the first position at which all correct replicas but at most f have reached number k
 abbrev pub first_position : Configuration → List Entry → ℕ → Option ℕ
 first_position c trace k = first_given (λ past e. then_some (is_level c (e ∷ past) k) (length past)) trace
 
--- the batch that some replica executes here for the number k
+-- the batch that a replica executes in this entry for number k
 abbrev pub batch_at : ℕ → Entry → Option (List ℕ)
 batch_at k (Executed replica number batch) = then_some (number == k) batch
 batch_at k _ = None
 
--- the batch of the first execution of the number
+-- the batch of the first execution of number k, or the null batch
 abbrev pub batch_of : List Entry → ℕ → List ℕ
 batch_of trace k = option_map_or (λ batch. batch) (first_given (λ past e. batch_at k e) trace) null_batch
 
--- the number that is executed here, else 0
+-- the number that a replica executes in this entry, or 0
 abbrev pub executed_at : Entry → ℕ
 executed_at (Executed replica number batch) = number
 executed_at _ = 0
@@ -157,13 +157,13 @@ executed_at _ = 0
 abbrev pub last_executed : List Entry → ℕ
 last_executed past = greatest executed_at past
 
--- an item with what orders it
+-- an item with the keys by which points are sorted: the number of its batch or of a read's replies, and the mode
 pub record Placing : Type 0 where
   pub item : Item
   pub number : ℕ
   pub mode : Mode
 
--- the item of a request that ran in the batch of this number, at the position of its level
+-- the point, at the given position, of a request that ran in the batch of this number
 abbrev pub ordered_point : ℕ → ℕ → Ran → Placing
 ordered_point position number ran = record {
   item = record {
@@ -177,7 +177,7 @@ ordered_point position number ran = record {
   mode = modes.Ordered;
 }
 
--- the requests that ran, batch by batch from the number k on, where their level comes
+-- the points of the requests that ran in the batches from number k on, each at the first position of its number
 abbrev pub ordered_points : Configuration → List Entry → State → ℕ → ℕ → List Placing
 ordered_points c trace st k zero = []
 ordered_points c trace st k (suc more) =
@@ -191,11 +191,11 @@ invoke_past p [] = []
 invoke_past p (Invoke client t op ∷ past) = if 256 + client == p then past else invoke_past p past
 invoke_past p (_ ∷ past) = invoke_past p past
 
--- its position
+-- the position of the client's latest invocation
 abbrev pub invoked_at : ℕ → List Entry → ℕ
 invoked_at p past = length (invoke_past p past)
 
--- the read that an acceptance ends, where its replies were read-only
+-- the point of the read that an acceptance ends, if its replies were read-only
 abbrev pub read_point : Configuration → List Entry → ℕ → OpenCall → Outcome → List Entry → Vote → Option Placing
 read_point c trace p call answer past vote = then_some (same_mode vote.mode modes.ReadOnly) (record {
   item = record {
@@ -209,7 +209,7 @@ read_point c trace p call answer past vote = then_some (same_mode vote.mode mode
   mode = modes.ReadOnly;
 })
 
--- those reads of the entries given; levels are those of the whole trace
+-- the points of the reads that are accepted in the entries given; first positions are those of the whole trace
 abbrev pub read_points : Configuration → List Entry → List Entry → List Placing
 read_points c trace [] = []
 read_points c trace (Accepted client timestamp answer ∷ past) =
@@ -220,8 +220,8 @@ read_points c trace (Accepted client timestamp answer ∷ past) =
     ++ read_points c trace past
 read_points c trace (_ ∷ past) = read_points c trace past
 
--- By position, number, ordered before read-only, and then client and timestamp of reads. Of two ordered ones of a batch
--- the one that stands first comes first, so they stay in their order.
+-- Points are sorted by position, then number, then ordered before read-only, then reads by client and timestamp. Two
+-- ordered points of one batch keep their order.
 abbrev pub comes_before : Placing → Placing → Bool
 comes_before x y =
     nat_lt x.item.position y.item.position || ((x.item.position == y.item.position)
@@ -230,7 +230,7 @@ comes_before x y =
     && (nat_lt x.item.client y.item.client || ((x.item.client == y.item.client)
     && nat_le x.item.timestamp y.item.timestamp)))))))
 
--- one more in a sorted list, and a list sorted so; equals keep their order
+-- inserts a point into a sorted list, and sorts a list; equal points keep their order
 abbrev pub insert_point : Placing → List Placing → List Placing
 insert_point x [] = x ∷ []
 insert_point x (y ∷ ys) = if comes_before x y then x ∷ y ∷ ys else y ∷ insert_point x ys
@@ -239,13 +239,13 @@ abbrev pub sorted : List Placing → List Placing
 sorted [] = []
 sorted (x ∷ xs) = insert_point x (sorted xs)
 
--- one of the list is of the same client and timestamp
+-- some point of the list has the same client and timestamp
 abbrev pub is_double : List Placing → Placing → Bool
 is_double [] x = false
 is_double (y ∷ ys) x = ((y.item.client == x.item.client) && (y.item.timestamp == x.item.timestamp)) || is_double ys x
 
--- The points of a trace: the requests that ran, at the first position of their number's level, without the doubles of
--- reads that were accepted read-only; and those reads, at that position or at their invocation, whichever is later.
+-- The points of a trace. Each request that ran has one at the first position of its number, unless it is a read that
+-- was accepted read-only. Such a read has one at that position or at its invocation, whichever is later.
 unfoldable pub points : Configuration → List Entry → List Item
 points c trace =
     let reads : List Placing = read_points c trace trace in

@@ -1,11 +1,11 @@
--- The configuration: how many replicas may be faulty, which are, and what all are given (Castro and Liskov, TOCS 2002,
--- on the system model: 3f + 1 replicas, of which at most f are faulty).
+-- The configuration: how many replicas and clients there are, which are faulty, and what all parties are given (Castro
+-- and Liskov, TOCS 2002, on the system model: 3f + 1 replicas, of which at most f are faulty).
 use Rattle.std.specs.Prelude.{◌≡◌, ◌≢◌, ℕ, ◌-◌, ◌*◌, ◌%◌, ◌^◌, ◌≤◌, ◌<◌, Bool, ◌&&◌, ◌||◌, not, List, length, nat_lt, All, AllPairs}
 use Rattle.authenticator.specs.Membership.{Membership, replicas as member_replicas, is_replica as is_member_replica, is_client as is_member_client}
 use Rattle.quorum.specs.Quorum.{member}
 
--- Numbers of replicas are 0 to 3f, of clients 0 to clients - 1. The period is the number of batches from one checkpoint
--- to the next.
+-- Replicas have the numbers 0 to 3f, clients 0 to clients - 1. period: how many batches go from checkpoint to
+-- checkpoint.
 pub record Configuration : Type 0 where
   pub faults : ℕ
   pub clients : ℕ
@@ -14,7 +14,7 @@ pub record Configuration : Type 0 where
   pub faulty_replicas : List ℕ
   pub faulty_clients : List ℕ
 
--- who takes part, as keys and hearing know it
+-- the membership, from which keys are derived and by which senders are judged
 abbrev pub members : Configuration → Membership
 members c = record { seed = c.seed; faults = c.faults; clients = c.clients }
 
@@ -22,7 +22,7 @@ members c = record { seed = c.seed; faults = c.faults; clients = c.clients }
 abbrev pub replicas : Configuration → ℕ
 replicas c = member_replicas (members c)
 
--- what makes a configuration valid
+-- The configuration is valid.
 pub record IsConfiguration (c : Configuration) : Type 0 where
   pub some_faults : 1 ≤ c.faults
   pub most : c.faults ≤ 3
@@ -64,10 +64,10 @@ is_correct c p = is_correct_replica c p || is_correct_client c p
 abbrev pub primary : Configuration → ℕ → ℕ
 primary c view = view % replicas c
 
--- how far the high mark is above the low one
+-- the distance from the low water mark to the high one
 abbrev pub span : Configuration → ℕ
 span c = 2 * c.period
 
--- A view or number is below 2^48.
+-- Views and sequence numbers are below 2^48.
 abbrev pub is_number : ℕ → Bool
 is_number n = nat_lt n (2 ^ 48)

@@ -1,5 +1,5 @@
--- What a frame of a party's own is. What bytes spell and say, and what a party hears from them, are the words of the
--- crates wire and signing.
+-- Frames that a party makes itself. The crates wire and signing say which body the bytes spell, and which frames are
+-- authentic to a party.
 use Rattle.std.specs.Prelude.{◌≡◌, ℕ, Bool, true, false, List, Option, Some, None, option_and_then, slice_get, All}
 use Rattle.terms.specs.declared.order.Mode.{Mode}
 use Rattle.terms.specs.declared.order.Mode.TheVariants as modes
@@ -9,14 +9,14 @@ use Rattle.authenticator.specs.Authentic.{mac_of}
 use Rattle.signing.specs.Heard.{has_signature}
 use Rattle.protocol.specs.System.Configuration.{Configuration}
 
--- each MAC is that of the body from its sender to the receiver; a signature is its sender's
+-- each MAC is over the body, under the key from its sender to the MAC's receiver; a signature is the sender's
 abbrev pub IsSealed : Configuration → Frame → Type 0
 IsSealed c frame = elim frame.authenticator [
   | macs entries ↦ All (λ x. x.mac ≡ mac_of c.seed x.receiver frame.body) entries
   | signature s ↦ has_signature c.seed frame ≡ true
 ]
 
--- The bytes are a frame of the party's own that says this, sealed for these receivers; a signed one names none.
+-- The bytes are party me's own frame of this message, signed or with MACs for these receivers. A signed one names none.
 pub record IsPosted (c : Configuration) (me : ℕ) (message : Message) (receivers bytes : List ℕ) : Type 0 where
   pub says : said bytes ≡ Some (record { sender = me; message = message })
   pub is_sealed : (frame : Frame) → frame_of bytes ≡ Some frame
@@ -30,7 +30,7 @@ leaf_in (signature s) = slice_get s 0
 abbrev pub leaf_of : List ℕ → Option ℕ
 leaf_of bytes = option_and_then (λ frame. leaf_in frame.authenticator) (frame_of bytes)
 
--- two modes are one
+-- whether the two modes are the same
 abbrev pub same_mode : Mode → Mode → Bool
 same_mode modes.Ordered modes.Ordered = true
 same_mode modes.ReadOnly modes.ReadOnly = true

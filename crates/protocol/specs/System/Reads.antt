@@ -1,20 +1,20 @@
--- The entries of reads, which a replica answers beside ordering (Castro and Liskov, TOCS 2002, on read-only
--- operations). They are told by the marks of their bytes.
+-- The entries of read-only requests, which a replica answers outside the ordering (Castro and Liskov, TOCS 2002, on
+-- read-only operations). Marks in the bytes tell them.
 use Rattle.std.specs.Prelude.{Bool, false, not, List, filter}
 use Rattle.wire.specs.Marks.{asks_read, answers_read}
 use Rattle.protocol.specs.System.Trace.{Entry}
 use Rattle.protocol.specs.System.Trace.Entry.{Got, Sent}
 
--- what got such a request or sent such a reply stands beside ordering
+-- the entry receives a read-only request, or sends a reply to one
 abbrev pub is_beside : Entry → Bool
 is_beside (Got p bytes) = asks_read bytes
 is_beside (Sent p bytes) = answers_read bytes
 is_beside _ = false
 
--- any other entry is one of ordering
+-- any other entry belongs to the ordering
 abbrev pub orders : Entry → Bool
 orders e = not (is_beside e)
 
--- the entries of ordering
+-- the entries of the ordering
 abbrev pub without_reads : List Entry → List Entry
 without_reads entries = filter orders entries

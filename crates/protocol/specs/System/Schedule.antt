@@ -1,5 +1,5 @@
--- Which inputs a schedule feeds, over the real bytes of sealed and signed frames, and which of its steps are allowed.
--- Here the entries that are to come stand oldest first.
+-- The inputs that a schedule feeds, over the real bytes of sealed and signed frames, and the steps that are allowed. In
+-- this file the entries that are still to come stand oldest first.
 use Rattle.std.specs.Prelude.{◌≡◌, ℕ, suc, ◌-◌, ◌+◌, ◌≤◌, ◌<◌, Bool, true, false, ◌&&◌, ◌||◌, not, List, [], ◌∷◌, ◌++◌, length, map, reverse, ◌==◌, if◌then◌else◌, Option, Some, None, slice_get, All, AllPairs, ⊤}
 use Rattle.std.specs.List.{list_any, range_with_len}
 use Rattle.std.specs.Option.{option_map_or}
@@ -17,9 +17,9 @@ use Rattle.protocol.specs.System.Trace.Entry.{Invoke, Got, Tick, Sent, Accepted}
 use Rattle.protocol.specs.Client.RightClient.{open_call}
 use Rattle.protocol.specs.Space.Linear.{Item, points}
 
--- A step of a schedule: a call; a frame that was made, to a party; bytes to a party; a frame of a faulty party, with
--- MACs or signed; a tick; or the delivery of all that is left. A client stands with its number in a call, all others
--- with their party.
+-- A step of a schedule: a client calls; a frame that was made, or any bytes, are delivered to a party; a faulty party
+-- makes a frame, with MACs or signed; time goes by at a party; all that is left is delivered. A call names a client by
+-- its client number, all else names parties.
 pub data Step : Type 0 where
   calls : (client : ℕ) (op : Operation) → Step
   deliver : (frame party : ℕ) → Step
@@ -31,17 +31,17 @@ pub data Step : Type 0 where
 
 -- ---- frames
 
--- a frame that was made, and whom it is for
+-- a frame that was made, and the parties that it is for
 pub record Made : Type 0 where
   pub bytes : List ℕ
   pub receivers : List ℕ
 
--- a sealed frame is for those with a MAC, a signed one for all other replicas
+-- a frame with MACs is for their receivers, a signed one for all other replicas
 abbrev pub meant_for : Configuration → ℕ → Authenticator → List ℕ
 meant_for c sender (macs entries) = receivers_of (macs entries)
 meant_for c sender (signature s) = range_with_len 0 sender ++ range_with_len (suc sender) (replicas c - suc sender)
 
--- a frame that an output sends is made with it
+-- the frame that an output sends; other entries make none
 abbrev pub made_by : Configuration → Entry → List Made
 made_by c (Sent p bytes) = record {
   bytes = bytes;
@@ -49,7 +49,7 @@ made_by c (Sent p bytes) = record {
 } ∷ []
 made_by c _ = []
 
--- the bytes of a frame with MACs under the sender's keys, and of one signed with a leaf of the replica's seed
+-- the bytes of a frame with MACs under the sender's keys, and of one signed with a leaf of the replica's keys
 abbrev pub sealed_bytes : Configuration → ℕ → List ℕ → List ℕ → List ℕ
 sealed_bytes c sender receivers body =
     piece body ++ authenticator_spelling (macs (map (entry_for c.seed sender body) receivers))
@@ -60,7 +60,7 @@ signed_bytes c replica leaf body =
 
 -- ---- the world between steps
 
--- the frames made so far, the deliveries made so far (frame and receiver), and the trace, the newest entry first
+-- the frames that were made, in order; the deliveries (frame and receiver); and the trace, the newest entry first
 pub record World : Type 0 where
   pub frames : List Made
   pub delivered : List (ℕ × ℕ)
@@ -70,7 +70,7 @@ pub record World : Type 0 where
 abbrev pub new_world : World
 new_world = record { frames = []; delivered = []; past = [] }
 
--- the world behind an entry
+-- the world after an entry
 abbrev pub with_entry : Configuration → World → Entry → World
 with_entry c w e = record w { frames = w.frames ++ made_by c e; past = e ∷ w.past }
 
@@ -91,7 +91,7 @@ next_receiver c delivered frame (q ∷ receivers) =
     if is_correct c q && not (is_delivered delivered frame q) then Some (frame, q) else
     next_receiver c delivered frame receivers
 
--- the first frame that has one, and that receiver; frames are numbered from this one on
+-- the first frame that a correct receiver didn't get, and the first such receiver; frame is the number of the first
 abbrev pub next_pair : Configuration → List (ℕ × ℕ) → ℕ → List Made → Option (ℕ × ℕ)
 next_pair c delivered frame [] = None
 next_pair c delivered frame (made ∷ frames) =
@@ -107,15 +107,15 @@ pending c w = next_pair c w.delivered 0 w.frames
 abbrev pub is_party : Configuration → ℕ → Bool
 is_party c p = is_replica c p || is_client c p
 
--- whom a frame of a faulty party may be for
+-- a frame of a faulty party may be for 1 to 10 parties, in ascending order
 pub record AreReceivers (c : Configuration) (receivers : List ℕ) : Type 0 where
   pub some : 1 ≤ length receivers
   pub few : length receivers ≤ 10
   pub ascend : AllPairs (λ p q. p < q) receivers
   pub parties : All (λ p. is_party c p ≡ true) receivers
 
--- A call's timestamp is no part of the step: in a run it is the client's next one. That holds of a client that stopped
--- too, whose call stays open, so that it has no second one.
+-- The step is allowed in this world. A call's timestamp is no part of the step: in a run it is the client's next one.
+-- So it is for a client that stopped: its call stays open, and it makes no second one.
 abbrev pub IsAllowed : Configuration → World → Step → Type 0
 IsAllowed c w (calls k op) =
     (is_correct_client c (256 + k) ≡ true) × (open_call (history_of (256 + k) w.past) ≡ None) × IsOperation op
@@ -135,7 +135,8 @@ abbrev pub AtInput : List Entry → Type 0
 AtInput [] = ⊤
 AtInput (e ∷ entries) = is_output e ≡ false
 
--- from a world, over the steps and the entries to come, to a world
+-- these steps lead from one world to another, over exactly these entries: a step brings its input, and outputs may
+-- follow
 pub data Goes (c : Configuration) : World → List Step → List Entry → World → Type 0 where
   ends : {w : World} → Goes c w [] [] w
   gives : {w v : World} {steps : List Step} {entries : List Entry} {e : Entry}
@@ -168,7 +169,7 @@ pub data Goes (c : Configuration) : World → List Step → List Entry → World
   flushed : {w v : World} {steps : List Step} {entries : List Entry}
       → AtInput entries → pending c w ≡ None → Goes c w steps entries v → Goes c w (flush ∷ steps) entries v
 
--- the trace, the newest first, has the inputs that the steps feed, each of them allowed
+-- the inputs of the trace are those that the steps feed, each of them allowed; the trace stands newest first
 abbrev pub Feeds : Configuration → List Step → List Entry → Type 0
 Feeds c steps trace = (w : World) × Goes c new_world steps (reverse trace) w
 
@@ -188,7 +189,7 @@ acceptances (Accepted client timestamp answer ∷ past) =
     record { position = length past; client = client; timestamp = timestamp; answer = answer } ∷ acceptances past
 acceptances (_ ∷ past) = acceptances past
 
--- the acceptances in order of position, and the points
+-- the report has the trace's acceptances in order of position, and its points
 pub record IsReport (c : Configuration) (trace : List Entry) (accepted : List Acceptance)
     (items : List Item) : Type 0 where
   pub accepted_are : accepted ≡ reverse (acceptances trace)

@@ -1,4 +1,4 @@
--- The texts whose digests must differ, and that they do.
+-- The texts whose digests must differ, and the premise that they do.
 use Rattle.std.specs.Prelude.{◌≡◌, ℕ, ◌+◌, ◌<◌, true, ◌&&◌, List, [], ◌∷◌, length, ◌==◌, Option, Some, None}
 use Rattle.std.specs.Bool.{then_some}
 use Rattle.std.specs.List.{concat}
@@ -15,7 +15,7 @@ use Rattle.protocol.specs.Replica.State.{opening, after_batches, page_text, all_
 use Rattle.protocol.specs.Replica.Transfers.{in_place}
 use Rattle.protocol.specs.Space.Linear.{reached}
 
--- the batches, and the texts of pages and of digests, that a message has
+-- the batches in a message; and the page, or the text of digests, in it
 abbrev pub batches_of : Message → List (List ℕ)
 batches_of message = elim message [ PrePrepare view number batch ↦ batch ∷ [] | NewView new ↦ new.batches | _ ↦ [] ]
 
@@ -23,51 +23,52 @@ abbrev pub parts_of : Message → List (List ℕ)
 parts_of message =
     elim message [ Meta number level index digests ↦ concat digests ∷ [] | Page number index text ↦ text ∷ [] | _ ↦ [] ]
 
--- the bytes spell a message that has the batch
+-- the bytes spell a message with the batch in it
 abbrev pub SaysBatch : List ℕ → List ℕ → Type 0
 SaysBatch text bytes = (body : Body) × (said bytes ≡ Some body) × Has (λ x. x ≡ text) (batches_of body.message)
 
--- the batch was got or sent
+-- a party receives or sends the batch in this entry
 abbrev pub HasBatch : List ℕ → List Entry → Entry → Type 0
 HasBatch text past (Got p bytes) = SaysBatch text bytes
 HasBatch text past (Sent p bytes) = SaysBatch text bytes
 HasBatch text past _ = ⊥
 
--- the page, or the text of digests, was got
+-- a party receives the page, or the text of digests, in this entry
 abbrev pub HasPart : List ℕ → List Entry → Entry → Type 0
 HasPart text past (Got p bytes) = (body : Body) × (said bytes ≡ Some body) × Has (λ x. x ≡ text) (parts_of body.message)
 HasPart text past _ = ⊥
 
--- the batch that a correct replica executes here for the number k
+-- the batch that a correct replica executes in this entry for number k
 abbrev pub batch_by : Configuration → ℕ → Entry → Option (List ℕ)
 batch_by c k (Executed r number batch) = then_some (is_correct_replica c r && (number == k)) batch
 batch_by c k _ = None
 
--- the batch that the correct replicas executed first for the number
+-- the batch of the first execution of number k by a correct replica
 abbrev pub first_batch : Configuration → List Entry → ℕ → Option (List ℕ)
 first_batch c trace k = first_given (λ past e. batch_by c k e) trace
 
--- each batch was executed first for its number, from the given number on: of each length there is one list at most
+-- the batches are those executed first for the numbers k, k + 1, and so on; there is at most one such list of each
+-- length
 abbrev pub AreFirst : Configuration → List Entry → ℕ → List (List ℕ) → Type 0
 AreFirst c trace k [] = Unit {0}
 AreFirst c trace k (batch ∷ batches) = (first_batch c trace k ≡ Some batch) × AreFirst c trace (k + 1) batches
 
--- the texts under the root of some pages
+-- the texts of digests in the partition tree over these pages: of an inner part's pages, and of all inner parts
 pub data IsUnder (page : ℕ → List ℕ) : List ℕ → Type 0 where
   inner : (j : ℕ) → j < 32 → IsUnder page (concat (page_digests (all_pages page) j))
   top : IsUnder page (concat (inner_digests (all_pages page)))
 
--- a correct replica installs a state here over that of the batches, and the text is under the pages that are in place
+-- In this entry a correct replica installs a state over that of the batches, and the text is under the pages in place.
 abbrev pub InstallsOver : Configuration → List (List ℕ) → List ℕ → List Entry → Entry → Type 0
 InstallsOver c batches text past (Installed r k root) =
     (is_correct_replica c r ≡ true) × (length batches ≡ reached past r)
     × IsUnder (in_place c r k (history_of r past) (after_batches c opening batches)) text
 InstallsOver c batches text past _ = ⊥
 
--- The null batch; each batch that was got or sent; each page and each text of digests that was got; the pages, and the
--- texts of digests under them, of each state of the batches that were executed first; and the texts of digests under
--- the pages that were in place where a correct replica installed a state: those of the state of the batches up to the
--- number that it had reached, with the pages put in that its transfer took.
+-- The texts of a trace: the null batch; each batch, page and text of digests that a party received, and each batch that
+-- one sent; the pages of each state that the first executed batches leave, and the texts under them; and the texts
+-- under the pages in place when a correct replica installed a state. Those are the pages of the state that it had
+-- reached, with those that its state transfer took put in.
 pub data IsText (c : Configuration) (trace : List Entry) : List ℕ → Type 0 where
   null : IsText c trace null_batch
   batch : (text : List ℕ) → Once (HasBatch text) trace → IsText c trace text
@@ -79,7 +80,7 @@ pub data IsText (c : Configuration) (trace : List Entry) : List ℕ → Type 0 w
   installed : (batches : List (List ℕ)) (text : List ℕ) → AreFirst c trace 1 batches
       → Once (InstallsOver c batches text) trace → IsText c trace text
 
--- SHA-256 (FIPS 180-4) differs on different ones of them. They are at most 1,057 for each entry and 1,058 more
--- (texts_are_listed); of all texts it would be false.
+-- Different texts of the trace have different SHA-256 digests (FIPS 180-4). They are at most 1,057 for each entry and
+-- 1,058 more (texts_are_listed). Of all texts the premise would be false.
 abbrev pub NoCollision : Configuration → List Entry → Type 0
 NoCollision c trace = (x y : List ℕ) → IsText c trace x → IsText c trace y → sha256 x ≡ sha256 y → x ≡ y

@@ -1,5 +1,5 @@
--- Traces and histories. Both are lists of entries, the newest first, so that what stands behind an entry is its past,
--- and the position of an entry is how many stand behind it.
+-- Traces and histories. Both are lists of entries, the newest first: what follows an entry in the list is its past, and
+-- the past's length is the entry's position.
 use Rattle.std.specs.Prelude.{◌≡◌, ℕ, ◌+◌, ◌⊎◌, Bool, true, false, List, [], ◌∷◌, filter, ◌==◌, Some, ⊤}
 use Rattle.std.specs.Option.{option_map_or}
 use Rattle.tuple_codec.specs.Operations.{Operation, Outcome}
@@ -9,7 +9,7 @@ use Rattle.wire.specs.Words.{carried, said}
 use Rattle.signing.specs.Heard.{heard, signed_body}
 use Rattle.wire.specs.Lists.{Each}
 
--- What happens at the correct parties. A client stands with its number here, and 256 above it as a party.
+-- An input or output of a correct party. A field client has the client's number k, which is 256 + k as a party.
 pub data Entry : Type 0 where
   Invoke : (client timestamp : ℕ) (op : Operation) → Entry
   Got : (party : ℕ) (bytes : List ℕ) → Entry
@@ -19,7 +19,7 @@ pub data Entry : Type 0 where
   Sent : (party : ℕ) (bytes : List ℕ) → Entry
   Accepted : (client timestamp : ℕ) (answer : Outcome) → Entry
 
--- the party at which the entry stands
+-- the party to which the entry belongs
 abbrev pub party_of : Entry → ℕ
 party_of (Invoke client timestamp op) = 256 + client
 party_of (Got party bytes) = party
@@ -37,17 +37,17 @@ is_output e = elim e [ Invoke client t op ↦ false | Got p bytes ↦ false | Ti
 abbrev pub history_of : ℕ → List Entry → List Entry
 history_of p trace = filter (λ e. party_of e == p) trace
 
--- at some entry, with its past
+-- P holds at some entry, with its past
 abbrev pub Once : (List Entry → Entry → Type 0) → List Entry → Type 0
 Once P [] = ⊥
 Once P (e ∷ past) = P past e ⊎ Once P past
 
--- at each entry, with its past
+-- P holds at each entry, with its past
 abbrev pub Always : (List Entry → Entry → Type 0) → List Entry → Type 0
 Always P [] = ⊤
 Always P (e ∷ past) = P past e × Always P past
 
--- some element of the list
+-- P holds of some element of the list
 abbrev pub Has : {A : Type 0} → (A → Type 0) → List A → Type 0
 Has P [] = ⊥
 Has P (x ∷ xs) = P x ⊎ Has P xs
@@ -56,46 +56,46 @@ Has P (x ∷ xs) = P x ⊎ Has P xs
 abbrev pub AreOutputs : List Entry → Type 0
 AreOutputs entries = Each (λ e. is_output e ≡ true) entries
 
--- the one or the other
+-- the one if the condition is true, else the other
 abbrev pub either : Bool → Type 0 → Type 0 → Type 0
 either true one other = one
 either false one other = other
 
 -- ---- frames
 
--- the frames that a frame carries, which carry none, and with them the frame itself
+-- the frames that a frame carries, which carry none themselves; and with them the frame itself
 abbrev pub carried_by : List ℕ → List (List ℕ)
 carried_by bytes = option_map_or (λ body. carried body.message) (said bytes) []
 
 abbrev pub frames_in : List ℕ → List (List ℕ)
 frames_in bytes = bytes ∷ carried_by bytes
 
--- the sender sent a frame of this body
+-- in this entry the body's sender sends a frame of this body
 abbrev pub SendsBody : Body → List Entry → Entry → Type 0
 SendsBody body past (Sent party bytes) = (party ≡ body.sender) × (said bytes ≡ Some body)
 SendsBody body past _ = ⊥
 
--- the party got a frame that it takes as genuine, of this body
+-- in this entry the party receives a frame of this body that is authentic to it
 abbrev pub Hears : Configuration → ℕ → Body → List Entry → Entry → Type 0
 Hears c me body past (Got p bytes) = heard (members c) me bytes ≡ Some body
 Hears c me body past _ = ⊥
 
 -- ---- no message of a correct party is forged
 
--- What a correct party hears from the frame as a correct sender's, or is signed so, the sender sent in a frame of that
--- body before (a body has one spelling, of which MACs and signatures are made).
+-- If the frame is authentic to party me as a correct sender's, or has a correct sender's signature, that sender sent a
+-- frame of its body before. A body has one spelling, over which MACs and signatures are made.
 pub record IsFromSender (c : Configuration) (me : ℕ) (past : List Entry) (bytes : List ℕ) : Type 0 where
   pub hears : (body : Body) → heard (members c) me bytes ≡ Some body → is_correct c body.sender ≡ true
       → Once (SendsBody body) past
   pub signed : (body : Body) → signed_body (members c) bytes ≡ Some body → is_correct c body.sender ≡ true
       → Once (SendsBody body) past
 
--- each frame that a correct party gets, alone or carried, is from its sender
+-- each frame that a correct party receives in this entry, alone or carried, is from its sender
 abbrev pub IsUnforgedAt : Configuration → List Entry → Entry → Type 0
 IsUnforgedAt c past (Got me bytes) = is_correct c me ≡ true → Each (IsFromSender c me past) (frames_in bytes)
 IsUnforgedAt c past _ = ⊤
 
--- What MACs and signatures are trusted for: each frame that a correct party got, alone or carried in another, and takes
--- as a correct sender's, that sender sent before (Castro and Liskov, TOCS 2002, on the system model).
+-- The premise on MACs and signatures: if a correct party takes a frame that it receives, alone or carried, as a correct
+-- sender's, that sender sent its body before (Castro and Liskov, TOCS 2002, on the system model).
 abbrev pub Unforged : Configuration → List Entry → Type 0
 Unforged c trace = Always (IsUnforgedAt c) trace

@@ -2,7 +2,7 @@ use Rattle.std.proofs.Common.{◌≡◌, ◌↔◌, ◌≤◌, length, drop}
 use Rattle.protocol.specs.System.Trace.{history_of}
 use Rattle.journal.proofs.comparing.is_history.Given as goal
 
--- what is left of the entries decides it
+-- the rests of both decide it
 abbrev pub invariant-loop-entry : goal.invariant-loop-entry
 invariant-loop-entry l =
     (l.at ≤ length l.history)

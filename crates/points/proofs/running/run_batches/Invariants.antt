@@ -6,7 +6,7 @@ use Rattle.points.specs.Running.{so_far}
 use Rattle.points.proofs.Going.{Going}
 use Rattle.points.proofs.running.run_batches.Given as goal
 
--- what was run, and what is left
+-- the batches that ran, and the rest
 abbrev pub invariant-loop-number : goal.invariant-loop-number
 invariant-loop-number l =
     Going l.clients (reverse l.places.rises.items) (numbered_of l.fn.batches.entries) (so_far l.space l.replies l.found.items) (numbered_of l.number-iterator)

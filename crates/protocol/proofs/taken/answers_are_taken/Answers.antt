@@ -1,5 +1,5 @@
-use Rattle.protocol.proofs.Evidence.Taken
+use Rattle.protocol.proofs.Words.Transfers
 use Rattle.protocol.proofs.taken.answers_are_taken.Goals as goal
 
 pub returns : goal.returns
-returns c = record { answers = Taken.answers_are_taken; others = Taken.others_are_left; asked = Taken.taken_were_asked; drops = Taken.drops_are_left; fetches = Taken.fetches_tell; outputs = Taken.outputs_tell_nothing; ticks = Taken.ticks_take_nothing }
+returns c = record { answers = Transfers.answers_are_taken; others = Transfers.others_are_left; asked = Transfers.taken_were_asked; drops = Transfers.drops_are_left; fetches = Transfers.fetches_tell; outputs = Transfers.outputs_tell_nothing; ticks = Transfers.ticks_take_nothing }

@@ -1,5 +1,5 @@
-use Rattle.protocol.proofs.Evidence.Taken
+use Rattle.protocol.proofs.Words.Transfers
 use Rattle.protocol.proofs.taken.transfers_end.Goals as goal
 
 pub returns : goal.returns
-returns c = record { installed = Taken.installations_end; executed = Taken.executions_end; below = Taken.executions_leave }
+returns c = record { installed = Transfers.installations_end; executed = Transfers.executions_end; below = Transfers.executions_leave }

@@ -4,7 +4,7 @@ use Rattle.tuple_codec.specs.OperationView.{outcome_of}
 use Rattle.client_cert.proofs.Calling.{got_none_leads, got_nothing_leads, got_answer_leads, got_asks_leads}
 use Rattle.client_cert.proofs.client.Client.got.Goals as goal
 
--- what holds of what is given, and what follows from it
+-- a property of the result, and one that follows from it
 then_ok : {A E : Type 0} {P Q : A → Type 0} (r : Result A E) → IfOk r P → ((x : A) → P x → Q x) → IfOk r Q
 then_ok {P = P} {Q = Q} r h f = IfOk-weaker r P Q f h
 

@@ -2,7 +2,7 @@ use Rattle.std.proofs.Common.{◌≡◌, ◌+◌, ◌≤◌, rules, sym, ◌∙�
 use Rattle.std.specs.Prelude.{reverse}
 use Rattle.terms.specs.Parties.{party_number}
 use Rattle.protocol.specs.System.Trace.{history_of}
-use Rattle.events.specs.Outputs.{behind}
+use Rattle.events.specs.Outputs.{after_entries}
 use Rattle.journal.specs.Carrying.{IsCarriedFrom}
 use Rattle.journal.specs.Histories.{IsEventOf, IsRight}
 use Rattle.journal.specs.Parts.{Part}
@@ -20,7 +20,7 @@ invariant_of-self g c =
     let by : IsCarriedFrom g.N.Naming.config (reverse t) c.args.from es = search rules in
     let room : length (reverse t) + length es ≤ c.self.inside.limit = search rules in
     let event : IsEventOf p es = subst (λ (s : Part). IsEventOf s.party es) (sym c.share.view_is) c.requires.event in
-    let right : IsRight g.N.Naming.config p (behind es (reverse h)) = subst (λ (s : Part). IsRight g.N.Naming.config s.party (behind es s.history)) (sym c.share.view_is) c.requires.right in
+    let right : IsRight g.N.Naming.config p (after_entries es (reverse h)) = subst (λ (s : Part). IsRight g.N.Naming.config s.party (after_entries es s.history)) (sym c.share.view_is) c.requires.right in
     elim c.match-grow_both.branch [
       | in-Ok w ↦ rw w.in-Ok.ensures.trace (
         kept_longer g.N.Naming.config p t h es agrees event c.self.inside.limit c.args.from c.self.invariant.0 c.share.invariant.0 right by room,
@@ -37,7 +37,7 @@ invariant_of-share g c =
     let es = c.args.entries.items in
     let agrees : history_of p (reverse t) ≡ reverse h = search rules in
     let event : IsEventOf p es = subst (λ (s : Part). IsEventOf s.party es) (sym c.share.view_is) c.requires.event in
-    let right : IsRight g.N.Naming.config p (behind es (reverse h)) = subst (λ (s : Part). IsRight g.N.Naming.config s.party (behind es s.history)) (sym c.share.view_is) c.requires.right in
+    let right : IsRight g.N.Naming.config p (after_entries es (reverse h)) = subst (λ (s : Part). IsRight g.N.Naming.config s.party (after_entries es s.history)) (sym c.share.view_is) c.requires.right in
     rw c.in-Ok.ensures.history (
       c.share.invariant.0,
       right_longer g.N.Naming.config p h es right,

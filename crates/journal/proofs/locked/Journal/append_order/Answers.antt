@@ -2,7 +2,7 @@ use Rattle.std.proofs.Common.{◌≡◌, ℕ, ◌+◌, ◌≤◌, ◌++◌, rule
 use Rattle.std.specs.Prelude.{reverse}
 use Rattle.terms.specs.Parties.{party_number}
 use Rattle.protocol.specs.System.Trace.{history_of}
-use Rattle.events.specs.Outputs.{behind}
+use Rattle.events.specs.Outputs.{after_entries}
 use Rattle.journal.specs.Carrying.{IsCarriedFrom}
 use Rattle.journal.specs.Codes.{part_from}
 use Rattle.journal.specs.Comparing.{ordering_of}
@@ -25,7 +25,7 @@ invariant_of-self g c =
     let room : length (reverse t) + length es ≤ c.self.inside.limit = search rules in
     let alike : AreAlike c.args.share.now c.args.order.now = search rules in
     let event : IsEventOf p es = subst (λ (s : Part). IsEventOf s.party es) (sym c.share.view_is) c.requires.event in
-    let right : IsRight g.N.Naming.config p (behind es (reverse h)) = subst (λ (s : Part). IsRight g.N.Naming.config s.party (behind es s.history)) (sym c.share.view_is) (c.requires.right alike) in
+    let right : IsRight g.N.Naming.config p (after_entries es (reverse h)) = subst (λ (s : Part). IsRight g.N.Naming.config s.party (after_entries es s.history)) (sym c.share.view_is) (c.requires.right alike) in
     elim c.match-grow_three.branch [
       | in-Ok w ↦ rw w.in-Ok.ensures.trace (
         kept_longer g.N.Naming.config p t h es agrees event c.self.inside.limit c.args.from c.self.invariant.0 c.share.invariant.0 right by room,
@@ -43,7 +43,7 @@ invariant_of-share g c =
     let agrees : history_of p (reverse t) ≡ reverse h = search rules in
     let alike : AreAlike c.args.share.now c.args.order.now = search rules in
     let event : IsEventOf p es = subst (λ (s : Part). IsEventOf s.party es) (sym c.share.view_is) c.requires.event in
-    let right : IsRight g.N.Naming.config p (behind es (reverse h)) = subst (λ (s : Part). IsRight g.N.Naming.config s.party (behind es s.history)) (sym c.share.view_is) (c.requires.right alike) in
+    let right : IsRight g.N.Naming.config p (after_entries es (reverse h)) = subst (λ (s : Part). IsRight g.N.Naming.config s.party (after_entries es s.history)) (sym c.share.view_is) (c.requires.right alike) in
     elim c.match-grow_three.branch [
       | in-Ok w ↦ rw (w.share-inside-is, w.in-Ok.ensures.history) (
         c.share.invariant.0,

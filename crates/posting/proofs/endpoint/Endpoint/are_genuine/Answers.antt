@@ -1,5 +1,4 @@
 use Rattle.std.proofs.Common.{◌≡◌, ◌∙◌, ap, subst, ℕ, List}
-use Rattle.std.specs.Prelude.{IfOk}
 use Rattle.wire.specs.Words.{requests_of}
 use Rattle.posting.specs.Endpoint.{are_heard}
 use Rattle.posting.specs.Frames.{texts}
@@ -9,4 +8,4 @@ pub returns-clause-genuine : goal.returns-clause-genuine
 returns-clause-genuine c =
     let e : texts c.as_slice.result.now ≡ requests_of c.args.batch.now.text.items = ap texts c.as_slice.ensures.value ∙ c.requests-frames.ensures.frames ∙ ap requests_of c.deref.ensures.value in
     rw (← c.self.view_is)
-    (subst (λ (xs : List (List ℕ)). IfOk c.hear_all.result (λ b. b ≡ are_heard c.self.inside.ring c.self.inside.me.0 xs)) e c.hear_all.ensures.heard)
+    (subst (λ (xs : List (List ℕ)). c.hears_all.result ≡ are_heard c.self.inside.ring c.self.inside.me.0 xs) e c.hears_all.ensures.heard)

@@ -3,7 +3,7 @@ use Rattle.wire.specs.Messages.{CheckpointEntryData as CheckpointEntry}
 use Rattle.wire.specs.Views.{checkpoint_entry_data}
 use Rattle.events.specs.declared.output.Output.{Output}
 use Rattle.replica.specs.JoinedView.{joined_data}
-use Rattle.replica.specs.Checkpoints.{Follows, Settles}
+use Rattle.replica.specs.Checkpoints.{StartsTransferIfBehind, Settles}
 use Rattle.replica.proofs.CheckpointsCome.{checkpoint_dropped, checkpoint_settled, checkpoint_followed}
 use Rattle.replica.proofs.joined.Joined.on_checkpoint.Goals as goal
 
@@ -21,5 +21,5 @@ returns-clause-ok c = rw (← c.self.view_is)
     (checkpoint_followed (joined_data c.self.inside) c.self.invariant c.args.sender c.args.message.now c.take_checkpoint.new.self c.if-not-take_checkpoint.ensures.takes
     c.settle.new.self c.follow.new.self c.follow.new.outputs.items
     (subst (λ (e : CheckpointEntry). Settles e (joined_data (record c.self.inside { orderer = c.take_checkpoint.new.self })) c.settle.new.self false) c.entry_in-entry.ensures c.if-settle.ensures.settles)
-    (subst (λ (e : CheckpointEntry). Follows e c.settle.new.self [] c.follow.new.self c.follow.new.outputs.items) c.entry_in-entry.ensures
-    (subst (λ (outs : List Output). Follows (checkpoint_entry_data c.entry_in-entry.result) c.settle.new.self outs c.follow.new.self c.follow.new.outputs.items) c.requires.first c.in_ok-follow.ensures.ok)))
+    (subst (λ (e : CheckpointEntry). StartsTransferIfBehind e c.settle.new.self [] c.follow.new.self c.follow.new.outputs.items) c.entry_in-entry.ensures
+    (subst (λ (outs : List Output). StartsTransferIfBehind (checkpoint_entry_data c.entry_in-entry.result) c.settle.new.self outs c.follow.new.self c.follow.new.outputs.items) c.requires.first c.in_ok-follow.ensures.ok)))

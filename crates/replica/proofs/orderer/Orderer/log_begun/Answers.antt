@@ -34,7 +34,7 @@ overflow_add-number c =
 pub log_batch-requires-clause-batch : goal.log_batch-requires-clause-batch
 log_batch-requires-clause-batch c = (subst (λ xs. Each (IsBatch 0) (texts_of xs)) c.in-Some.ensures.steps.0 c.loop-batch.invariant.batches).0
 
--- no number here is above those that the view began with
+-- no number here is above those that the new view assigned
 pub log_batch-requires-clause-some : goal.log_batch-requires-clause-some
 log_batch-requires-clause-some c above =
     let e = ap length c.in-Some.ensures.steps.0 in

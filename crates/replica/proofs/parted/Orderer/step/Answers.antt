@@ -2,8 +2,8 @@ use Rattle.std.proofs.Common.{sym, ◌∙◌}
 use Rattle.replica.proofs.PartsLead.{fit_none, not_so}
 use Rattle.replica.proofs.parted.Orderer.step.Goals as goal
 
--- Parts that are not together fit no history. So whatever they give leads on from each that they fit, and goes to those
--- for whom it is.
+-- Parts that are not together fit no history. So their outputs lead on from each history that they fit, and go to the
+-- parties for whom they are.
 pub returns-then-not-goes_with-clause-leads : goal.returns-then-not-goes_with-clause-leads
 returns-then-not-goes_with-clause-leads c = λ k me history fits.
     absurd (fit_none c.args.self.now c.args.desk.now (sym c.is_stopped.ensures ∙ c.if-is_stopped.false) (sym c.is_stopped-else-is_stopped.ensures ∙ c.if-is_stopped-2.false)

@@ -1,0 +1,157 @@
+-- What is sealed is heard.
+use Rattle.std.proofs.Common.{◌≡◌, ℕ, suc, sym, subst, ◌+◌, ◌^◌, ◌<◌, ◌≤◌, inl, inr, Bool, true, false, List, [], ◌∷◌, map, length, Contains, All, AllPairs, Some, refl, ap, ◌*◌, arith, ◌||◌, length-append}
+use Rattle.std.specs.Prelude.{nat_lt, nat_le}
+use Rattle.std.proofs.lemmas.Bool.{and_parts, and_from, ltb-true, lt-ltb}
+use Rattle.std.specs.Int.{w32, to_be_bytes}
+use Rattle.std.proofs.lemmas.List.Elements.{All-map}
+use Rattle.wire.specs.Lists.{Each, each_spelling, leads, ascends}
+use Rattle.wire.specs.Messages.{BodyData as Body, MessageData as Message, MacData, FrameData as Frame, request as Request, pre_prepare as PrePrepare, prepare as Prepare, commit as Commit, checkpoint as Checkpoint, view_change as ViewChange, new_view as NewView, reply as Reply, fetch as Fetch, meta as Meta, page as Page}
+use Rattle.wire.specs.Spelling.{IsMac, mac_spelling, body_spelling, frame_limit, SpellsFrame}
+use Rattle.authenticator.specs.Keys.{key_between}
+use Rattle.authenticator.specs.Authentic.{mac_of}
+use Rattle.authenticator.specs.Membership.{sends}
+use Rattle.authenticator.specs.Opening.{Opens}
+use Rattle.authenticator.specs.Sealing.{IsSealable, entry_for, sealed_for}
+use Rattle.authenticator.proofs.Digests.{hmac_of-digest}
+use Rattle.authenticator.proofs.Entries.{entries-have}
+use Rattle.authenticator.proofs.Lengths.{length-hmac_of}
+use Rattle.authenticator.proofs.Sealing.{sealed-spells}
+use Rattle.signing.proofs.Heard.{opened_is_heard}
+use Rattle.protocol.specs.System.Configuration.{Configuration, IsConfiguration, replicas, is_replica, is_client, members}
+use Rattle.signing.specs.Heard.{heard}
+use Rattle.protocol.specs.System.Trace.{Has}
+use Rattle.protocol.specs.System.Schedule.{is_party, sealed_bytes}
+use Rattle.evidence.specs.FirstOperation.{IsFrom, SealedFramesAreHeard}
+use Rattle.wire.proofs.Saying.{reads_frames, reads_said}
+
+-- ---- the entries of an authenticator
+
+are_macs : (seed : List ℕ) (sender : ℕ) (text : List ℕ) (ps : List ℕ) → Each (λ p. p < 2 ^ 16) ps → Each IsMac (map (entry_for seed sender text) ps)
+are_macs seed sender text [] h = tt
+are_macs seed sender text (p ∷ ps) h = ((h.0, hmac_of-digest (key_between seed sender p) text), are_macs seed sender text ps h.1)
+
+are_for : (seed : List ℕ) (sender : ℕ) (text : List ℕ) (ps : List ℕ) → map (λ (x : MacData). x.receiver) (map (entry_for seed sender text) ps) ≡ ps
+are_for seed sender text [] = refl
+are_for seed sender text (p ∷ ps) = ap (λ qs. p ∷ qs) (are_for seed sender text ps)
+
+entries_length : (seed : List ℕ) (sender : ℕ) (text : List ℕ) (ps : List ℕ) → length (each_spelling mac_spelling (map (entry_for seed sender text) ps)) ≡ 34 * length ps
+entries_length seed sender text [] = refl
+entries_length seed sender text (p ∷ ps) =
+    let first = length-hmac_of (key_between seed sender p) text in
+    let more = entries_length seed sender text ps in
+    simp length-append (omega (arith, first, more))
+
+pub sealed_length : (c : Configuration) (sender : ℕ) (receivers text : List ℕ) → length (sealed_bytes c sender receivers text) ≡ length text + (6 + 34 * length receivers)
+sealed_length c sender receivers text =
+    let entries = entries_length c.seed sender text receivers in
+    simp length-append (omega (arith, entries))
+
+has_contains : (p : ℕ) (rs : List ℕ) → Has (λ r. r ≡ p) rs → Contains rs p
+has_contains p [] h = absurd h
+has_contains p (r ∷ rs) (inl e) = (0, omega arith, e)
+has_contains p (r ∷ rs) (inr h) = let k = has_contains p rs h in (suc k.0, omega (arith, k.1), k.2)
+
+-- ---- a body that may be sealed for these parties
+
+pub record MaySeal (c : Configuration) (body : Body) (receivers : List ℕ) : Type 0 where
+  pub can : IsSealable body receivers
+  pub known : sends (members c) body.sender body.message ≡ true
+  pub others : Has (λ r. r ≡ body.sender) receivers → ⊥
+  pub parties : Each (λ p. p < 2 ^ 16) receivers
+  pub short : length (sealed_bytes c body.sender receivers (body_spelling body)) ≤ frame_limit body.message
+
+module _ (c : Configuration) (body : Body) (receivers : List ℕ) (may : MaySeal c body receivers) where
+  abbrev text : List ℕ
+  text = body_spelling body
+
+  abbrev sealed : List ℕ
+  sealed = sealed_bytes c body.sender receivers text
+
+  abbrev frame : Frame
+  frame = sealed_for c.seed body receivers
+
+  pub sealed_spells : SpellsFrame sealed frame
+  sealed_spells =
+      let n = sealed_length c body.sender receivers text in
+      let m = length-append (to_be_bytes w32 (length text)) text in
+      sealed-spells c.seed body receivers sealed (map (entry_for c.seed body.sender text) receivers) may.can refl
+      (are_macs c.seed body.sender text receivers may.parties) (omega (arith, n, m, may.short)) refl
+
+  opens : (p : ℕ) → Has (λ r. r ≡ p) receivers → Opens (members c) p sealed frame
+  opens p among = record { spelled = sealed_spells; sender = may.known; proved = entries-have c.seed body.sender text receivers p (has_contains p receivers among) }
+
+  hears : (p : ℕ) → Has (λ r. r ≡ p) receivers → heard (members c) p sealed ≡ Some body
+  hears p among =
+      opened_is_heard (members c) p sealed frame (opens p among) (λ own. may.others (subst (λ (q : ℕ). Has (λ r. r ≡ q) receivers) (sym own) among))
+      (λ signed. absurd (let u = may.can.unsigned in let g : ⊥ = cc in g))
+
+  pub sealed_is_heard : IsFrom c body.sender body.message receivers sealed
+  sealed_is_heard = record {
+    frame = frame;
+    entries = map (entry_for c.seed body.sender text) receivers;
+    spells = (reads_frames sealed frame).1 sealed_spells;
+    says = reads_said sealed frame sealed_spells;
+    has_macs = refl;
+    is_sealed = All-map (λ (x : MacData). x.mac ≡ mac_of c.seed x.receiver body) (entry_for c.seed body.sender text) receivers (λ k d within. refl);
+    is_for = are_for c.seed body.sender text receivers;
+    is_heard = hears;
+  }
+
+-- ---- the law
+
+ascends_of : (ps : List ℕ) → AllPairs (λ p q. p < q) ps → ascends nat_lt ps ≡ true
+ascends_of [] h = refl
+ascends_of (p ∷ ps) h = and_from (leads nat_lt p ps) (ascends nat_lt ps) (first ps h) (ascends_of ps (λ i j d l m. h (suc i) (suc j) d (omega arith) (omega arith)))
+  where
+    first : (qs : List ℕ) → AllPairs (λ p q. p < q) (p ∷ qs) → leads nat_lt p qs ≡ true
+    first [] h = refl
+    first (q ∷ qs) h = lt-ltb p q (h 0 1 0 (omega arith) (omega arith))
+
+replica_below : (c : Configuration) → IsConfiguration c → (p : ℕ) → is_replica c p ≡ true → p < 2 ^ 16
+replica_below c valid p h = let l : p < replicas c = ltb-true p (replicas c) h in let m = valid.most in omega arith
+
+client_below : (c : Configuration) → IsConfiguration c → (p : ℕ) → is_client c p ≡ true → p < 2 ^ 16
+client_below c valid p h =
+    let l : p < 256 + c.clients = ltb-true p (256 + c.clients) (and_parts (nat_le 256 p) (nat_lt p (256 + c.clients)) h).1 in
+    let m = valid.clients in
+    omega arith
+
+party_below : (c : Configuration) → IsConfiguration c → (p : ℕ) → is_party c p ≡ true → p < 2 ^ 16
+party_below c valid p h = go (is_replica c p) refl h
+  where
+    go : (b : Bool) → is_replica c p ≡ b → (b || is_client c p) ≡ true → p < 2 ^ 16
+    go true is h = replica_below c valid p is
+    go false is h = client_below c valid p h
+
+parties_below : (c : Configuration) → IsConfiguration c → (ps : List ℕ) → All (λ p. is_party c p ≡ true) ps → Each (λ p. p < 2 ^ 16) ps
+parties_below c valid [] h = tt
+parties_below c valid (p ∷ ps) h = (party_below c valid p (h 0 0 (omega arith)), parties_below c valid ps (λ k d l. h (suc k) d (omega arith)))
+
+sender_below : (c : Configuration) → IsConfiguration c → (p : ℕ) (m : Message) → sends (members c) p m ≡ true → p < 2 ^ 16
+sender_below c valid p (Request t mode op) h = client_below c valid p h
+sender_below c valid p (PrePrepare v i batch) h = replica_below c valid p h
+sender_below c valid p (Prepare v i digest) h = replica_below c valid p h
+sender_below c valid p (Commit v i digest) h = replica_below c valid p h
+sender_below c valid p (Checkpoint k root) h = replica_below c valid p h
+sender_below c valid p (ViewChange vc) h = replica_below c valid p h
+sender_below c valid p (NewView new) h = replica_below c valid p h
+sender_below c valid p (Reply client t mode number answer) h = replica_below c valid p h
+sender_below c valid p (Fetch k level index) h = replica_below c valid p h
+sender_below c valid p (Meta k level index digests) h = replica_below c valid p h
+sender_below c valid p (Page k index content) h = replica_below c valid p h
+
+pub sealed_frames_are_heard : SealedFramesAreHeard
+sealed_frames_are_heard c valid sender message receivers known right unsigned are others short =
+    sealed_is_heard c (record { sender = sender; message = message }) receivers (record {
+      can = record {
+        said = record { sender = sender_below c valid sender message known; message = right };
+        unsigned = unsigned;
+        some = are.some;
+        few = are.few;
+        ascend = ascends_of receivers are.ascend;
+      };
+      known = known;
+      others = others;
+      parties = parties_below c valid receivers are.parties;
+      short = short;
+    })

@@ -1,0 +1,62 @@
+-- Three reads beside the first operation of client 0: clients 1 and 2 call theirs before it, client 3 behind it.
+-- What they read, and what is answered, is left open.
+use Rattle.std.specs.Prelude.{◌≡◌, ℕ, ◌+◌, ◌<◌, List, [], ◌∷◌, ◌++◌, reverse, Some}
+use Rattle.tuple_codec.specs.Operations.{Operation, Outcome}
+use Rattle.terms.specs.declared.order.Mode.TheVariants as modes
+use Rattle.wire.specs.Messages.{reply as Reply}
+use Rattle.protocol.specs.System.Configuration.{Configuration, IsConfiguration, members}
+use Rattle.signing.specs.Heard.{heard}
+use Rattle.protocol.specs.System.Trace.{Entry}
+use Rattle.protocol.specs.System.Trace.Entry.{Invoke, Got, Sent, Accepted}
+use Rattle.protocol.specs.Space.Linear.{Item, points}
+use Rattle.evidence.specs.Examples.{four}
+use Rattle.evidence.specs.FirstOperation.{FirstFrames, AreFirstFrames, first_answer, first_operation}
+
+-- a read: what is read, the client's request, each replica's reply, and the answer
+pub record Read : Type 0 where
+  pub op : Operation
+  pub request : List ℕ
+  pub reply : ℕ → List ℕ
+  pub answer : Outcome
+
+-- Each reply is read-only, with the number 1, and the client hears it.
+abbrev pub IsReadOf : Configuration → ℕ → Read → Type 0
+IsReadOf c k read =
+    (r : ℕ) → r < 4 → heard (members c) (256 + k) (read.reply r)
+    ≡ Some (record { sender = r; message = Reply (256 + k) 1 modes.ReadOnly 1 read.answer })
+
+-- the client calls its read and asks for it
+abbrev pub called : ℕ → Read → List Entry
+called k read = Invoke k 1 read.op ∷ Sent (256 + k) read.request ∷ []
+
+-- three replicas answer, and the client accepts
+abbrev pub answered : ℕ → Read → List Entry
+answered k read =
+    Got 0 read.request ∷ Sent 0 (read.reply 0) ∷ Got 1 read.request ∷ Sent 1 (read.reply 1) ∷ Got 2 read.request
+    ∷ Sent 2 (read.reply 2)
+    ∷ Got (256 + k) (read.reply 0) ∷ Got (256 + k) (read.reply 1) ∷ Got (256 + k) (read.reply 2)
+    ∷ Accepted k 1 read.answer
+    ∷ []
+
+-- The trace: client 3 accepts first, then clients 1 and 2.
+abbrev pub reads_trace : Operation → List ℕ → FirstFrames → (ℕ → Read) → List Entry
+reads_trace op batch w read =
+    reverse (called 1 (read 1) ++ called 2 (read 2) ++ first_operation op batch w ++ called 3 (read 3)
+    ++ answered 3 (read 3) ++ answered 1 (read 1) ++ answered 2 (read 2))
+
+-- a client's read as an item at a position
+abbrev pub read_item : ℕ → Read → ℕ → Item
+read_item k read position =
+    record { client = 256 + k; timestamp = 1; op = read.op; answer = read.answer; position = position }
+
+-- Its points: the write where the third replica executes it; there too, behind it and by client, the reads that were
+-- called before; and where it is called the read that was called behind it.
+abbrev pub ReadsHaveTheirPoints : Type 0
+ReadsHaveTheirPoints =
+    (clients : ℕ) (seed : List ℕ) (op : Operation) (batch : List ℕ) (w : FirstFrames) (read : ℕ → Read)
+    → IsConfiguration (four clients seed)
+    → AreFirstFrames (four clients seed) op batch w → IsReadOf (four clients seed) 1 (read 1)
+    → IsReadOf (four clients seed) 2 (read 2) → IsReadOf (four clients seed) 3 (read 3)
+    → points (four clients seed) (reads_trace op batch w read)
+    ≡ record { client = 256; timestamp = 1; op = op; answer = first_answer op; position = 42 } ∷ read_item 1 (read 1) 42
+    ∷ read_item 2 (read 2) 42 ∷ read_item 3 (read 3) 55 ∷ []

@@ -1,0 +1,47 @@
+//! Laws of the definitions of clients and of parties that stop: which replies count, when a client gives nothing,
+//! what all that is correct keeps, and a client's history that is accepted.
+
+ghost use Rattle.evidence.specs.Clients.{HeardIsLatest, LatestStays, CallsForget, WaitsForAnswers, FallsBackOnce, IgnoresOthers, RestsWithoutCall};
+ghost use Rattle.evidence.specs.Correct.{ReplicasHaveOwn, ClientsHaveOwn, SealsRequests, AsksItsCall, ReplicasAreSafe, ClientsAreSafe};
+ghost use Rattle.evidence.specs.ExamplesOfClients.{FirstReadIsAccepted};
+ghost use Rattle.evidence.specs.Stopping.{ReplicasMayStop, ClientsMayStop};
+
+/// A reply that is heard is its sender's latest of its mode, whatever was heard before, until the sender's next of
+/// that mode. A call begins with none.
+pub fn latest_replies_count()
+    ensures heard { HeardIsLatest }
+    ensures stays { LatestStays }
+    ensures call { CallsForget }
+{}
+
+/// A correct client that goes on gives nothing at a reply that completes nothing, if a replica has not answered
+/// read-only or the call's request went ordered before, at a frame that is no reply to its call, and while it has
+/// no call.
+pub fn clients_wait()
+    ensures answers { WaitsForAnswers }
+    ensures once { FallsBackOnce }
+    ensures others { IgnoresOthers }
+    ensures calls { RestsWithoutCall }
+{}
+
+/// Each entry of a correct party's history is its own. All that a client sends are requests of its open call,
+/// read-only ones for reads alone, with the MACs of their bodies. And what is correct is safe.
+pub fn correct_histories_are_safe()
+    ensures replicas_have_own { ReplicasHaveOwn }
+    ensures clients_have_own { ClientsHaveOwn }
+    ensures macs { SealsRequests }
+    ensures requests { AsksItsCall }
+    ensures replicas { ReplicasAreSafe }
+    ensures clients { ClientsAreSafe }
+{}
+
+/// A correct replica or client may stop: behind any history of it, an input may come and no output.
+pub fn parties_may_stop()
+    ensures replicas { ReplicasMayStop }
+    ensures clients { ClientsMayStop }
+{}
+
+/// A client that accepts its first read at the third of three read-only replies alike is a correct one.
+pub fn a_first_read_is_accepted()
+    ensures read { FirstReadIsAccepted }
+{}

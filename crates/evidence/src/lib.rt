@@ -1,0 +1,44 @@
+//! Evidence that the definitions of the crate `protocol` are right: laws that show what they accept and refuse, and
+//! what the premises of its laws leave open. Nothing of the headline stands on these laws.
+//!
+//! # What is proved
+//!
+//! - They accept small histories in data. The first operation of a client at four replicas, with the bytes of all its
+//!   frames, is a run, unforged and fed by its schedule. Replicas and clients are right that answer a read or a fetch,
+//!   transfer a state, install one, join view changes, begin a view, enter one, or accept a read ([`accepted`],
+//!   [`certified`], [`clients`]).
+//! - They refuse over a hundred wrong histories, lists and traces ([`refused`] and the six modules beside it).
+//! - A new view is selected exactly where it meets the rules ([`selected`]).
+//! - Further laws say what certificates and schedules hold, what a flush delivers next, and that the premises of the
+//!   protocol's laws can be met ([`certified`], [`fed`], [`premises`]).
+//! - What a party seals or signs is heard ([`sealed_frames_are_heard`], [`signed_frames_are_heard`]).
+//!
+//! They are laws of definitions: that replicas and clients make runs is promised by the crates that make them.
+#![tactic(auto)]
+
+pub mod accepted;
+pub mod certified;
+pub mod clients;
+pub mod fed;
+pub mod premises;
+pub mod refused;
+pub mod refused_changes;
+pub mod refused_items;
+pub mod refused_kept;
+pub mod refused_marks;
+pub mod refused_runs;
+pub mod refused_steps;
+pub mod selected;
+
+ghost use Rattle.evidence.specs.FirstOperation.{SealedFramesAreHeard};
+ghost use Rattle.evidence.specs.RefusedSteps.{SignedFramesAreHeard};
+
+/// What a party of the configuration seals for others, each of them hears.
+pub fn sealed_frames_are_heard()
+    ensures heard { SealedFramesAreHeard }
+{}
+
+/// What a replica signs with one of its leaves, each party hears.
+pub fn signed_frames_are_heard()
+    ensures heard { SignedFramesAreHeard }
+{}

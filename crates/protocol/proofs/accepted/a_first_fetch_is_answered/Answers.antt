@@ -1,5 +1,0 @@
-use Rattle.protocol.proofs.Evidence.AnsweringFetch
-use Rattle.protocol.proofs.accepted.a_first_fetch_is_answered.Goals as goal
-
-pub returns : goal.returns
-returns c = record { fetch = AnsweringFetch.first_fetch_is_answered }

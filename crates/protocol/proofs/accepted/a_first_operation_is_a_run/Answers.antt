@@ -1,6 +1,0 @@
-use Rattle.protocol.proofs.Evidence.FirstReplicas
-use Rattle.protocol.proofs.Evidence.FirstRun
-use Rattle.protocol.proofs.accepted.a_first_operation_is_a_run.Goals as goal
-
-pub returns : goal.returns
-returns c = record { run = FirstRun.first_operation_is_run FirstReplicas.first_replica }

@@ -1,5 +1,0 @@
-use Rattle.protocol.proofs.Evidence.FirstSchedule
-use Rattle.protocol.proofs.accepted.a_first_operation_is_fed.Goals as goal
-
-pub returns : goal.returns
-returns c = record { fed = FirstSchedule.first_operation_is_fed }

@@ -1,5 +1,0 @@
-use Rattle.protocol.proofs.Evidence.AnsweringFirst
-use Rattle.protocol.proofs.accepted.a_first_read_is_answered.Goals as goal
-
-pub returns : goal.returns
-returns c = record { read = AnsweringFirst.first_read_is_answered }

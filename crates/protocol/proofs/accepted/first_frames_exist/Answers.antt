@@ -1,5 +1,0 @@
-use Rattle.protocol.proofs.Evidence.FirstFrames
-use Rattle.protocol.proofs.accepted.first_frames_exist.Goals as goal
-
-pub returns : goal.returns
-returns c = record { exist = FirstFrames.first_frames_exist }

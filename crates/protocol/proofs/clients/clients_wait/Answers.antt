@@ -1,5 +1,0 @@
-use Rattle.protocol.proofs.Evidence.Waiting
-use Rattle.protocol.proofs.clients.clients_wait.Goals as goal
-
-pub returns : goal.returns
-returns c = record { answers = Waiting.waits_for_answers; once = Waiting.falls_back_once; others = Waiting.ignores_others; calls = Waiting.rests_without_call }

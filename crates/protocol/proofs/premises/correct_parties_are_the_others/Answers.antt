@@ -1,5 +1,0 @@
-use Rattle.protocol.proofs.Evidence.Presuming
-use Rattle.protocol.proofs.premises.correct_parties_are_the_others.Goals as goal
-
-pub returns : goal.returns
-returns c = record { replicas = Presuming.replicas_are_correct; clients = Presuming.clients_are_correct; both = Presuming.correct_are_both }

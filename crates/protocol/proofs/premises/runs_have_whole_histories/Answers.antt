@@ -1,5 +1,0 @@
-use Rattle.protocol.proofs.Evidence.Presuming
-use Rattle.protocol.proofs.premises.runs_have_whole_histories.Goals as goal
-
-pub returns : goal.returns
-returns c = record { replicas = Presuming.runs_have_replicas; clients = Presuming.runs_have_clients }

@@ -1,5 +1,0 @@
-use Rattle.protocol.proofs.Evidence.Presuming
-use Rattle.protocol.proofs.premises.texts_are_few.Goals as goal
-
-pub returns : goal.returns
-returns c = record { few = Presuming.texts_are_few }

@@ -1,5 +1,0 @@
-use Rattle.protocol.proofs.Evidence.RefusingOwed
-use Rattle.protocol.proofs.refused.correct_replicas_answer.Goals as goal
-
-pub returns : goal.returns
-returns c = record { reads = RefusingOwed.answers_reads; digests = RefusingOwed.answers_digest_fetches; pages = RefusingOwed.answers_page_fetches; again = RefusingOwed.answers_again; ran = RefusingOwed.answers_ran }

@@ -1,7 +1,0 @@
-use Rattle.protocol.proofs.Evidence.Refusing
-use Rattle.protocol.proofs.Evidence.RefusingReplies
-use Rattle.protocol.proofs.Evidence.RefusingNumbers
-use Rattle.protocol.proofs.refused.right_replicas_give_what_they_have.Goals as goal
-
-pub returns : goal.returns
-returns c = record { digests = Refusing.gives_kept_digests; pages = Refusing.gives_kept_pages; asked_digests = Refusing.gives_asked_digests; asked_pages = Refusing.gives_asked_pages; replies = Refusing.replies_what_ran; replies_asked = RefusingNumbers.replies_to_who_asked; replies_executed = RefusingReplies.replies_of_executed }

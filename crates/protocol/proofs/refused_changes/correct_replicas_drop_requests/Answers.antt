@@ -1,5 +1,0 @@
-use Rattle.protocol.proofs.Evidence.RefusingChangesDropped
-use Rattle.protocol.proofs.refused_changes.correct_replicas_drop_requests.Goals as goal
-
-pub returns : goal.returns
-returns c = record { writes = RefusingChangesDropped.drops_writes; replicas = RefusingChangesDropped.drops_requests_of_replicas; old = RefusingChangesDropped.drops_old_requests; passed = RefusingChangesDropped.drops_passed_requests }

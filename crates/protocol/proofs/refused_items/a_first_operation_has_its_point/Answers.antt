@@ -1,5 +1,0 @@
-use Rattle.protocol.proofs.Evidence.FirstPoint
-use Rattle.protocol.proofs.refused_items.a_first_operation_has_its_point.Goals as goal
-
-pub returns : goal.returns
-returns c = record { point = FirstPoint.first_operation_has_its_point }

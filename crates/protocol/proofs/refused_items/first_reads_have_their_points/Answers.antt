@@ -1,5 +1,0 @@
-use Rattle.protocol.proofs.Evidence.FirstReadsPoints
-use Rattle.protocol.proofs.refused_items.first_reads_have_their_points.Goals as goal
-
-pub returns : goal.returns
-returns c = record { points = FirstReadsPoints.reads_have_their_points }

@@ -1,5 +1,0 @@
-use Rattle.protocol.proofs.Evidence.RefusingMarksSelected
-use Rattle.protocol.proofs.refused_marks.new_views_are_well_founded.Goals as goal
-
-pub returns : goal.returns
-returns c = record { founded = RefusingMarksSelected.takes_well_founded }

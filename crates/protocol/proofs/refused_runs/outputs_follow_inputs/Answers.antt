@@ -1,5 +1,0 @@
-use Rattle.protocol.proofs.Evidence.RefusingRuns
-use Rattle.protocol.proofs.refused_runs.outputs_follow_inputs.Goals as goal
-
-pub returns : goal.returns
-returns c = record { follow = RefusingRuns.outputs_follow }

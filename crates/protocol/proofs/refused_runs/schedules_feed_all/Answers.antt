@@ -1,5 +1,0 @@
-use Rattle.protocol.proofs.Evidence.RefusingRunsSchedules
-use Rattle.protocol.proofs.refused_runs.schedules_feed_all.Goals as goal
-
-pub returns : goal.returns
-returns c = record { inputs = RefusingRunsSchedules.feeds_each_step; calls = RefusingRunsSchedules.feeds_each_call; ticks = RefusingRunsSchedules.feeds_each_tick; deliveries = RefusingRunsSchedules.allows_sent; flushes = RefusingRunsSchedules.flush_delivers_all; sent = RefusingRunsSchedules.flush_delivers_sent }

@@ -1,5 +1,0 @@
-use Rattle.protocol.proofs.Evidence.RefusingSteps
-use Rattle.protocol.proofs.refused_steps.a_first_operation_is_reported.Goals as goal
-
-pub returns : goal.returns
-returns c = record { reported = RefusingSteps.first_operation_is_reported }
