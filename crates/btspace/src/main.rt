@@ -2,31 +2,26 @@
 //!
 //! # What is proved
 //!
-//! `local` and `show` are those of `one_space`. What `run` writes is a result line for each operation, in their order:
-//! that of the answer which the operation's client accepted to this call of its, in a trace of the cluster that is
-//! linearizable unless two different texts of it have one digest. At a fault it writes nothing, unless the writer
-//! failed. The status of words that are no request follows from why they are none.
+//! `local` and `show` are those of `one_space`. `run` writes a result line for each operation, in their order. The
+//! line has the answer that the operation's client accepted to this call. It did so in a trace of the cluster that is
+//! linearizable unless two different texts of it have one digest. At a fault `run` writes nothing, unless the writer
+//! failed. If the words are no request, the status follows from the reason.
 //!
-//! That a faulty party is refused before the script is read, and what is shown while it runs, is tested.
+//! Tests show that a faulty party is refused before the script is read, and what is shown while it runs.
 #![tactic(auto)]
 
 ghost use Rattle.std.specs.Prelude.{◌≡◌};
 
-mod display;
-mod run;
-mod schedule;
-
 use cluster_run::{Open, is_faultless};
 use command_line::{NoRequest, Printed, Request, SpaceVersion, read_words};
 use config_text::Settings;
-use display::Display;
 use events::Config;
 use journal::Opened;
 use one_space::{
     Complaint, STANDARD_INPUT, complain, print_tuple, run_script, script_at, words_of,
 };
-use run::{RunFault, most_operations, run};
-use schedule::{read_settings, schedule};
+use run_command::{Display, end_run, most_operations, run};
+use schedule_command::{read_settings, schedule};
 use space::Version;
 use std::alloc::Global;
 use std::io::{IsTerminal, Read};
@@ -44,7 +39,7 @@ fn main(rt: HostRuntime) -> ExitCode {
     ExitCode::from(act_on_words(&rt, is_terminal))
 }
 
-// Does what the words ask for, and gives the status. Standard error may be a terminal.
+// Does the request of the words, and gives the status. Standard error may be a terminal.
 fn act_on_words<
     R: Files
         + Env
@@ -104,7 +99,7 @@ fn version_of(asked: SpaceVersion) -> Version
     }
 }
 
-// The configuration is read and judged before the script is looked at.
+// The configuration is read and judged before the script is read.
 fn run_on_cluster<
     R: Files
         + Input
@@ -127,12 +122,12 @@ fn run_on_cluster<
     }
 }
 
-// Standard input has one file.
+// Standard input can be read only once.
 fn is_read_twice(config: &str, file: &str) -> bool {
     config == STANDARD_INPUT && file == STANDARD_INPUT
 }
 
-// The configuration is read and judged before the schedule is looked at.
+// The configuration is read and judged before the schedule is read.
 fn run_configured<R: Files + Input + Print + Eprint + AllocGlobal>(
     rt: &R,
     config: &str,
@@ -194,7 +189,7 @@ fn run_steps<R: Print + Eprint + AllocGlobal, I: Read + Drop>(
     }
 }
 
-// The script is read and judged whole before anything starts.
+// The whole script is read and judged before anything starts.
 fn run_cluster<
     R: Files
         + Input
@@ -240,16 +235,7 @@ fn run_operations<R: Print + Eprint + AllocGlobal + Threads + Wait + Clock + Cop
     }
 }
 
-// Complains, and then says on a line of its own why a run was stopped.
-fn end_run<R: Eprint>(rt: &R, fault: &RunFault) -> u8 {
-    let status = complain(rt, fault.complaint());
-    if !matches!(fault, RunFault::Configuration) {
-        let _ = eprintln!(rt; "{fault}");
-    }
-    status
-}
-
-// What there was to print of the words is printed.
+// `read_words` has printed all other texts already.
 fn end_words<R: Eprint>(rt: &R, why: NoRequest) -> u8
     ensures shown { why ≡ NoRequest.Shown → result ≡ 0 }
     ensures wrong { why ≡ NoRequest.Wrong → result ≡ 2 }
@@ -261,8 +247,3 @@ fn end_words<R: Eprint>(rt: &R, why: NoRequest) -> u8
         NoRequest::Stopped => complain(rt, Complaint::Stopped),
     }
 }
-
-#[cfg(test)]
-mod examples;
-#[cfg(test)]
-mod tests;

@@ -1,0 +1,59 @@
+-- The output of a run on a cluster, and the complaint about one that did not end well.
+use Rattle.std.specs.Prelude.{◌≡◌, ℕ, List, map, Option, Result, MatchResult}
+use Rattle.std.specs.List.{flat_map}
+use Rattle.std.specs.Io.KnownBytes.{Appends}
+use Rattle.std.specs.declared.alloc.Global.{Global}
+use Rattle.tuple_codec.specs.OperationView.{operation_of, outcome_of}
+use Rattle.tuple_codec.specs.declared.operations.Answer.{Answer}
+use Rattle.tuple_codec.specs.declared.operations.Op.{Op}
+use Rattle.protocol.specs.System.Configuration.{Configuration as ClusterConfiguration}
+use Rattle.cluster_run.specs.Answers.{AnswersRun}
+use Rattle.one_space.specs.Run.{result_line}
+use Rattle.one_space.specs.declared.complaints.Complaint.{Complaint}
+use Rattle.one_space.specs.declared.complaints.Complaint.TheVariants as complaint
+use Rattle.run_command.specs.declared.running.RunFault.{RunFault}
+use Rattle.run_command.specs.declared.running.RunFault.TheVariants.{Configuration, Stopped, NoMemory, Write}
+
+abbrev pub answer_line : Answer Global → List ℕ
+answer_line answer = result_line (outcome_of answer)
+
+-- a result line for each answer
+abbrev pub results_text : List (Answer Global) → List ℕ
+results_text answers = flat_map answer_line answers
+
+-- The result lines of the operations' answers were added. The clients accepted these in a proper trace of this
+-- cluster.
+pub record PrintsResults (c : ClusterConfiguration) (ops : List (Op Global)) (old new : Option (List ℕ)) : Type 0 where
+  pub answers : List (Answer Global)
+  pub accepted : AnswersRun c (map operation_of ops) (map outcome_of answers)
+  pub written : Appends old new (results_text answers)
+
+-- Nothing was written, unless the writer failed.
+abbrev pub PrintsNone : RunFault → Option (List ℕ) → Option (List ℕ) → Type 0
+PrintsNone Configuration old new = new ≡ old
+PrintsNone (Stopped fault) old new = new ≡ old
+PrintsNone NoMemory old new = new ≡ old
+PrintsNone (Write error) old new = Unit {0}
+
+-- All results were printed, or none.
+abbrev pub EndsCluster :
+    ClusterConfiguration → List (Op Global) → Result (Unit {0}) RunFault → Option (List ℕ) → Option (List ℕ) → Type 0
+EndsCluster c ops result old new =
+    MatchResult result (λ _. PrintsResults c ops old new) (λ fault. PrintsNone fault old new)
+
+-- the same for given answers
+abbrev pub WritesResults : Result (Unit {0}) RunFault → List (Answer Global) → Option (List ℕ) → Option (List ℕ) → Type 0
+WritesResults result answers old new =
+    MatchResult result (λ _. Appends old new (results_text answers)) (λ fault. PrintsNone fault old new)
+
+abbrev pub IsNoWrite : RunFault → Type 0
+IsNoWrite Configuration = Unit {0}
+IsNoWrite (Stopped fault) = Unit {0}
+IsNoWrite NoMemory = Unit {0}
+IsNoWrite (Write error) = ⊥
+
+abbrev pub TellsRun : RunFault → Complaint → Type 0
+TellsRun Configuration c = c ≡ complaint.Configuration
+TellsRun (Stopped fault) c = c ≡ complaint.Stopped
+TellsRun NoMemory c = c ≡ complaint.Stopped
+TellsRun (Write error) c = c ≡ complaint.Stopped

@@ -1,0 +1,166 @@
+//! A script on a running cluster.
+
+ghost use Rattle.std.specs.Prelude.{◌≡◌, ◌+◌, ◌/◌, ◌++◌, IfOk, OnOk};
+ghost use Rattle.run_command.specs.Results.{EndsCluster, TellsRun, WritesResults, answer_line, results_text};
+
+use cluster_run::{Gate, RunFault as ClusterFault, Watch};
+use config_text::Settings;
+use journal::{Naming, Opened};
+use one_space::{Complaint, complain};
+use std::alloc::Global;
+use std::io::{self, Write};
+use std::sync::Wait;
+use std::thread::Threads;
+use std::time::Clock;
+use terms::NoMemory;
+use thiserror::Error;
+use tuple_codec::{Answer, Op};
+use tuple_text::write_answer;
+
+/// Why no results were printed, or not all.
+#[derive(Debug, Drop, Error)]
+pub enum RunFault {
+    /// The configuration names a faulty party.
+    #[error("the configuration is refused")]
+    Configuration,
+    /// The cluster gave no answers.
+    #[error("{0}")]
+    Stopped(ClusterFault),
+    #[error("out of memory")]
+    NoMemory,
+    #[error("not written: {0}")]
+    Write(io::Error),
+}
+
+impl RunFault {
+    /// The complaint about this fault.
+    pub fn complaint(&self) -> Complaint<'static>
+        ensures { TellsRun self.now result }
+    {
+        match self {
+            RunFault::Configuration => Complaint::Configuration,
+            RunFault::Stopped(_) | RunFault::NoMemory | RunFault::Write(_) => Complaint::Stopped,
+        }
+    }
+}
+
+impl From<NoMemory> for RunFault {
+    ghost use Rattle.std.specs.Prelude.{◌≡◌};
+    ghost use Rattle.run_command.specs.declared.running.RunFault.TheVariants.{NoMemory};
+
+    ghost from_gives = { λ _ fault. fault ≡ NoMemory };
+
+    fn from(_failed: NoMemory) -> RunFault {
+        RunFault::NoMemory
+    }
+}
+
+impl From<ClusterFault> for RunFault {
+    ghost use Rattle.run_command.specs.Results.{IsNoWrite};
+
+    ghost from_gives = { λ _ fault. IsNoWrite fault };
+
+    fn from(fault: ClusterFault) -> RunFault {
+        match fault {
+            ClusterFault::BadConfig => RunFault::Configuration,
+            ClusterFault::NoMemory => RunFault::NoMemory,
+            ClusterFault::NoClient
+            | ClusterFault::NoRoom
+            | ClusterFault::Call(_)
+            | ClusterFault::TooManyStopped
+            | ClusterFault::NotInJournal
+            | ClusterFault::NoThread
+            | ClusterFault::NoAnswer => RunFault::Stopped(fault),
+        }
+    }
+}
+
+/// How many operations of a script are kept. Each takes two or more entries of the journal. One operation more than
+/// the journal has room for shows that the script doesn't fit.
+pub fn most_operations(settings: &Settings) -> usize
+    ensures { result ≡ settings.now.journal / 2 + 1 }
+{
+    settings.journal as usize / 2 + 1
+}
+
+/// Runs the operations on a cluster of its own and writes the results, a line each, in their order. Client `i` modulo
+/// the number of clients calls operation `i`, counted from 0, and the line is the answer that this client accepted.
+/// Nothing is written unless each call was answered and the cluster finished.
+pub fn run<
+    N: Naming + Send + Sync + 'static,
+    R: Threads + Wait + Clock + Copy + Send + 'static,
+    G: Gate + Send + Sync + Drop + 'static,
+    W: Write,
+    S: Watch,
+>(
+    rt: &R,
+    alloc: Global,
+    opened: Opened,
+    settings: &Settings,
+    gate: G,
+    ops: Vec<Op<Global>>,
+    writer: &mut W,
+    watch: &mut S,
+) -> Result<(), RunFault>
+    requires config { settings.now.config ≡ N.config }
+    requires book { opened ≡ N.book }
+    ensures { EndsCluster N.config ops.items result (W.contents writer.old) (W.contents writer.new) }
+{
+    let answers = cluster_run::run::<N, R, G, S>(
+        rt,
+        alloc,
+        opened,
+        &settings.config,
+        settings.journal,
+        gate,
+        ops,
+        watch,
+    )?;
+    write_results(alloc, answers.as_slice(), writer)
+}
+
+/// Complains, and then tells on a line of its own why the run was stopped. Returns the status of the program.
+pub fn end_run<R: Eprint>(rt: &R, fault: &RunFault) -> u8 {
+    let status = complain(rt, fault.complaint());
+    if !matches!(fault, RunFault::Configuration) {
+        let _ = eprintln!(rt; "{fault}");
+    }
+    status
+}
+
+// Writes a result line for each answer.
+fn write_results<W: Write>(
+    alloc: Global,
+    answers: &[Answer<Global>],
+    writer: &mut W,
+) -> Result<(), RunFault>
+    ensures { WritesResults result answers.now (W.contents writer.old) (W.contents writer.new) }
+{
+    let text = results_of(alloc, answers)?;
+    if let Err(error) = writer.write_all(text.as_slice()) {
+        return Err(RunFault::Write(error));
+    }
+    if let Err(error) = writer.flush() {
+        return Err(RunFault::Write(error));
+    }
+    Ok(())
+}
+
+fn results_of(alloc: Global, answers: &[Answer<Global>]) -> Result<Vec<u8>, NoMemory>
+    ensures { IfOk result (λ text. text.items ≡ results_text answers.now) }
+{
+    let mut text = Vec::new(alloc);
+    for answer in answers {
+        put_result(answer, &mut text)?;
+    }
+    Ok(text)
+}
+
+// Adds the result line of an answer.
+fn put_result(answer: &Answer<Global>, text: &mut Vec<u8>) -> Result<(), NoMemory>
+    ensures { OnOk result (text.new.items ≡ text.old.items ++ answer_line answer.now) }
+{
+    write_answer(answer, text)?;
+    text.push(b'\n')?;
+    Ok(())
+}
