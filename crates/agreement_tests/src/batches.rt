@@ -1,5 +1,5 @@
-//! Tests of a replica's message log (`ordering`): a number from its pre-prepare to the cut behind its checkpoint, or to
-//! a later view, each refusal, and memory refused.
+//! Tests of a replica's message log (`ordering`): a number from its pre-prepare until the log drops it after its
+//! checkpoint, or until a later view; each refusal, and memory refused.
 
 mod phases;
 mod refusals;

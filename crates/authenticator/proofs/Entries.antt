@@ -13,7 +13,7 @@ use Rattle.terms.specs.Parties.{party_number}
 use Rattle.wire.specs.Views.{mac_data}
 use Rattle.authenticator.specs.Authentic.{has_mac, is_mac_for}
 
--- at an entry, and behind it
+-- the test of an entry, and of those after it
 pub has_mac-step : (party : ℕ) (mac : List ℕ) (entries : List ReceiverMac) (i : ℕ) (entry : ReceiverMac) (found : Bool) → i < length entries
     → entry ≡ get_or entries i entry → found ≡ is_mac_for party mac (mac_data entry)
     → has_mac party mac (map mac_data (drop i entries)) ≡ (found || has_mac party mac (map mac_data (drop (i + 1) entries)))

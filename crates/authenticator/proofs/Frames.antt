@@ -18,7 +18,7 @@ body-short bytes f spells =
     let most = frame_limit-le f.body.message in
     omega arith
 
--- MACs prove what they have an entry for
+-- MACs prove a body to a party if they have its entry
 pub proves-macs : (party : ℕ) (mac : List ℕ) (entries : List MacData) (authenticator : AuthenticatorData) → authenticator ≡ macs entries
     → has_mac party mac entries ≡ (authenticator_is_signed authenticator || proves party mac authenticator)
 proves-macs party mac entries authenticator is =

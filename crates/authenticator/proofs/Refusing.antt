@@ -1,4 +1,4 @@
--- What a refusal says of a frame.
+-- The property of a frame that a refusal shows.
 use Rattle.std.proofs.Common.{◌≡◌, ◌⊎◌, inl, inr, ℕ, Bool, true, false, cond, List, Option, Some, None, ap, sym, refl, subst, ◌∙◌}
 use Rattle.wire.specs.Messages.{FrameData}
 use Rattle.wire.specs.Spelling.{SpellsFrame}
@@ -37,7 +37,7 @@ module _ (m : Membership) (party : ℕ) (bytes : List ℕ) (frame : FrameData) (
       let k = both_hold (has_sender m frame.body) (may_open m.seed party frame) e in
       record { spelled = spells; sender = k.0; proved = k.1 }
 
-  -- what opens isn't refused
+  -- a frame that opens isn't refused
   pub not_refused : (fault : OpenFault) (other : FrameData) → Some fault ≡ refusal m party frame → Opens m party bytes other → frame ≡ other → ⊥
   not_refused fault other e o same =
       let known : has_sender m frame.body ≡ true = ap (λ f. has_sender m f.body) same ∙ o.sender in

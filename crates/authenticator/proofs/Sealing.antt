@@ -32,7 +32,7 @@ length-sealed seed body ps =
     let entries = length-entries seed body.sender (body_spelling body) ps in
     length-append (piece (body_spelling body)) (authenticator_spelling (sealed_for seed body ps).authenticator) ∙ ap (λ n. length (piece (body_spelling body)) + n) (omega (arith, entries))
 
--- what the bytes of a body and of its entries spell
+-- the frame that the bytes of a body and of its entries spell
 pub sealed-spells : (seed : List ℕ) (body : BodyData) (ps : List ℕ) (frame : List ℕ) (entries : List MacData)
     → IsSealable body ps → entries ≡ map (entry_for seed body.sender (body_spelling body)) ps → Each IsMac entries
     → length (piece (body_spelling body)) + (2 + 34 * length ps) ≤ frame_limit body.message
@@ -63,7 +63,7 @@ pub sealed-short : (seed : List ℕ) (body : BodyData) (ps : List ℕ)
     → length (piece (body_spelling body)) + (2 + 34 * length ps) ≤ frame_limit body.message → ¬ IsTooLong (sealed_for seed body ps)
 sealed-short seed body ps short long = let over = sealed-over seed body ps long in omega (arith, over, short)
 
--- what goes with MACs has no lists that are counted
+-- messages that go with MACs have no counted lists
 pub counts_fit : (m : MessageData) → is_signed m ≡ false → CountsFit m
 counts_fit (view_change c) unsigned = absurd cc
 counts_fit (new_view n) unsigned = absurd cc

@@ -17,7 +17,7 @@ is_mac_for party mac entry = (entry.receiver == party) && bytes_eq entry.mac mac
 abbrev pub has_mac : ℕ → List ℕ → List MacData → Bool
 has_mac party mac entries = list_any (is_mac_for party mac) entries
 
--- the same, of MACs; a signature has none
+-- an authenticator of MACs has such an entry; a signature has none
 abbrev pub proves : ℕ → List ℕ → AuthenticatorData → Bool
 proves party mac (macs entries) = has_mac party mac entries
 proves party mac (signature s) = false

@@ -1,4 +1,4 @@
--- The refusals of the frame's grammar as those of opening.
+-- The refusals of the frame's grammar, as refusals of opening.
 use Rattle.wire.specs.declared.fault.NoFrame.{NoFrame}
 use Rattle.wire.specs.declared.fault.NoFrame.TheVariants as no_frame
 use Rattle.authenticator.specs.declared.sealed.OpenFault.{OpenFault}

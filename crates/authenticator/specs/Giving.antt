@@ -1,4 +1,4 @@
--- What the functions give that seal and open frames.
+-- The results of the functions that seal and open frames.
 use Rattle.std.specs.Prelude.{◌≡◌, ◌↔◌, ℕ, List, map, Option, Result, Err, Vec}
 use Rattle.std.specs.declared.alloc.Global.{Global}
 use Rattle.terms.specs.Parties.{party_number}
@@ -30,25 +30,25 @@ AreMacsFor seed sender text receivers entries =
 abbrev pub sealed_frame : List ℕ → Body → List Party → FrameData
 sealed_frame seed body receivers = sealed_for seed (body_data body) (map party_number receivers)
 
--- The bytes are that frame.
+-- The bytes spell that frame.
 abbrev pub Seals : List ℕ → Body → List Party → Vec ℕ Global → Type 0
 Seals seed body receivers bytes = SpellsFrame bytes.items (sealed_frame seed body receivers)
 
--- It is refused as too large exactly where it is longer than it may be.
+-- The body is refused as too large exactly if its frame would be longer than it may be.
 abbrev pub TellsTooLong : List ℕ → Body → List Party → Result (Vec ℕ Global) SealFault → Type 0
 TellsTooLong seed body receivers result =
     (result ≡ Err seal_faults.TooLarge) ↔ IsTooLong (sealed_frame seed body receivers)
 
--- What is opened is the frame that the party may open.
+-- The opened frame is one that the party may open.
 abbrev pub IsOpened : Membership → Party → List ℕ → Opened → Type 0
 IsOpened m party bytes opened = Opens m (party_number party) bytes (frame_data opened.frame)
 
--- A frame that the party may open is opened, unless memory runs out.
+-- If the party may open a frame, it is opened, unless memory runs out.
 abbrev pub OpensEach : Membership → Party → List ℕ → Result Opened OpenFault → Type 0
 OpensEach m party bytes result =
     GivesEach open_faults.NoMemory (λ o. frame_data o.frame)
     (Opens m (party_number party) bytes) result
 
--- why the party refuses a frame of this header, where it does
+-- why the party refuses a frame of this header, if it does
 abbrev pub refusal_of : Membership → Party → Header → Option OpenFault
 refusal_of m party header = header_refusal m (party_number party) (header_data header)

@@ -1,4 +1,4 @@
--- What a frame's header tells of its sender and of what proves it.
+-- The judgement of a frame by its header: its sender, and its authenticator.
 use Rattle.std.specs.Prelude.{ℕ, Bool, ◌||◌, List, Option, Some, None, if◌then◌else◌}
 use Rattle.wire.specs.Spelling.{authenticator_is_signed}
 use Rattle.wire.specs.Headers.{HeaderData}
@@ -8,7 +8,7 @@ use Rattle.authenticator.specs.Keys.{mac_between}
 use Rattle.authenticator.specs.Membership.{Membership, is_client, is_replica}
 use Rattle.authenticator.specs.Authentic.{proves}
 
--- clients send requests, replicas all else
+-- clients send requests, replicas all other messages
 abbrev pub takes_part : Membership → ℕ → Bool → Bool
 takes_part m sender is_request = if is_request then is_client m sender else is_replica m sender
 
@@ -18,7 +18,7 @@ is_authenticated seed party h =
     authenticator_is_signed h.authenticator
     || proves party (mac_between seed h.sender party h.text) h.authenticator
 
--- why the party refuses a frame of this header, where it does
+-- why the party refuses a frame of this header, if it does
 abbrev pub header_refusal : Membership → ℕ → HeaderData → Option OpenFault
 header_refusal m party h =
     if takes_part m h.sender h.is_request

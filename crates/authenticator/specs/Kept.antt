@@ -1,4 +1,4 @@
--- What a ring keeps, and a key that is made ready.
+-- The keys that a ring keeps, and a key that is made ready.
 use Rattle.std.specs.Prelude.{◌≡◌, ℕ, Bool, ◌&&◌, List, nat_eq}
 use Rattle.std.specs.Option.{ForSome}
 use Rattle.std.specs.HashMap.{HashMap, get}
@@ -7,7 +7,7 @@ use Rattle.sha2.specs.declared.Sha256.{Sha256}
 use Rattle.authenticator.specs.Mac.{block_key, xor_each}
 use Rattle.authenticator.specs.Keys.{key_between}
 
--- The hashers hold a block mixed with the pads, so that a text alone is still to come (RFC 2104, section 4).
+-- The hashers hold a block mixed with the pads, so only the text is still to come (RFC 2104, section 4).
 abbrev pub AreReady : Sha256 → Sha256 → List ℕ → Type 0
 AreReady inner outer block =
     Holds256 inner (xor_each 0x36 block) × Holds256 outer (xor_each 0x5c block)
@@ -15,7 +15,7 @@ AreReady inner outer block =
 abbrev pub pair_eq : ℕ × ℕ → ℕ × ℕ → Bool
 pair_eq x y = nat_eq x.0 y.0 && nat_eq x.1 y.1
 
--- each key that is kept is the one between its two parties
+-- each kept key is the one between its two parties
 abbrev pub KeysFit : {S : Type 0} → List ℕ → HashMap (ℕ × ℕ) (List ℕ) S → Type 0
 KeysFit seed kept =
     (from to : ℕ)

@@ -1,4 +1,4 @@
--- What the words on sealing and opening come to.
+-- The laws of sealing and opening.
 use Rattle.std.specs.Prelude.{ℕ, List, Contains, IsTrue}
 use Rattle.wire.specs.Messages.{BodyData}
 use Rattle.wire.specs.Spelling.{SpellsFrame}
@@ -7,13 +7,13 @@ use Rattle.authenticator.specs.Authentic.{is_authentic}
 use Rattle.authenticator.specs.Opening.{Opens}
 use Rattle.authenticator.specs.Sealing.{sealed_for}
 
--- What is sealed for a party is authentic to it.
+-- A frame that is sealed for a party is authentic to it.
 abbrev pub SealedIsAuthentic : Type 0
 SealedIsAuthentic =
     (seed : List ℕ) (body : BodyData) (parties : List ℕ) (party : ℕ) → Contains parties party
     → IsTrue (is_authentic seed party (sealed_for seed body parties))
 
--- A party opens what is sealed for it by a sender that it knows.
+-- A party opens each frame that a sender known to it sealed for it.
 abbrev pub SealedOpens : Type 0
 SealedOpens =
     (m : Membership) (body : BodyData) (parties : List ℕ) (party : ℕ) (bytes : List ℕ)

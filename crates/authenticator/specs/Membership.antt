@@ -9,7 +9,7 @@ pub record Membership : Type 0 where
   pub faults : ℕ
   pub clients : ℕ
 
--- how many replicas there are: of f faulty ones 3 f + 1 in all
+-- how many replicas there are: 3 f + 1 if f may be faulty
 abbrev pub replicas : Membership → ℕ
 replicas m = 3 * m.faults + 1
 
@@ -19,7 +19,7 @@ is_replica m party = nat_lt party (replicas m)
 abbrev pub is_client : Membership → ℕ → Bool
 is_client m party = nat_le 256 party && nat_lt party (256 + m.clients)
 
--- clients send requests, replicas all else
+-- clients send requests, replicas all other messages
 abbrev pub sends : Membership → ℕ → MessageData → Bool
 sends m party (request timestamp mode operation) = is_client m party
 sends m party _ = is_replica m party

@@ -1,4 +1,4 @@
--- What a party takes from a frame that it gets, and why it refuses one. Whether a signature verifies is not asked here.
+-- Whether a party opens a frame, and why it refuses one. Signatures are not verified here.
 use Rattle.std.specs.Prelude.{ℕ, Bool, ◌||◌, IsTrue, ◌≡◌, false, List, Option, Some, None, if◌then◌else◌}
 use Rattle.wire.specs.Messages.{FrameData}
 use Rattle.wire.specs.Spelling.{SpellsFrame, authenticator_is_signed}
@@ -13,33 +13,33 @@ abbrev pub may_open : List ℕ → ℕ → FrameData → Bool
 may_open seed party frame =
     authenticator_is_signed frame.authenticator || is_authentic seed party frame
 
--- Why the party refuses the frame, where it does.
+-- Why the party refuses the frame, if it does.
 abbrev pub refusal : Membership → ℕ → FrameData → Option OpenFault
 refusal m party frame =
     if has_sender m frame.body
     then (if may_open m.seed party frame then None else Some faults.BadMac)
     else Some faults.UnknownSender
 
--- The bytes are this frame, from a party that sends such messages, and authentic to the party or signed.
+-- The bytes are this frame, its sender may send such messages, and it is authentic to the party or signed.
 pub record Opens (m : Membership) (party : ℕ) (bytes : List ℕ) (frame : FrameData) : Type 0 where
   pub spelled : SpellsFrame bytes frame
   pub sender : IsTrue (has_sender m frame.body)
   pub proved : IsTrue (may_open m.seed party frame)
 
--- The bytes are a frame, but from no party that sends such messages.
+-- The bytes are a frame, but its sender may not send such messages.
 pub record HasNoSender (m : Membership) (bytes : List ℕ) : Type 0 where
   pub frame : FrameData
   pub spelled : SpellsFrame bytes frame
   pub sender : has_sender m frame.body ≡ false
 
--- The bytes are a frame from such a party, but its MACs have no right entry for the receiver.
+-- The bytes are a frame of a sender that may send such messages, but its MACs have no right entry for the receiver.
 pub record HasNoMac (m : Membership) (party : ℕ) (bytes : List ℕ) : Type 0 where
   pub frame : FrameData
   pub spelled : SpellsFrame bytes frame
   pub sender : IsTrue (has_sender m frame.body)
   pub proved : may_open m.seed party frame ≡ false
 
--- Why the bytes are refused. The earlier refusal goes before a later one.
+-- Why the bytes are refused. If several refusals hold, the first in this order counts.
 abbrev pub Refuses : Membership → ℕ → List ℕ → OpenFault → Type 0
 Refuses m party bytes faults.TooLarge = IsTooLarge bytes
 Refuses m party bytes faults.Malformed =

@@ -1,4 +1,4 @@
--- What a party seals for others.
+-- The frames that a party seals for others.
 use Rattle.std.specs.Prelude.{◌≡◌, ℕ, ◌<◌, ◌≤◌, false, IsTrue, List, length, map, nat_lt}
 use Rattle.wire.specs.Lists.{ascends}
 use Rattle.wire.specs.Messages.{BodyData, MacData, macs, FrameData}
@@ -18,7 +18,7 @@ sealed_for seed body parties =
       authenticator = macs (map (entry_for seed body.sender (body_spelling body)) parties);
     }
 
--- The body may be said and goes with MACs; 1 to 10 parties are to get it, ascending.
+-- A party may send the body with MACs, to 1 to 10 parties, which ascend.
 pub record IsSealable (body : BodyData) (parties : List ℕ) : Type 0 where
   pub said : IsBody body
   pub unsigned : is_signed body.message ≡ false

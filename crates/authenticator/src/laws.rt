@@ -2,7 +2,7 @@
 
 ghost use Rattle.authenticator.specs.Laws.{SealedIsAuthentic, SealedOpens};
 
-/// What is sealed for a party is authentic to it, and the party takes it if it knows the sender.
+/// A frame that is sealed for a party is authentic to it, and the party opens it if it knows the sender.
 pub fn sealed_frames_open()
     ensures authentic { SealedIsAuthentic }
     ensures opens { SealedOpens }

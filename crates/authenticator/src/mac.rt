@@ -10,13 +10,13 @@ use std::marker::Model;
 /// The length of a block of SHA-256, in bytes.
 const BLOCK_LEN: usize = 64;
 
-/// What the key of the inner hash is mixed with, byte by byte (RFC 2104, section 2).
+/// The byte that each byte of the inner hash's key is mixed with (RFC 2104, section 2).
 const INNER_PAD: u8 = 0x36;
 
-/// What the key of the outer hash is mixed with, byte by byte (RFC 2104, section 2).
+/// The byte that each byte of the outer hash's key is mixed with (RFC 2104, section 2).
 const OUTER_PAD: u8 = 0x5c;
 
-/// A key made ready for many texts: a code costs two blocks of SHA-256 and those of the text, in place of four and
+/// A key made ready for many texts: a code takes two blocks of SHA-256 and those of the text, in place of four and
 /// those of the text (RFC 2104, section 4).
 #[derive(Drop)]
 pub struct Key {
@@ -53,7 +53,7 @@ impl Key {
 
     /// The authentication code of a text under this key.
     pub fn mac(&self, text: &[u8]) -> [u8; 32]
-        // It is that of each key which fills a block to this one.
+        // It is the code under each key whose block is this one.
         ensures { (key : List ℕ) → block_key key ≡ self.now → result ≡ hmac_of key text.now }
     {
         let mut inner = copy_of(&self.inner);
@@ -71,7 +71,7 @@ pub fn hmac(key: &[u8], text: &[u8]) -> [u8; 32]
     Key::new(key).mac(text)
 }
 
-/// Whether two codes are equal. Each call takes the same steps, wherever they differ.
+/// Whether two codes are equal. Each call takes the same steps, wherever the codes differ.
 pub fn same(a: &[u8; 32], b: &[u8; 32]) -> bool
     ensures { IsTrue result ↔ (a.now ≡ b.now) }
 {

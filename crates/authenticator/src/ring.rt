@@ -16,7 +16,7 @@ use std::marker::Model;
 use terms::{FIRST_CLIENT, Party};
 use wire::{Body, Message};
 
-/// The keys between the parties of one configuration, each derived when it is first needed and then kept.
+/// The keys between the parties of one configuration. The ring derives each when it first needs it, and keeps it.
 #[derive(Drop)]
 pub struct Ring {
     seed: [u8; 32],
@@ -40,9 +40,9 @@ impl Model for Ring {
 }
 
 impl Ring {
-    /// The keys of a seed of 32 bytes. Up to `faults` replicas, 1 to 3, may be faulty, so there are `3 * faults + 1` of
-    /// them; `clients`, 1 to 256, is how many clients there are. Other numbers are taken as they are. It gives no
-    /// error: it takes no memory and derives no key yet.
+    /// The keys of a seed of 32 bytes. Of `3 * faults + 1` replicas `faults`, 1 to 3, may be faulty; `clients`, 1 to
+    /// 256, is the number of clients. Other numbers are taken as they are. It derives no key yet and takes no memory,
+    /// so it gives no error.
     pub fn new(alloc: Global, seed: &[u8; 32], faults: u8, clients: u16) -> Ring
         ensures { result ≡ record { seed = seed.now; faults = faults; clients = clients } }
     {
@@ -55,8 +55,8 @@ impl Ring {
         }
     }
 
-    /// Whether the sender that a body names takes part and may send such a message: clients send requests, replicas all
-    /// else.
+    /// Whether the sender that a body names takes part and may send such a message: clients send requests, replicas
+    /// all other messages.
     pub fn has_sender(&self, body: &Body) -> bool
         ensures { result ≡ has_sender self.now (body_data body.now) }
     {
@@ -67,7 +67,7 @@ impl Ring {
         self.takes_part(body.sender.number(), is_request)
     }
 
-    /// The same by the sender's number and whether the message is a request.
+    /// Whether a party with this number takes part and may send a request, or any other message.
     pub(crate) fn takes_part(&self, sender: u16, is_request: bool) -> bool
         ensures { result ≡ takes_part self.now sender is_request }
     {
@@ -88,7 +88,7 @@ impl Ring {
         }
         let key = Key::new(&self.source.mac(&key_text(from, to)));
         let code = key.mac(text);
-        // A key for which there is no room is derived again.
+        // If there is no room for a key, it is derived again at the next use.
         let _ = self.kept.insert((from, to), key);
         code
     }
@@ -102,7 +102,7 @@ pub fn signing_seed(seed: &[u8; 32], signer: Party) -> [u8; 32]
     hmac(seed, &[b'S', high, low])
 }
 
-// What the key from one party to another is derived by.
+// The text that the key from one party to another is derived from.
 fn key_text(from: u16, to: u16) -> [u8; 5]
     ensures { result ≡ 0x4d ∷ to_be_bytes w16 from ++ to_be_bytes w16 to }
 {

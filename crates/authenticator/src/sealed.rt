@@ -39,7 +39,7 @@ pub enum OpenFault {
     /// The authenticator has no entry for the receiver, or a wrong one.
     #[error("the MAC is wrong")]
     BadMac,
-    /// There was no room for the frame.
+    /// There was no memory for the frame.
     #[error("out of memory")]
     NoMemory,
 }
@@ -50,7 +50,7 @@ pub enum SealFault {
     /// The frame would be longer than it may be.
     #[error("the frame is too long")]
     TooLarge,
-    /// There was no room for the frame.
+    /// There was no memory for the frame.
     #[error("out of memory")]
     NoMemory,
 }
@@ -91,17 +91,17 @@ impl From<NoMemory> for OpenFault {
     }
 }
 
-/// A frame that its receiver may take: its body says who sent what.
+/// A frame that its receiver may take. Its body names the sender and the message.
 #[derive(Drop)]
 pub struct Opened {
     pub frame: Frame,
 }
 
 impl Ring {
-    /// The bytes of a frame of this body, with a MAC for each of 1 to 10 receivers, which ascend by their numbers. The
-    /// body may be said and goes with MACs, so it is no view change and no new view.
-    /// [`SealFault::TooLarge`] comes exactly where the frame would be longer than it may be, and
-    /// [`SealFault::NoMemory`] where there is no room for it. Neither changes the ring.
+    /// The bytes of a frame of this body, with a MAC for each of 1 to 10 receivers, which ascend by their numbers.
+    /// The sender may send the body with MACs, so it is no view change and no new view. [`SealFault::TooLarge`] comes
+    /// exactly if the frame would be longer than it may be, and [`SealFault::NoMemory`] if there is no memory for it.
+    /// Neither changes the ring.
     pub fn seal(
         &mut self,
         alloc: Global,
@@ -124,7 +124,7 @@ impl Ring {
         Ok(frame)
     }
 
-    // The MAC of a text for each receiver.
+    // The MAC of the text for each receiver.
     fn entries(
         &mut self,
         sender: u16,
@@ -147,9 +147,9 @@ impl Ring {
         entries
     }
 
-    /// The frame that the bytes spell, where its sender takes part and may send such a message, and its authenticator
-    /// has the right entry for `me` or is a signature, which is not tested here. The first refusal that applies is
-    /// given, in the order of [`OpenFault`]: bytes that are refused take no memory, and so want of it comes last.
+    /// The frame that the bytes spell, if its sender takes part and may send such a message. Its authenticator must
+    /// have the right entry for `me`, or be a signature; signatures are not tested here. The first refusal that
+    /// applies is given, in the order of [`OpenFault`]. Refused bytes take no memory, so out of memory comes last.
     pub fn open(&mut self, alloc: Global, bytes: &[u8], me: Party) -> Result<Opened, OpenFault>
         ensures opened { IfOk result (IsOpened self.old me bytes.now) }
         ensures all { OpensEach self.old me bytes.now result }
@@ -164,8 +164,8 @@ impl Ring {
         Ok(Opened { frame })
     }
 
-    /// Why `me` refuses a frame of this header, where it does: the sender is unknown, or else the MAC is wrong. A
-    /// signature is not tested here. It takes no memory but for the keys that the ring keeps.
+    /// Why `me` refuses a frame of this header, if it does: the sender is unknown, or else the MAC is wrong.
+    /// Signatures are not tested here. It takes no memory except for the keys that the ring keeps.
     pub fn refusal(&mut self, header: &Header<'_>, me: Party) -> Option<OpenFault>
         ensures value { result ≡ refusal_of self.old me header.now }
         ensures same { self.new ≡ self.old }

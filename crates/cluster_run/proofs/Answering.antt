@@ -1,4 +1,4 @@
--- What the calls of all clients come to.
+-- The answers of all clients' calls.
 use Rattle.std.proofs.Common.{◌≡◌, ℕ, zero, suc, ◌+◌, ◌-◌, ◌*◌, ◌/◌, ◌%◌, ◌<◌, ◌==◌, inl, inr, List, [], ◌∷◌, ◌++◌, length, map, refl, sym, ap, ◌∙◌, subst, arith}
 use Rattle.std.specs.Prelude.{Contains, IfOk, Result, Some, slice_get}
 use Rattle.std.specs.Option.{option_map}

@@ -1,4 +1,4 @@
--- What a client's thread gives back may go to the thread that joins it.
+-- The result of a client's thread may go to the thread that joins it.
 use denote.RattleType.{RattleType}
 use denote.Param.Send.{IsSend, sendable}
 use denote.Param.SendFields.{declared_send}

@@ -1,4 +1,4 @@
--- What the threads of clients promise and give back.
+-- The promises and the results of clients' threads.
 use Rattle.std.proofs.Common.{◌≡◌, ℕ, ◌+◌, ◌<◌, inl, inr, List, [], ◌∷◌, ◌++◌, length, refl, sym, ap, ◌∙◌, subst, arith, rules}
 use Rattle.std.specs.Prelude.{Err, IfOk, MatchResult, Ok, OnOk, Result, Some, slice_get}
 use Rattle.std.specs.Result.{result_and}

@@ -70,7 +70,7 @@ turn_at n (suc k) (x ∷ xs) p l e = let h = turn_at (n + 1) k xs p (omega (arit
 
 -- ---- places of hands
 
--- where the places of two hands are the same, so are the hands, and the turns
+-- if the places in two hands are the same, the hands are the same, and the turns
 same_hand : (h j r q n : ℕ) → h < n → r < n → h + j * n ≡ r + q * n → h ≡ r
 same_hand h j r q n lh lr e =
     sym (mod-eq_of_lt lh) ∙ (sym (add-mul-mod_self_right h j n) ∙ (ap (λ (k : ℕ). k % n) e ∙ (add-mul-mod_self_right r q n ∙ mod-eq_of_lt lr)))

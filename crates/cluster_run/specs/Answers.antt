@@ -1,4 +1,4 @@
--- Which answers a run gives. A trace and a history have the newest entry first; a client's calls have the timestamps 1, 2
+-- The answers of a run. A trace and a history have the newest entry first. A client's calls have the timestamps 1, 2
 -- and so on.
 use Rattle.std.specs.Prelude.{◌≡◌, ℕ, suc, ◌/◌, ◌%◌, List, length, slice_get, Some, Contains}
 use Rattle.tuple_codec.specs.Operations.{Operation, Outcome}
@@ -14,21 +14,21 @@ pub record IsAnswered (entries : List Entry) (client timestamp : ℕ) (op : Oper
   pub invoked : Contains entries (Invoke client timestamp op)
   pub accepted : Contains entries (Accepted client timestamp answer)
 
--- Each operation has an answer. Operation i, counted from 0, is of client i modulo their number, which calls its own in
--- their order: so it is the client's call i / clients, counted from 0.
+-- Each operation has an answer. Client i modulo their number calls operation i, counted from 0, and each client calls
+-- its own in their order. So operation i is call i / clients of its client, counted from 0.
 pub record AreAnswered (trace : List Entry) (clients : ℕ) (ops : List Operation) (answers : List Outcome) : Type 0 where
   pub count : length answers ≡ length ops
   pub each : (i : ℕ) (op : Operation) (answer : Outcome) → slice_get ops i ≡ Some op
       → slice_get answers i ≡ Some answer → IsAnswered trace (i % clients) (suc (i / clients)) op answer
 
--- A trace of the system in which nothing is forged. Where its texts do not collide it is linear: the answers that clients
--- accept are those of one sequential tuple space.
+-- A trace of the system in which nothing is forged. If its texts do not collide it is linear: the answers that
+-- clients accept are those of one sequential tuple space.
 pub record IsProper (c : Configuration) (trace : List Entry) : Type 0 where
   pub run : IsRun c trace
   pub unforged : Unforged c trace
   pub linear : NoCollision c trace → IsLinear c (points c trace) trace
 
--- The answers are those that the clients accepted in such a trace.
+-- These are the answers that the clients accepted in such a trace.
 pub record AnswersRun (c : Configuration) (ops : List Operation) (answers : List Outcome) : Type 0 where
   pub trace : List Entry
   pub proper : IsProper c trace

@@ -1,4 +1,4 @@
--- Faults of a run that began, for which what it was given is no reason.
+-- Faults of a run that began. Its arguments are no reason for them.
 use Rattle.cluster_run.specs.declared.fault.RunFault.{RunFault}
 use Rattle.cluster_run.specs.declared.fault.RunFault.TheVariants.{BadConfig, NoClient, NoRoom, Call, TooManyStopped, NotInJournal, NoThread, NoAnswer, NoMemory}
 

@@ -1,4 +1,4 @@
--- Hands: the operations of one client, and the answers to them. The contracts of private functions speak of them.
+-- Hands: the operations of one client, and the answers to them. The contracts of private functions use these.
 use Rattle.std.specs.Prelude.{◌≡◌, ℕ, suc, ◌+◌, ◌-◌, ◌*◌, ◌/◌, ◌%◌, ◌<◌, ◌⊎◌, ◌≢◌, List, length, map, slice_get, Option, Some}
 use Rattle.std.specs.Option.{option_and_then}
 use Rattle.std.specs.declared.alloc.Global.{Global}
@@ -19,7 +19,7 @@ use Rattle.cluster_run.specs.Answers.{IsAnswered, IsProper}
 abbrev pub Hands : Type 0 → Type 0
 Hands X = List (Vec X Global)
 
--- what lies at this place of this hand
+-- the item at this place of this hand
 abbrev pub dealt_at : {X : Type 0} → Hands X → ℕ → ℕ → Option X
 dealt_at hands h j = option_and_then (λ hand. slice_get hand.items j) (slice_get hands h)
 
@@ -28,19 +28,19 @@ pub record AreDealt {X : Type 0} (xs : List X) (count : ℕ) (hands : Hands X) :
   pub count_is : length hands ≡ count
   pub each : (h j : ℕ) → h < count → dealt_at hands h j ≡ slice_get xs (h + j * count)
 
--- So many are taken back in their order.
+-- So many items are taken back in their order.
 pub record AreGathered {X : Type 0} (hands : Hands X) (clients count : ℕ) (xs : List X) : Type 0 where
   pub count_is : length xs ≡ count
   pub each : (i : ℕ) → i < count → slice_get xs i ≡ dealt_at hands (i % clients) (i / clients)
 
--- what lay there was taken, and all else lies where it lay
+-- the item at this place was taken, and all others stay where they are
 pub record Takes {X : Type 0} (old : Hands X) (hand place : ℕ) (x : X) (new : Hands X) : Type 0 where
   pub taken : dealt_at old hand place ≡ Some x
   pub others : (h j : ℕ) → (h ≢ hand) ⊎ (j ≢ place) → dealt_at new h j ≡ dealt_at old h j
 
 -- ---- calling
 
--- Since it began there the client called these operations, its first ones, and got these answers.
+-- Since start the client called these operations, its first ones, and got these answers.
 pub record HasCalled (start : Seated) (ops : List Operation) (answers : List Outcome) (now : Seated) : Type 0 where
   pub party : now.party ≡ start.party
   pub calls : last_call now.history ≡ length ops
@@ -53,7 +53,7 @@ abbrev pub HasCalledHand : Vec (Op Global) Global → ℕ → Vec (Answer Global
 HasCalledHand hand number answers client =
     HasCalled (new_seat (256 + number)) (map operation_of hand.items) (map outcome_of answers.items) client
 
--- The answers that lie at h are those that the client at h, which is the client of this number, got to hand h.
+-- These are the answers that the client at h, which has the number h, got to hand h.
 pub record HandIsCalled (hands : Hands (Op Global)) (clients : List Seated) (h : ℕ)
     (answers : Vec (Answer Global) Global) : Type 0 where
   pub hand : Vec (Op Global) Global
@@ -68,7 +68,7 @@ HandsAreCalled hands clients answers =
 
 -- ---- the end
 
--- a proper trace that has these clients' histories
+-- a proper trace with these clients' histories
 pub record HasTrace (c : Configuration) (clients : List Seated) : Type 0 where
   pub trace : List Entry
   pub proper : IsProper c trace

@@ -1,4 +1,4 @@
--- The threads of clients: what they promise, and what they gave back. The contracts of private functions speak of them.
+-- The promises and the results of clients' threads. The contracts of private functions use these.
 use Rattle.std.specs.Prelude.{◌≡◌, ℕ, List, [], ◌∷◌, ◌++◌, length, map, slice_get, MatchResult, Some}
 use Rattle.std.specs.declared.alloc.Global.{Global}
 use Rattle.std.specs.declared.thread.PromisedHandle.{PromisedHandle}
@@ -14,7 +14,7 @@ use Rattle.cluster_run.specs.declared.calling.CallsHand.{CallsHand}
 abbrev pub promises_of : {T : Type 0} → List (PromisedHandle T CallsHand) → List CallsHand
 promises_of threads = map (λ t. t.promise) threads
 
--- a thread more promises to call this hand
+-- one more thread promises to call this hand
 pub record Starts (old : List CallsHand) (number : ℕ) (hand : Vec (Op Global) Global) (new : List CallsHand) : Type 0 where
   pub promise : CallsHand
   pub number_is : promise.number ≡ number
@@ -27,7 +27,7 @@ AreStarted hands promises =
     (h : ℕ) (p : CallsHand) → slice_get promises h ≡ Some p
     → (p.number ≡ h) × (slice_get hands h ≡ Some p.ops.value)
 
--- what a thread gave back was added
+-- the result of a thread was added
 abbrev pub AddsCalled : {N : Type 0} → AllCalled N → Called N → AllCalled N → Type 0
 AddsCalled old called new =
     MatchResult called.answers
@@ -35,7 +35,7 @@ AddsCalled old called new =
     × (new.answers.items ≡ old.answers.items ++ answers ∷ []))
     (λ fault. ⊥)
 
--- each thread gave back its client, and the answers that the client got to its hand
+-- the result of each thread is its client, and the answers that the client got to its hand
 pub record AreJoined (promises : List CallsHand) (clients : List Seated) (answers : Hands (Answer Global)) : Type 0 where
   pub clients_count : length clients ≡ length promises
   pub answers_count : length answers ≡ length promises

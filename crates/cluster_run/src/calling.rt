@@ -19,15 +19,15 @@ use std::time::Clock;
 use terms::{Party, ReplicaId};
 use tuple_codec::{Answer, Op};
 
-/// What a client's thread gives back: the client, and the answers to its operations, in their order.
+/// The result of a client's thread: the client, and the answers to its operations, in their order.
 #[derive(Drop)]
 pub(crate) struct Called<N: Naming> {
     client: ClientHandle<N>,
     answers: Result<Vec<Answer<Global>>, LateFault>,
 }
 
-/// What a client's thread promises: where all operations are answered, the client of this number called these, its
-/// first ones, and got the answers that are given back.
+/// The promise of a client's thread: if all operations are answered, the client of this number called these, its
+/// first ones, and got the answers in the result.
 #[derive(Drop)]
 pub(crate) struct CallsHand {
     number: u16,
@@ -42,7 +42,7 @@ impl<N: Naming> Promise<Called<N>> for CallsHand {
         (λ answers. HasCalledHand promise.ops.value promise.number answers called.client) };
 }
 
-/// What all gave back.
+/// The results of all threads.
 #[derive(Drop)]
 pub(crate) struct AllCalled<N: Naming> {
     pub(crate) clients: Vec<ClientHandle<N>>,
@@ -63,8 +63,8 @@ pub(crate) struct Callers<N: Naming> {
     pub(crate) threads: Vec<PromisedHandle<Called<N>, CallsHand>>,
 }
 
-/// Starts a thread for each client that has operations, the client of number 0 first. Those after a client that has
-/// none have none either.
+/// Starts a thread for each client that has operations, client 0 first. If a client has none, those after it have
+/// none either.
 pub(crate) fn start_clients<
     N: Naming + Send + Sync + 'static,
     R: Threads + Wait + Copy + Send + 'static,
@@ -145,7 +145,7 @@ fn call_in_thread<N: Naming, R: Wait>(
     Called { client, answers }
 }
 
-// Calls the operations in their order, up to the first call that has no answer.
+// Calls the operations in their order, up to the first call without an answer.
 fn call_all<N: Naming, R: Wait>(
     rt: &R,
     alloc: Global,
@@ -165,15 +165,16 @@ fn call_all<N: Naming, R: Wait>(
     Ok(answers)
 }
 
-/// Waits until the threads of these clients have ended, or ends the cluster, so that they end, where a client failed or
-/// more replicas have stopped than may fail.
+/// Waits until the threads of these clients have ended. If a client fails, or more replicas have stopped than may
+/// fail, it ends the cluster, so that the threads end.
 ///
-/// About each second it tells each client that time went by, so that it sends again what it waits for. After some
-/// seconds without an answer it tells the replicas too, so that they change their view if the primary has stopped.
+/// About each second it tells each client that time went by, so that the client sends its waiting request again.
+/// After some seconds without an answer it tells the replicas too, so that they change their view if the primary has
+/// stopped.
 ///
 /// # Errors
 ///
-/// The fault for which the cluster was ended.
+/// The fault that ended the cluster.
 pub(crate) fn wait_for_clients<N: Naming + Send + Sync + 'static, R: Wait + Clock, W: Watch>(
     rt: &R,
     cluster: &Cluster<N>,
@@ -225,7 +226,7 @@ fn tell_of_second<N: Naming + Send + Sync + 'static, R: Wait>(
     }
 }
 
-/// Joins the threads. With an error all have ended all the same.
+/// Joins the threads. They have ended even if it gives an error.
 pub(crate) fn join_clients<N: Naming, R: Threads>(
     rt: &R,
     alloc: Global,

@@ -1,4 +1,4 @@
-//! Which client calls which operations.
+//! The operations of each client.
 
 ghost use Rattle.std.specs.Prelude.{◌≡◌, ◌<◌, [], IfOk, IfSome};
 ghost use Rattle.cluster_run.specs.Hands.{AreDealt, AreGathered, Takes};
@@ -9,7 +9,7 @@ use std::mem;
 use terms::NoMemory;
 use tuple_codec::{Answer, Op};
 
-/// The operations of each of so many clients: operation `i`, counted from 0, is of client `i` modulo their number.
+/// The operations of each of so many clients: client `i` modulo their number has operation `i`, counted from 0.
 pub(crate) fn deal(
     alloc: Global,
     clients: usize,
@@ -35,11 +35,11 @@ fn empty_hands(alloc: Global, count: usize) -> Result<Vec<Vec<Op<Global>>>, NoMe
     Ok(hands)
 }
 
-/// The answers in the order of their operations, of which there are so many, from those that each client got.
+/// The answers of each client, put into the order of the `count` operations.
 ///
 /// # Errors
 ///
-/// NoAnswer where a client has fewer answers than operations, and NoMemory.
+/// NoAnswer if a client has fewer answers than operations, and NoMemory.
 pub(crate) fn gather(
     alloc: Global,
     clients: usize,

@@ -14,13 +14,13 @@ pub enum RunFault {
     /// There are more hands than clients.
     #[error("no such client")]
     NoClient,
-    /// The journal takes fewer than two entries an operation, one of its call and one of its answer.
+    /// The journal takes fewer than two entries for each operation, one of its call and one of its answer.
     #[error("the journal is too small for so many operations")]
     NoRoom,
     /// A call was not answered.
     #[error("a call was not answered: {0}")]
     Call(CallFault),
-    /// More replicas have stopped than may fail, since memory ran out or the journal was full.
+    /// More replicas have stopped than may fail, because memory ran out or the journal was full.
     #[error("too many replicas have stopped: memory ran out, or the journal is full")]
     TooManyStopped,
     /// The journal has another history of a party than the party itself.
@@ -36,7 +36,7 @@ pub enum RunFault {
     NoMemory,
 }
 
-/// Why a run that began has no answers. What it was given is no reason any more.
+/// Why a run that began has no answers. Its arguments are no reason any more.
 #[derive(Clone, Copy, Debug, PartialEq, Eq)]
 pub(crate) enum LateFault {
     NoClient,

@@ -3,18 +3,19 @@
 //!
 //! # What is proved
 //!
-//! At Ok `run` gives an answer for each operation, in their order. There is one trace of the cluster in which operation
-//! `i`, counted from 0, is call `i / clients` of client `i % clients`, and this client accepted this answer to it. The
-//! trace is a run's in which nothing is forged. It is linearizable unless two different texts of the run have one
-//! digest: `NoCollision` lists them, the pages of the executed states among them. A configuration with a faulty party
-//! is refused, and else a journal with fewer than two entries an operation, each exactly there.
+//! At `Ok`, `run` gives an answer for each operation, in their order. Operation `i`, counted from 0, is call `i /
+//! clients` of client `i % clients`. There is one trace of the cluster in which each client accepted these answers to
+//! its calls. The trace is a run's in which nothing is forged. It is linearizable unless two different texts of the
+//! run have one digest: `NoCollision` lists them, the pages of the executed states among them. A configuration with a
+//! faulty party is refused, and otherwise a journal with fewer than two entries an operation. Each of these refusals
+//! comes exactly then.
 //!
-//! # What is not
+//! # What is not proved
 //!
-//! That it returns: it waits for the threads, and these for replies. It is tested (`btspace`) that a run goes on
-//! without a primary that takes no event or has stopped, that it ends if more nodes have stopped than may fail, and
-//! that its journal takes no more entries than it is told. When the clients and the replicas are told that time went by
-//! is read in the code, and which fault is told if a run fails after its start.
+//! That `run` returns: it waits for the threads, and these for replies. Tests (`btspace`) show that a run goes on
+//! without a primary that takes no event or has stopped. They show that it ends if more nodes have stopped than may
+//! fail, and that its journal takes no more entries than its limit. Only the code shows when the clients and the
+//! replicas hear that time went by, and which fault a run gives that fails after its start.
 #![tactic(auto)]
 
 mod calling;

@@ -1,12 +1,12 @@
-//! When the replicas are told that time went by.
+//! When the replicas hear that time went by.
 
-// So many seconds pass without an answer before the replicas are told for the first time.
+// Seconds without an answer before the replicas hear of it for the first time.
 const FIRST: u64 = 3;
 
-/// How long no operation was answered, and how long that may last. Both in seconds.
+/// How many seconds no operation was answered, and how many such seconds may pass.
 ///
-/// Each time that the replicas are told, they may change their view, and each has 64 signatures. So the time that may
-/// pass doubles each time, and never falls again.
+/// Each time that the replicas hear of it, they may change their view, and each has 64 signatures. So the time that
+/// may pass doubles each time, and never falls again.
 #[derive(Clone, Copy, Drop)]
 pub(crate) struct Patience {
     answered: u64,
@@ -23,7 +23,7 @@ impl Patience {
         }
     }
 
-    /// A second went by, and so many operations are answered by now. Whether the replicas are to be told.
+    /// Counts a second, with so many operations answered by now. Gives whether to tell the replicas.
     pub(crate) fn ends(&mut self, answered: u64) -> bool {
         if answered != self.answered {
             self.answered = answered;

@@ -1,16 +1,16 @@
-//! How far the clients are.
+//! The progress of the clients.
 
 use crate::fault::LateFault;
 use std::sync::{Condvar, Mutex, Wait};
 use std::time::{Clock, Duration};
 
-// So many milliseconds is a thread that waits for the clients asleep at the most,
+// Most milliseconds that a thread sleeps at a time while it waits for the clients.
 const PAUSE: u64 = 250;
 
-/// and so often it looks in a second.
+/// How often it looks in a second.
 pub(crate) const LOOKS_A_SECOND: u64 = 4;
 
-/// Is told how far a run is.
+/// Hears of the progress of a run.
 pub trait Watch {
     /// About so many seconds went by, and so many operations are answered.
     fn note(&mut self, seconds: u64, answered: u64);
@@ -19,7 +19,7 @@ pub trait Watch {
     fn end(&mut self);
 }
 
-/// Makes nothing of it.
+/// Ignores the progress.
 #[derive(Clone, Copy, Drop)]
 pub struct Unwatched;
 
@@ -29,14 +29,14 @@ impl Watch for Unwatched {
     fn end(&mut self) {}
 }
 
-/// How far the clients' threads are.
+/// The progress of the clients' threads.
 #[derive(Clone, Copy, Drop)]
 pub(crate) enum Stage {
-    /// Some call, and so many operations are answered.
+    /// Some threads still call, and so many operations are answered.
     Calls { answered: u64 },
-    /// All have ended, each call was answered.
+    /// All threads have ended, and each call was answered.
     Done,
-    /// A run with this fault has no answers.
+    /// A thread failed with this fault, so the run has no answers.
     Failed(LateFault),
 }
 
@@ -48,7 +48,7 @@ struct Counts {
     fault: Option<LateFault>,
 }
 
-/// What the threads of a run share.
+/// The counts that the threads of a run share.
 #[derive(Drop)]
 pub(crate) struct Progress {
     counts: Mutex<Counts>,
@@ -68,13 +68,13 @@ impl Progress {
         }
     }
 
-    /// An operation is answered.
+    /// Notes that an operation is answered.
     pub(crate) fn add_answer<R: Wait>(&self, rt: &R) {
         let mut counts = self.counts.lock(rt);
         counts.answered = counts.answered.saturating_add(1);
     }
 
-    /// A thread ends.
+    /// Notes that a thread ends.
     pub(crate) fn add_end<R: Wait>(&self, rt: &R) {
         let mut counts = self.counts.lock(rt);
         counts.ended = counts.ended.saturating_add(1);
@@ -82,7 +82,7 @@ impl Progress {
         self.has_changed.notify_one();
     }
 
-    /// The run has no answers. Of several faults the first one counts, which has led to the others.
+    /// Notes that the run has no answers. Of several faults the first counts, as it led to the others.
     pub(crate) fn fail<R: Wait>(&self, rt: &R, fault: LateFault) {
         let mut counts = self.counts.lock(rt);
         if counts.fault.is_none() {
@@ -92,7 +92,7 @@ impl Progress {
         self.has_changed.notify_one();
     }
 
-    /// Waits until so many threads have ended or the run has failed, a quarter of a second at the most.
+    /// Waits until so many threads have ended or the run has failed, at most a quarter of a second.
     pub(crate) fn wait<R: Wait + Clock>(&self, rt: &R, threads: u64) -> Stage {
         let counts = self.counts.lock(rt);
         let (counts, _) = self.has_changed.wait_timeout_while(

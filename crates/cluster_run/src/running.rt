@@ -20,20 +20,26 @@ use std::thread::Threads;
 use std::time::Clock;
 use tuple_codec::{Answer, Op};
 
-/// Starts a cluster whose journal takes up to `limit` entries, 1 to 65,536 in the program, and has its clients call the
-/// operations: operation `i`, counted from 0, is of client `i` modulo their number, and each client calls its own in
-/// their order, in a thread of its own. About each second it tells each client that time went by, and then `watch` how
-/// many operations are answered. After three seconds without an answer, and each time after twice as many, it tells the
-/// replicas too. So a primary that stopped is replaced. The gate may hold nodes, as a test does. The answers are in the
-/// order of the operations.
+/// Starts a cluster whose journal takes up to `limit` entries, 1 to 65,536 in the program, and has its clients call
+/// the operations. Client `i` modulo their number calls operation `i`, counted from 0. Each client calls its own in
+/// their order, in a thread of its own. The answers are in the order of the operations.
+///
+/// About each second it tells each client that time went by, and then `watch` how many operations are answered. After
+/// three seconds without an answer, and each time after twice as many, it tells the replicas too. So they replace a
+/// primary that stopped. The gate may hold nodes, as in a test.
 ///
 /// # Errors
 ///
-/// BadConfig exactly where the configuration names a faulty party, and else NoRoom exactly where the limit is below two
-/// entries an operation; nothing has started then. Call where a call was not answered, TooManyStopped where more
-/// replicas have stopped than may fail, NotInJournal where the journal doesn't have what the parties kept, NoThread
-/// where no thread could be started, NoAnswer where a client gave back too few answers, and NoMemory. The run ends at
-/// the first of them, and all threads have ended then.
+/// BadConfig exactly if the configuration names a faulty party, and otherwise NoRoom exactly if the limit is below
+/// two entries an operation. Nothing has started then. The run ends at the first of the others, and all threads have
+/// ended then:
+///
+/// - Call if a call was not answered
+/// - TooManyStopped if more replicas have stopped than may fail
+/// - NotInJournal if the journal has another history of a party than the party itself
+/// - NoThread if no thread could be started
+/// - NoAnswer if a client gave back too few answers
+/// - NoMemory if memory ran out.
 pub fn run<
     N: Naming + Send + Sync + 'static,
     R: Threads + Wait + Clock + Copy + Send + 'static,
@@ -65,7 +71,7 @@ pub fn run<
     Ok(run_faultless::<N, R, G, W>(rt, alloc, opened, config, limit, gate, ops, watch)?)
 }
 
-// Each operation takes an entry of its call and one of its answer, at least.
+// Each operation takes at least an entry of its call and one of its answer.
 fn has_room(limit: u32, count: usize) -> bool
     ensures { IsTrue result ↔ (count * 2 ≤ limit) }
 {
@@ -128,7 +134,7 @@ fn run_faultless<
     gather(alloc, clients, answers, count)
 }
 
-// Has the clients call all their operations. A cluster has to be finished whatever comes of that.
+// Has the clients call all their operations. The caller has to finish the cluster, whatever the calls give.
 fn call_all<
     N: Naming + Send + Sync + 'static,
     R: Threads + Wait + Clock + Copy + Send + 'static,
@@ -160,7 +166,7 @@ fn call_all<
     };
     let ended = wait_for_clients(rt, cluster, &members, progress, watch);
     let joined = join_clients(rt, alloc, threads, all);
-    // The fault for which the cluster was ended has led to the others.
+    // The fault that ended the cluster led to the others.
     ended.and(started).and(joined)
 }
 

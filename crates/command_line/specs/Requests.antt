@@ -1,4 +1,4 @@
--- Which space a request is for.
+-- The space of a request.
 use Rattle.std.specs.Prelude.{◌≡◌, ◌↔◌, Some, codes}
 use Rattle.clap.specs.Matches.{found_of, first_value}
 use Rattle.clap.specs.declared.parser.matches.ArgMatches.{ArgMatches}
@@ -11,7 +11,7 @@ use Rattle.command_line.specs.declared.SpaceVersion.TheVariants.{Two}
 abbrev pub AsksFor : ArgMatches → SpaceVersion → Type 0
 AsksFor given version = (version ≡ Two) ↔ (first_value (found_of given) (codes "space") ≡ Some (codes "2"))
 
--- A script is run on a space of the version that is asked for.
+-- A script is run on a space of the version that the option asks for.
 abbrev pub HasVersion : ArgMatches → Request → Type 0
 HasVersion given (Local script space) = AsksFor given space
 HasVersion given (Show digits) = Unit {0}

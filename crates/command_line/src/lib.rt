@@ -1,13 +1,13 @@
 //! The words of the command line, read by `clap`.
 //!
-//! What is public here has no type of `clap`, so that what those types cost to prove is paid here alone.
+//! The public items here have no type of `clap`, so only this crate pays for the proofs of those types.
 //!
 //! # What is proved
 //!
-//! `read_words` is safe and returns, on any words. Of `clap`'s errors want of memory gives `Stopped`, only help and
+//! `read_words` is safe and returns, on any words. If `clap` runs out of memory, it gives `Stopped`. Only help and
 //! the version give `Shown`, and neither of them gives `Wrong` (`say`). A space is of version 2 exactly if `--space`
-//! has the value 2 (`request_in`). Which words are a request, that not all others are `Stopped`, which values `--space`
-//! takes, and what is printed is tested in `btspace`.
+//! has the value 2 (`request_in`). The tests of `btspace` show which words are a request, that not all others are
+//! `Stopped`, which values `--space` takes, and what the program prints.
 #![tactic(auto)]
 
 ghost use Rattle.std.specs.Prelude.{◌≡◌, ◌≢◌, ◌⊎◌, IfSome};
@@ -19,24 +19,24 @@ use clap::{Arg, ArgAction, ArgMatches, Command, Error};
 use std::alloc::{AllocError, Global};
 use std::convert::AsStr;
 
-/// What the words ask for.
+/// A request of the command line.
 #[derive(Clone, Copy, Debug, PartialEq, Eq)]
 pub enum Request<'a> {
-    /// The script at this path is to be run on a space of this version.
+    /// Run the script at this path on a space of this version.
     Local {
         script: &'a str,
         space: SpaceVersion,
     },
-    /// The tuple of these digits is to be shown.
+    /// Show the tuple of these digits.
     Show {
         digits: &'a str,
     },
-    /// The script at the second path is to be run on a cluster of the configuration at the first.
+    /// Run the script at the second path on a cluster of the configuration at the first.
     Run {
         config: &'a str,
         script: &'a str,
     },
-    /// The schedule at the second path is to be run in the configuration at the first.
+    /// Run the schedule at the second path in the configuration at the first.
     Schedule {
         config: &'a str,
         file: &'a str,
@@ -44,28 +44,28 @@ pub enum Request<'a> {
     },
 }
 
-/// The version of a space that is asked for.
+/// The version of a space.
 #[derive(Clone, Copy, Debug, PartialEq, Eq)]
 pub enum SpaceVersion {
     One,
     Two,
 }
 
-/// What is printed of a run.
+/// The output of a run.
 #[derive(Clone, Copy, Debug, PartialEq, Eq)]
 pub enum Printed {
-    /// What was accepted, and how many entries the trace has.
+    /// The accepted answers, and how many entries the trace has.
     Report,
     /// Each entry of the trace, and then the report.
     Trace,
-    /// The picture of the trace, alone.
+    /// The picture of the trace, and nothing else.
     Picture,
 }
 
 /// Why there is no request.
 #[derive(Clone, Copy, Debug, PartialEq, Eq)]
 pub enum NoRequest {
-    /// Help or the version was asked for, and stands on standard output.
+    /// The words ask for help or the version, which was printed on standard output.
     Shown,
     /// The words are wrong, and standard error says how.
     Wrong,
@@ -73,8 +73,8 @@ pub enum NoRequest {
     Stopped,
 }
 
-/// Reads the words, of which the first is the program's name. Help and the version, where they ask for these, are
-/// printed, and so is what is wrong with them.
+/// Reads the words; the first is the program's name. Prints help or the version if the words ask for it, and the
+/// error if the words are wrong.
 pub fn read_words<'a, R: Print + Eprint + AllocGlobal, S: AsStr>(
     rt: &R,
     words: &'a [S],
@@ -90,7 +90,7 @@ fn request_of<'a, S: AsStr>(alloc: Global, words: &'a [S]) -> Result<Request<'a>
     request_by(&mut program, words)
 }
 
-// Help and the version come as an error, as `clap` has it.
+// `clap` reports help and the version as an error.
 fn request_by<'a, S: AsStr>(
     program: &mut Command<'a>,
     words: &'a [S],
@@ -141,7 +141,7 @@ fn request_in<'a>(name: &str, given: &ArgMatches<'a>) -> Option<Request<'a>>
     }
 }
 
-// The option has the value 1 if the words don't name it.
+// `clap` gives the option the value 1 if the words don't name it.
 fn space_version(given: &ArgMatches<'_>) -> SpaceVersion
     ensures { AsksFor given.now result }
 {
@@ -175,7 +175,7 @@ fn program<'a>(alloc: Global) -> Result<Command<'a>, AllocError> {
     with_subcommand(program, show(alloc))
 }
 
-// If memory runs out in a subcommand, the program is dropped here alone.
+// If memory runs out in a subcommand, the program is dropped only here.
 fn with_subcommand<'a>(
     program: Command<'a>,
     subcommand: Result<Command<'a>, AllocError>,
@@ -206,7 +206,7 @@ fn space_option<'a>(alloc: Global) -> Arg<'a> {
         .help("The version of the space; one of version 2 also takes wide numbers and inAll")
 }
 
-// What fits was measured; docs/formats.md has the table.
+// The numbers were measured; docs/formats.md has the table.
 const ROOM: &str =
     "The journal takes 65,536 entries, or as many as the configuration says. One client's writes that fit:
 about 1,250 at f = 1, 490 at f = 2, 260 at f = 3. Reads that fit: about 4,300, 2,700, 1,980.";
@@ -271,7 +271,7 @@ fn flag<'a>(alloc: Global, name: &'a str, help: &'a str) -> Arg<'a> {
         .help(help)
 }
 
-// Help and the version go to standard output, and what is wrong to standard error.
+// Help and the version go to standard output, errors to standard error.
 fn say<R: Print + Eprint>(rt: &R, error: &Error) -> NoRequest
     ensures memory { kind_of error.now ≡ ErrorKind.OutOfMemory → result ≡ NoRequest.Stopped }
     ensures shown { result ≡ NoRequest.Shown → (kind_of error.now ≡ ErrorKind.DisplayHelp)

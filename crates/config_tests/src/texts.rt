@@ -6,7 +6,7 @@ use std::test::Fail;
 
 const SEED: &str = "seed = \"000102030405060708090a0b0c0d0e0f101112131415161718191A1B1C1D1E1F\"\n";
 
-// What stands before the seed, and the values in the order of the keys.
+// The text before the seed, and the values in the order of the keys.
 #[derive(Clone, Copy)]
 struct Row {
     text: &'static str,
@@ -155,7 +155,7 @@ fn has_seed(settings: &Settings) -> bool {
         .all(|(i, byte)| usize::from(*byte) == i)
 }
 
-// Whether these bytes are refused. Want of memory is no answer, and is handed on.
+// Whether these bytes are refused. Out of memory is no answer, and is handed on.
 fn are_refused(alloc: Global, text: &[u8]) -> Result<bool, ConfigFault> {
     match read_config(alloc, text) {
         Ok(_) => Ok(false),
@@ -243,8 +243,8 @@ fn is_whole(settings: &Settings) -> bool {
         && has_seed(settings)
 }
 
-// Passes whichever growth is refused, as by `tools/growths`: a second try gives what the first one
-// gives where nothing is refused, and want of memory refuses no text.
+// Passes whichever growth is refused, as by `tools/growths`: a second try gives the same as the first one gives if
+// nothing is refused, and out of memory refuses no text.
 #[test]
 fn refused_memory(rt: HostRuntime) {
     match read_again(rt.alloc(), WHOLE) {

@@ -19,7 +19,7 @@ one_more vs i v ns after n p e h k a =
     (subst (λ ws. AreNumbers (items_view ws) (ns ++ n ∷ []))
     (sym (take_more vs i v p ∙ ap (λ w. take i vs ++ w ∷ []) (sym e))) (pushed (take i vs) ns v n h k))
 
--- Where one of the values is no number of 16 bits, they are no numbers.
+-- If one of the values is no number of 16 bits, the values are no numbers.
 pub no_numbers : (vs : List Value) (i : ℕ) (v : Value) → i < length vs → v ≡ get_or vs i v → ((n : ℕ) → n < 2 ^ 16 → as_integer (view v) ≡ Some (pos n) → ⊥) → (ns : List ℕ) → All (λ n. n < 2 ^ 16) ns → AreNumbers (items_view vs) ns → ⊥
 no_numbers [] i v p e none ns a h = absurd (omega arith)
 no_numbers (x ∷ vs) i v p e none [] a h = absurd h

@@ -1,4 +1,4 @@
--- A table says one configuration at the most.
+-- A table says at most one configuration.
 use Rattle.std.proofs.Common.{◌≡◌, ℕ, ℤ, pos, ◌^◌, ◌<◌, ◌+◌, ◌*◌, List, [], ◌∷◌, Option, Some, None, ap, sym, ◌∙◌, arith}
 use Rattle.std.specs.Prelude.{All, Ok, Result}
 use Rattle.std.proofs.lemmas.List.Elements.{All-weaker}
@@ -37,7 +37,7 @@ seed_once table s t h k =
     let same : h.0 ≡ k.0 = same_some _ h.0 k.0 h.1 k.1 in
     same_ok _ s t h.2 (rw same k.2)
 
--- what is valid of one of them is valid of the other
+-- if one of them is valid, the other is
 pub valid_once : (table : Members) (c d : Configuration) → SaysParties table c → SaysParties table d → IsConfiguration c → IsConfiguration d
 valid_once table c d h k valid =
     let faults : d.faults ≡ c.faults = same_pos _ d.faults c.faults k.faults h.faults in

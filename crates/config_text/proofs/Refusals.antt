@@ -1,4 +1,4 @@
--- What refuses one thing refuses another, where the second would be the first.
+-- A reason to refuse Q is a reason to refuse P, if P implies Q.
 use Rattle.config_text.specs.declared.fault.ConfigFault.{ConfigFault}
 use Rattle.config_text.specs.declared.fault.ConfigFault.TheVariants.{Refused, NoMemory}
 use Rattle.std.specs.Prelude.{Result, Ok, Err, MatchResult}

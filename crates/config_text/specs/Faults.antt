@@ -1,4 +1,4 @@
--- What an error of the digits of a seed makes of a text.
+-- The fault of a text if the digits of the seed are bad.
 use Rattle.hex.specs.declared.error.FromHexError.{FromHexError}
 use Rattle.hex.specs.declared.error.FromHexError.TheVariants as hex
 use Rattle.config_text.specs.declared.fault.ConfigFault.{ConfigFault}

@@ -1,5 +1,5 @@
--- What reading tells of a text: what it says, or that it says none. The contracts of private functions speak of the
--- parts.
+-- The results of reading a text: the settings that it says, or a refusal if it says none. The contracts of private
+-- functions use the parts.
 use Rattle.std.specs.Prelude.{◌≡◌, ℕ, ◌<◌, ◌≤◌, ◌^◌, Bool, List, All, Result, MatchResult}
 use Rattle.std.specs.List.{list_any}
 use Rattle.std.specs.Str.{bytes_eq}
@@ -10,7 +10,7 @@ use Rattle.config_text.specs.declared.fault.ConfigFault.TheVariants.{Refused, No
 use Rattle.config_text.specs.declared.settings.Settings.{Settings}
 use Rattle.config_text.specs.Reading.{known_keys, SaysParties, SaysAll, Says}
 
--- whether a key is one that a configuration may have
+-- whether a configuration may have this key
 unfoldable pub is_known : List ℕ → Bool
 is_known key = list_any (bytes_eq key) known_keys
 
@@ -19,7 +19,7 @@ abbrev pub Because : ConfigFault → Type 0 → Type 0
 Because Refused why = why
 Because NoMemory why = Unit {0}
 
--- What is read is what the text says, and a text that is refused says no configuration.
+-- The given settings are those that the text says, and a refused text says no configuration.
 abbrev pub Judges : List ℕ → Result Settings ConfigFault → Type 0
 Judges text result =
     MatchResult result (λ s. Says text s.config s.journal)
@@ -35,7 +35,7 @@ JudgesParties table result =
     MatchResult result (λ c. SaysParties table c × IsConfiguration c)
     (λ fault. Because fault ((c : Configuration) → SaysParties table c → IsConfiguration c → ⊥))
 
--- a number of so many bits, or none
+-- a number of so many bits with the property Has, or none has it
 abbrev pub JudgesNumber : ℕ → (ℕ → Type 0) → Result ℕ ConfigFault → Type 0
 JudgesNumber bits Has result =
     MatchResult result Has (λ fault. Because fault ((n : ℕ) → n < 2 ^ bits → Has n → ⊥))
@@ -45,7 +45,7 @@ abbrev pub Narrows : ℕ → ℕ → Result ℕ ConfigFault → Type 0
 Narrows bits number result =
     MatchResult result (λ n. n ≡ number) (λ fault. Because fault (2 ^ bits ≤ number))
 
--- numbers of 16 bits, or none
+-- numbers of 16 bits with the property Have, or none have it
 abbrev pub JudgesNumbers : {V : Type 0} → (V → List ℕ) → (List ℕ → Type 0) → Result V ConfigFault → Type 0
 JudgesNumbers view Have result =
     MatchResult result (λ v. Have (view v))

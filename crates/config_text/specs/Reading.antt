@@ -1,4 +1,4 @@
--- What the table of a configuration's text says: values under keys.
+-- The settings that the table of a configuration's text says, each under its key.
 use Rattle.std.specs.Prelude.{◌≡◌, ◌≤◌, ℕ, pos, List, [], ◌∷◌, codes, Option, Some, None, option_and_then, Ok, All, Contains}
 use Rattle.std.specs.Str.{IsUtf8}
 use Rattle.hex.specs.Hex.{decode_sized}
@@ -14,7 +14,7 @@ abbrev pub IsFoundOr : ℕ → ℕ → Option Data → Type 0
 IsFoundOr default n None = n ≡ default
 IsFoundOr default n (Some d) = as_integer d ≡ Some (pos n)
 
--- The number stands under the key, or nothing does, and it is the one that is meant then.
+-- The number stands under the key, or the key is missing and the number is the default.
 abbrev pub HasNumberOr : Members → List ℕ → ℕ → ℕ → Type 0
 HasNumberOr table key default n = IsFoundOr default n (get_member key table)
 
@@ -34,7 +34,7 @@ abbrev pub AreFound : List ℕ → Option Data → Type 0
 AreFound ns None = ns ≡ []
 AreFound ns (Some d) = (items : Items) × (as_array d ≡ Some items) × AreNumbers items ns
 
--- An array of the numbers stands under the key, or nothing does, and there are none.
+-- An array of the numbers stands under the key, or the key is missing and there are no numbers.
 abbrev pub HasNumbers : Members → List ℕ → List ℕ → Type 0
 HasNumbers table key ns = AreFound ns (get_member key table)
 
@@ -49,7 +49,7 @@ abbrev pub keys_of : Members → List (List ℕ)
 keys_of no_members = []
 keys_of (member key d others) = key ∷ keys_of others
 
--- No other key stands in the table.
+-- The table has no other keys.
 abbrev pub HasKnownKeys : Members → Type 0
 HasKnownKeys table = All (Contains known_keys) (keys_of table)
 
@@ -66,7 +66,7 @@ pub record SaysParties (table : Members) (c : Configuration) : Type 0 where
 abbrev pub IsJournal : ℕ → Type 0
 IsJournal n = (1 ≤ n) × (n ≤ 65536)
 
--- The table is that of a configuration, which is valid, and of a journal.
+-- The table is that of a valid configuration and of a journal.
 pub record SaysAll (table : Members) (c : Configuration) (journal : ℕ) : Type 0 where
   pub known : HasKnownKeys table
   pub parties : SaysParties table c
@@ -74,7 +74,7 @@ pub record SaysAll (table : Members) (c : Configuration) (journal : ℕ) : Type 
   pub journal_is : HasNumberOr table (codes "journal") 65536 journal
   pub range : IsJournal journal
 
--- The text is TOML, and its table says so of a configuration and a journal.
+-- The text is TOML, and its table is that of the configuration and the journal.
 pub record Says (text : List ℕ) (c : Configuration) (journal : ℕ) : Type 0 where
   pub table : Members
   pub utf8 : IsUtf8 text

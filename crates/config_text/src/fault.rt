@@ -8,7 +8,7 @@ use thiserror::Error;
 /// Why a text gives no configuration.
 #[derive(Clone, Copy, Debug, PartialEq, Eq, Error)]
 pub enum ConfigFault {
-    /// It is no TOML, has a key that is unknown or lacks one that is required, or a value is of another kind or out of
+    /// The text is no TOML, has an unknown key or lacks a required one, or a value is of another kind or out of
     /// range.
     #[error("the configuration is wrong")]
     Refused,

@@ -2,8 +2,10 @@
 //!
 //! # What is proved
 //!
-//! `read_config` is safe and returns, on any bytes. What it gives is what the text says (`Says`): each value stands
-//! under its key in the table that the text is, or is meant where nothing does, no other key stands there, and all is
+//! `read_config` is safe and returns, on any bytes. Its result is the configuration that the text says (`Says`): each
+//! value stands under its key in the text's table, or has its default if the key is missing; no other key stands
+//! there, and all values are valid. A refused text says no configuration (`Judges`). That memory suffices is tested
+//! (`config_tests`).
 //! valid. A text that is refused says no configuration (`Judges`). That memory suffices is tested (`config_tests`).
 #![tactic(auto)]
 

@@ -41,24 +41,24 @@ const KEYS: [&str; 7] = [
     JOURNAL,
 ];
 
-// How many batches lie from one checkpoint to the next, where the text doesn't say it.
+// The number of batches from one checkpoint to the next if the text doesn't say it.
 const DEFAULT_PERIOD: u32 = 16;
 
-// How many entries a journal has at the most, and where the text doesn't say it.
+// Most entries of a journal; also their number if the text doesn't say it.
 const MAX_JOURNAL: u32 = 65_536;
 
 /// Reads the text of a configuration.
 ///
 /// # Errors
 ///
-/// [`ConfigFault::Refused`] where the text gives none, and [`ConfigFault::NoMemory`] where memory runs out.
+/// [`ConfigFault::Refused`] if the text gives no configuration, and [`ConfigFault::NoMemory`] if memory runs out.
 pub fn read_config(alloc: Global, text: &[u8]) -> Result<Settings, ConfigFault>
-    // What is read is what the text says, and a text that is refused says no configuration.
+    // The given settings are those that the text says, and a refused text says no configuration.
     ensures { Judges text.now result }
 {
     match toml::table_from_slice(alloc, text) {
         Ok(table) => read_table(alloc, &table),
-        // Where memory ran out the error has no place in the text.
+        // After out of memory the error has no place in the text.
         Err(error) => match error.span() {
             Some(_) => Err(ConfigFault::Refused),
             None => Err(ConfigFault::NoMemory),
@@ -109,7 +109,7 @@ fn read_parties(alloc: Global, table: &Table) -> Result<Config, ConfigFault>
     Ok(config)
 }
 
-// A configuration is valid by its type.
+// Tells a proof that a configuration is valid, by its type.
 fn note_valid(config: &Config)
     ensures { IsConfiguration config.now }
 {

@@ -1,10 +1,10 @@
-//! What a text says of a run.
+//! The settings of a run.
 
 ghost use Rattle.std.specs.Prelude.{◌≤◌};
 
 use events::Config;
 
-/// What a text says of a run.
+/// The settings of a run, as a text says them.
 #[derive(Drop)]
 pub struct Settings {
     pub config: Config,

@@ -1,4 +1,4 @@
--- What the tests' parties send.
+-- The frames that the tests' parties send.
 use Rattle.std.proofs.Common.{◌≡◌, ℕ, ◌+◌, ◌*◌, List, [], ◌∷◌, sym, ap, subst}
 use Rattle.std.specs.List.{range_with_len}
 use Rattle.terms.specs.declared.order.Mode.TheVariants as modes
@@ -9,7 +9,7 @@ use Rattle.protocol.specs.System.Configuration.{Configuration}
 use Rattle.protocol.proofs.Words.Posting.{sealed_is_posted}
 use Rattle.journal_tests.specs.Calls.{first_op, AsksFirst}
 
--- what is sealed for four replicas is its request
+-- the frame that is sealed for four replicas is the client's request
 pub asks_first : (c : Configuration) (k : ℕ) (bytes : List ℕ) → c.faults ≡ 1
     → SpellsFrame bytes (sealed_for c.seed (record { sender = 256 + k; message = Request 1 modes.Ordered first_op }) (0 ∷ 1 ∷ 2 ∷ 3 ∷ [])) → AsksFirst c k bytes
 asks_first c k bytes one spells =

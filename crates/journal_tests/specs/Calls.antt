@@ -1,4 +1,4 @@
--- What the tests' parties do.
+-- The entries of the tests' parties.
 use Rattle.std.specs.Prelude.{◌≡◌, ℕ, ◌+◌, List, [], ◌∷◌}
 use Rattle.terms.specs.declared.order.Mode.TheVariants as modes
 use Rattle.tuple_tree.specs.Items.{none}

@@ -1,4 +1,4 @@
-//! What a journal takes, and that a refusal changes nothing.
+//! The events that a journal takes, and that a refusal changes nothing.
 
 ghost use Rattle.std.specs.Prelude.{◌≡◌};
 
@@ -31,7 +31,7 @@ fn is_taken<N: Naming>(
     Ok(tick(alloc, journal, share)?.is_ok())
 }
 
-// What a journal of limit 3 does: it takes 2 entries, refuses 2 more and still holds 2. One more has room.
+// A journal of limit 3 takes 2 entries, refuses 2 more and still holds 2. One more has room.
 fn takes_three<N: Naming>(
     alloc: Global,
     config: &Config,
@@ -200,7 +200,7 @@ fn is_empty_out_of_step<N: Naming>(
     is_out_of_step(alloc, journal, &mut empty)
 }
 
-// Where the trace was taken away, each share that has a history is ahead.
+// After the trace was taken away, each share that has a history is ahead.
 fn is_ahead<N: Naming>(
     alloc: Global,
     journal: &mut Journal<N>,
@@ -213,7 +213,7 @@ fn is_ahead<N: Naming>(
     )
 }
 
-// A share that fell behind is out of step, and one that has nothing; the right one, which was kept, is taken again.
+// A share that lags is out of step, and so is one that has nothing. The right share, which was kept, is taken again.
 fn goes_on_with<N: Naming>(
     alloc: Global,
     journal: &mut Journal<N>,
@@ -263,7 +263,7 @@ fn shares_are_compared(rt: HostRuntime) -> Result<(), Fail> {
     Ok(())
 }
 
-// Where memory runs out nothing has changed, and the next try finds all in step.
+// If memory runs out nothing has changed, and the next try finds all in step.
 fn is_whole_or_unchanged<N: Naming>(
     alloc: Global,
     journal: &mut Journal<N>,

@@ -49,7 +49,7 @@ fn is_first_refused<N: Naming>(
     is_refused(alloc, journal, share, from, frame.as_slice())
 }
 
-// Where the frame of position 1 is said to come from, one after another, and why it is refused.
+// The positions that are given for the frame of position 1, one after another, and why they are refused.
 static SOURCES: [(Option<u64>, Option<AppendFault>); 6] = [
     (None, Some(AppendFault::NotInJournal)),
     (Some(0), Some(AppendFault::NotInJournal)),
@@ -59,8 +59,8 @@ static SOURCES: [(Option<u64>, Option<AppendFault>); 6] = [
     (Some(1), None),
 ];
 
-// The frame that a client sent comes from where it was sent alone, again and again: not from where it was got, nor from
-// past the end.
+// A frame that a client sent comes only from the position at which it was sent, again and again. It doesn't come from
+// the position at which it was received, nor from past the end.
 fn comes_as_sent<N: Naming>(
     alloc: Global,
     journal: &mut Journal<N>,
@@ -174,7 +174,7 @@ fn is_faulty_taken<N: Naming>(
     Ok(get(alloc, journal, share, None, frame.as_slice())?.is_ok())
 }
 
-// What names a faulty client comes from anywhere; one of a client that the configuration hasn't does not.
+// A frame that names a faulty client comes from anywhere; one that names a client outside the configuration does not.
 fn takes_faulty_alone<N: Naming>(
     alloc: Global,
     config: &Config,

@@ -35,7 +35,7 @@ pub fn take_share<N: Naming>(shares: Vec<Share<N>>, number: u16) -> Option<Share
     found
 }
 
-// What is owned is dropped by a call, here and where the two are used: at the end of a function it is taken apart.
+// Owned values are dropped by a call, here and where the two are used: a drop at a function's end takes them apart.
 fn with_share<N: Naming>(
     journal: Journal<N>,
     shares: Vec<Share<N>>,
@@ -89,7 +89,7 @@ pub fn tick_entries(alloc: Global, party: Party) -> Result<Vec<Entry>, NoMemory>
     Ok(entries)
 }
 
-/// Whether the entries were taken, or why not. Want of memory is no answer, and is handed on.
+/// Whether the entries were taken, or why not. Out of memory is no answer, and is handed on.
 pub fn answer_of(taken: Result<(), AppendFault>) -> Result<Result<(), AppendFault>, NoMemory> {
     match taken {
         Err(AppendFault::NoMemory) => Err(NoMemory),

@@ -1,5 +1,5 @@
-//! Tests of the journal of a running cluster (`journal`): what it takes and what it refuses, shares that fell behind,
-//! the ordering beside reads, and memory refused.
+//! Tests of the journal of a running cluster (`journal`): the events that it takes and refuses, shares that lag, the
+//! ordering beside reads, and memory refused.
 #![tactic(auto)]
 
 #[cfg(test)]

@@ -48,8 +48,8 @@ fn tick_order<N: Naming>(
     tick_by(alloc, journal, &mut seat.share, &mut seat.order)
 }
 
-// A read stands in the journal and in the share alone, and the next ordering event goes on. One that came by `append`
-// leaves the ordering behind.
+// A read stands only in the journal and in the share, and the next ordering event goes on. An ordering event that
+// came by `append` leaves the share of ordering out of step.
 fn orders_beside_reads<N: Naming>(
     alloc: Global,
     journal: &mut Journal<N>,

@@ -1,4 +1,4 @@
--- What the calls of a lock stand on, in the history of the client that calls.
+-- The answers of a lock's calls, in the history of the client that calls.
 use Rattle.std.specs.Prelude.{◌≡◌, Bool, true, false}
 use Rattle.tuple_codec.specs.Operations.{Operation, Outcome, swapped, found, absent}
 use Rattle.space_node.specs.Calls.{Called}

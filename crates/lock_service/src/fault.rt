@@ -12,18 +12,18 @@ use tuple_tree::{Refusal, Refused};
 pub enum Fault {
     #[error("the configuration is refused")]
     Configuration,
-    /// The cluster has no handle of a client any more.
+    /// The cluster has no handle of this client any more.
     #[error("no such client")]
     NoClient,
-    /// Name and holder make no tuple of up to 1,024 bytes.
+    /// The name and the holder make no tuple of up to 1,024 bytes.
     #[error("a name is too long")]
     TooLong,
     #[error("a call was not answered: {0}")]
     Call(CallFault),
-    /// The answer is not one of the operation that was called.
+    /// The operation can't have this answer.
     #[error("another answer than was asked for")]
     Answer,
-    /// The journal has not what the parties kept.
+    /// The journal has another history of a party than the party itself.
     #[error("the cluster did not finish")]
     NotFinished,
     #[error("no thread could be started")]

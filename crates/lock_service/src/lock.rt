@@ -1,7 +1,8 @@
 //! A lock in a tuple space.
 //!
-//! A lock that is held is a tuple, `("lock" NAME HOLDER)`. Who wants it puts the tuple there unless one of that name is
-//! there already, by one `cas`: so of all clients that ask at once one gets it. Who lets go takes the own tuple away.
+//! A held lock is a tuple, `("lock" NAME HOLDER)`. A client that wants it puts the tuple by one `cas`, unless one of
+//! that name is there: so of all clients that ask at once one gets it. The holder lets go by taking its own tuple
+//! away.
 
 ghost use Rattle.std.specs.Prelude.{IfOk};
 ghost use Rattle.lock_service.specs.Answers.{Swapped, Taken};
@@ -82,7 +83,7 @@ impl<'a> Lock<'a> {
         Ok(tuple)
     }
 
-    // ("lock" NAME HOLDER), where the holder is a field: `*` for whoever it is.
+    // ("lock" NAME HOLDER), with a field for the holder: `*` for any.
     fn template(self, alloc: Global, holder: Field<Global>) -> Result<Template<Global>, Fault> {
         let mut template = Template::new_in(alloc);
         for word in ["lock", self.name] {

@@ -1,12 +1,12 @@
 //! A lock service: a program that embeds a replicated tuple space, to be copied and changed.
 //!
-//! It starts four replicas as threads of this process, one of which may fail, and two clients, Ann and Ben, who ask for
-//! one printer's lock in turn. `lock.rt` has the lock; nothing there knows how the space is replicated.
+//! It starts four replicas as threads of this process, one of which may fail, and two clients, Ann and Ben, who ask
+//! for one printer's lock in turn. `lock.rt` has the lock. Nothing there knows how the space is replicated.
 //!
 //! # What is proved
 //!
-//! That a client holds a lock, or has let it go, is the answer that the client accepted to a call of its
-//! (`space_node::ClientHandle::call`). What is printed is tested.
+//! If the service says that a client holds a lock, or has let it go, the client accepted that answer to one of its
+//! calls (`space_node::ClientHandle::call`). The output is tested.
 #![tactic(auto)]
 
 ghost use Rattle.std.specs.Prelude.{◌≡◌};
@@ -28,10 +28,10 @@ use std::thread::Threads;
 // Ann, and Ben.
 const CLIENTS: u16 = 2;
 
-// So many entries the journal of the cluster takes at the most. A call of this cluster has about 50.
+// Most entries of the cluster's journal. A call of this cluster has about 50.
 const JOURNAL: u32 = 65_536;
 
-// All keys come from it, so a service draws its own.
+// All keys come from the seed, so a service draws its own.
 const SEED: [u8; 32] = [7; 32];
 
 fn main(rt: HostRuntime) -> ExitCode {
@@ -48,12 +48,13 @@ fn start<R: Print + Threads + Wait + Copy + Send + 'static>(
     rt: &R,
     alloc: Global,
 ) -> Result<(), Fault> {
-    // Four replicas, of which one may fail; two clients; a checkpoint at each sixteenth number; nobody is known to lie.
+    // Four replicas, of which one may fail; two clients; a checkpoint at each sixteenth number; nobody is known to
+    // lie.
     let config = Config::new(1, CLIENTS, SEED, 16, Vec::new(alloc), Vec::new(alloc))?;
     serve::<Brand, R>(rt, alloc, Opened::new(), &config)
 }
 
-// A cluster has to be finished whatever came of its calls, so nothing returns between its start and its end.
+// A cluster has to be finished whatever its calls did, so nothing returns between its start and its end.
 fn serve<N: Naming + Send + Sync + 'static, R: Print + Threads + Wait + Copy + Send + 'static>(
     rt: &R,
     alloc: Global,
@@ -70,7 +71,7 @@ fn serve<N: Naming + Send + Sync + 'static, R: Print + Threads + Wait + Copy + S
     played.and(finished)
 }
 
-// Joins the threads of the cluster, and compares what they and the clients did.
+// Joins the threads of the cluster, and compares their histories and the clients' with the journal.
 fn finish<N: Naming + Send + Sync + 'static, R: Threads + Wait>(
     rt: &R,
     alloc: Global,

@@ -1,4 +1,4 @@
-//! All memory of a process but for what is given back.
+//! All memory of a process, except for the blocks that are given back.
 
 use std::alloc::Global;
 use std::fs;
@@ -14,8 +14,8 @@ const KEPT: u32 = 11;
 
 const KEPT_LENGTHS: usize = 128;
 
-// Of each block a page or two are used. Where so many blocks are not enough, the system gives small ones alone, and the
-// pages would be memory that others lack.
+// The test uses a page or two of each block. If so many blocks are not enough, the system gives only small ones, and
+// the pages would be memory that other processes lack.
 const BLOCKS: usize = 1 << 15;
 
 // More of the stack than a call takes, in bytes.
@@ -26,7 +26,7 @@ const PAGE: usize = 4096;
 // How the system counts memory that is taken and not used.
 const COUNTING: &str = "/proc/sys/vm/overcommit_memory";
 
-// That it counts all of it.
+// It counts all of it.
 const STRICTLY: u8 = b'2';
 
 /// How a call came out.
@@ -75,8 +75,8 @@ pub struct Taken {
 }
 
 impl Taken {
-    /// Takes all memory, so many crumbs of this length among it. None where the system counts memory strictly, or gives
-    /// no blocks that are large enough: others would lack it.
+    /// Takes all memory, so many crumbs of this length among it. None if the system counts memory strictly, or gives
+    /// no blocks that are large enough: other processes would lack the memory.
     pub fn new<R: Files>(rt: &R, alloc: Global, crumbs: usize, len: usize) -> Option<Taken> {
         if is_counted_strictly(rt) || !has_stack(len) {
             return None;
@@ -95,8 +95,8 @@ impl Taken {
     }
 }
 
-/// Makes the call, and again while no memory is left, and after each of so many crumbs of this length but the last.
-/// None where memory can't be taken.
+/// Makes the call, makes it again while no memory is left, and then each time that one of so many crumbs of this length
+/// is given back, except the last. None if memory can't be taken.
 pub fn under_each_size<R: Files, C: Call>(
     rt: &R,
     alloc: Global,
@@ -105,7 +105,7 @@ pub fn under_each_size<R: Files, C: Call>(
     call: &mut C,
 ) -> Option<Tally> {
     let mut tally = Tally::default();
-    // What it takes once and keeps is taken before.
+    // The memory that the call takes once and keeps is taken before.
     if call.call(alloc) != Outcome::Done {
         tally.add(Outcome::Wrong);
         return Some(tally);
@@ -118,7 +118,7 @@ pub fn under_each_size<R: Files, C: Call>(
     Some(tally)
 }
 
-// Uses the stack, which has no room to grow afterwards, and keeps what was used of it. Always true.
+// Uses the stack, which can't grow afterwards, and keeps the used part. Always true.
 fn has_stack(any: usize) -> bool {
     let mut room = [0u8; STACK];
     for page in 0..STACK / PAGE {

@@ -94,7 +94,7 @@ impl Call for Runs {
     }
 }
 
-// A step may not come only where a party has stopped before it, and so sent no such frame.
+// A step may not come only if a party has stopped before it, and so sent no such frame.
 fn outcome_before(report: &Report) -> Outcome {
     match outcome_of(report) {
         Outcome::Refused => Outcome::Refused,
@@ -102,7 +102,7 @@ fn outcome_before(report: &Report) -> Outcome {
     }
 }
 
-// Client 0 put the tuple and client 1 found it, or parties stopped and some of that didn't come about. Where client 0
+// Client 0 put the tuple and client 1 found it, or parties stopped and some of that didn't come about. If client 0
 // got no answer, client 1 may also have found nothing.
 fn outcome_of(report: &Report) -> Outcome {
     let has_stopped = !report.stopped.is_empty();

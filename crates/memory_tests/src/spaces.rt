@@ -51,7 +51,7 @@ impl Call for Puts {
     }
 }
 
-// None where memory ran out.
+// None if memory ran out.
 fn applied(space: &mut Space, op: &Op<Global>) -> Option<Answer<Global>> {
     if space.births_left() {
         space.apply(0, op).ok()

@@ -33,7 +33,7 @@ pub fn show_ending(ending: Result<(), ShowFault>) -> Ending {
     }
 }
 
-// Most tests keep what is written, for which memory can run out too.
+// Most tests keep the output, for which memory can run out too.
 fn write_ending(error: &io::Error) -> Ending {
     match error.kind() {
         io::ErrorKind::OutOfMemory => Ending::NoMemory,

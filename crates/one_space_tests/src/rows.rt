@@ -217,7 +217,7 @@ fn repeated(
     Ok(text)
 }
 
-// How a script on a space of this version ends, and what it writes.
+// The ending of a script on a space of this version, and its output.
 fn outcome(alloc: Global, version: Version, script: &[u8]) -> (Ending, Vec<u8>) {
     let mut written = Vec::new(alloc);
     let ending = local_ending(local(alloc, version, script, &mut written));

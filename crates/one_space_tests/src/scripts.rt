@@ -111,7 +111,7 @@ fn runs_scripts(rt: HostRuntime) {
     }
 }
 
-// Scripts, how many operations are kept of them at the most, how many then are, and how reading ends.
+// Scripts, at most how many operations are kept of them, how many are then kept, and the ending.
 static KEPT: [(&str, usize, usize, Ending); 6] = [
     ("", 1, 0, Ending::Complete),
     ("out (1)\n# x\nout (2)\nout (3)", 4, 3, Ending::Complete),
@@ -150,8 +150,8 @@ fn keeps_results_where_reading_fails(rt: HostRuntime) {
     assert!(rt; written.as_slice() == b"done\n".as_slice());
 }
 
-// `tools/growths` refuses each growth in turn: the run ends as ever, or it ends for want of memory, and then the
-// results of some lines in front are written and nothing else. What is written takes no memory here.
+// `tools/growths` refuses each growth in turn. The run ends as ever, or for out of memory; then the results of some
+// first lines are written and nothing else. Writing takes no memory here.
 #[test]
 fn keeps_results_where_memory_runs_out(rt: HostRuntime) {
     let script = b"out (1)\nrdp (?int)\nrdp (2)\n".as_slice();
@@ -209,7 +209,7 @@ fn is_said(alloc: Global, complaint: &Complaint<'_>, text: &str) -> Result<bool,
     Ok(said.as_str() == text)
 }
 
-// Whether the complaint is said so, and the program ends with this status.
+// Whether the complaint has this text, and the program ends with this status.
 fn ends(
     alloc: Global,
     complaint: &Complaint<'_>,

@@ -6,7 +6,7 @@ use space::Version;
 use std::cell::{Cell, RefCell};
 use std::io::{self, Read, Write};
 
-// What was typed when the screen showed so much. Where nothing was, the read is interrupted.
+// The text that was typed after the screen showed so much. If none was, the read is interrupted.
 struct Turn {
     shown: &'static str,
     typed: Option<&'static str>,

@@ -33,7 +33,7 @@ one_more p a y (suc n) h = go (a == n) refl (p n) refl y (one_more p a y n h)
     go false e true f w k = let ne = eqb-false a n e in (λ l. (let m : a < n = omega arith in let q = k.0 m in omega arith), λ l. (let m : n ≤ a = omega arith in let q = k.1 m in omega arith))
     go false e false f w k = let ne = eqb-false a n e in (λ l. (let m : a < n = omega arith in let q = k.0 m in omega arith), λ l. (let m : n ≤ a = omega arith in let q = k.1 m in omega arith))
 
--- whether a vote is given, and its digest passes
+-- whether there is a vote, and its digest passes
 abbrev passes : (List ℕ → Bool) → Option (List ℕ) → Bool
 passes test None = false
 passes test (Some digest) = test digest

@@ -1,4 +1,4 @@
--- What holds of a message that is not dropped.
+-- What holds of a message that the log does not drop.
 use Rattle.std.proofs.Common.{◌≡◌, ℕ, ◌<◌, Bool, true, false, cond, List, Option, Some, None, refl, nat_lt, not, ◌==◌, ◌&&◌}
 use Rattle.std.proofs.lemmas.Bool.{and_parts, ltb-true}
 use Rattle.quorum.specs.Votes.{or_else}

@@ -1,4 +1,4 @@
--- What is read of a log behind a cut.
+-- What a log answers after a cut.
 use Rattle.std.proofs.Common.{◌≡◌, ℕ, zero, suc, ◌+◌, ◌-◌, ◌<◌, ◌≤◌, ◌^◌, Bool, true, false, cond, length, drop, replicate, Option, None, refl, ap, ◌∙◌, arith, ◌&&◌, nat_lt, nat_le, slice_index_or, min}
 use Rattle.std.proofs.lemmas.Bool.{and_parts, lt-ltb, leb-true, leb-false}
 use Rattle.std.proofs.lemmas.List.{length-drop, get_or-drop, get_or_append_left, get_or-append_right}
@@ -8,7 +8,7 @@ use Rattle.ordering.specs.Keeping.{IsLog}
 use Rattle.ordering.specs.Laws.{CutsKeep}
 use Rattle.ordering.proofs.Reading.{above_low}
 
--- the log behind a cut above its low mark
+-- the log after a cut above its low mark
 abbrev moved : LogData → ℕ → LogData
 moved m h = record m { low = h; rows = cut_rows (min (h - m.low) m.span) m.rows }
 
@@ -62,7 +62,7 @@ cut_reads f none m h i is = go (nat_le h m.low) refl
     go true l = twice (is_in_marks m i)
     go false l = inner (is_in_marks (moved m h) i) refl (leb-false h m.low l)
 
--- what was committed in an earlier view stays within the marks
+-- a batch that was committed in an earlier view stays while within the marks
 decided_left : (m : LogData) (h i : ℕ) → IsLog m → is_in_marks (cut_to m h) i ≡ true → (row_of (cut_to m h) i).decided ≡ cond (is_in_marks m i) (row_of m i).decided None
 decided_left m h i is k = let e = cut_reads (λ r. r.decided) refl m h i is in rw k at e
 

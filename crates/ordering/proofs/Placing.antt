@@ -24,7 +24,7 @@ stands_out n [] place l = refl
 stands_out n (x ∷ xs) zero l = absurd (omega arith)
 stands_out n (x ∷ xs) (suc place) l = stands_out n xs place (omega arith)
 
--- a number that is larger is not the same
+-- a larger number is not the same
 apart : (a b : ℕ) → nat_le a b ≡ false → (a == b) ≡ false
 apart a b h = go (a == b) refl (leb-false a b h)
   where
@@ -73,7 +73,7 @@ map_take zero xs = refl
 map_take (suc n) [] = refl
 map_take (suc n) (x ∷ xs) = ap (λ ys. checkpoint_entry_data x ∷ ys) (map_take n xs)
 
--- one that is put in its place, where none of its number stands there
+-- a checkpoint that is put in its place, if none of its number stands there
 pub put : (k : CheckpointEntry) (xs ys zs : List CheckpointEntry) (place : ℕ) (old : List CheckpointEntryData) → map checkpoint_entry_data xs ≡ old
     → place ≡ place_in k.number.0 (map checkpoint_entry_data xs) → stands_at place k.number.0 (map checkpoint_entry_data xs) ≡ false → ys ≡ insert xs place k → zs ≡ take 3 ys
     → map checkpoint_entry_data zs ≡ with_checkpoint (checkpoint_entry_data k) old
@@ -83,7 +83,7 @@ put k xs ys zs place old same p h i t =
     ap (map checkpoint_entry_data) t ∙ map_take 3 ys ∙ ap (λ (v : List CheckpointEntry). take 3 (map checkpoint_entry_data v)) (i ∙ ap (λ (x : ℕ). insert xs x k) p)
     ∙ ap (take 3) (insert_new k xs q) ∙ ap (with_checkpoint (checkpoint_entry_data k)) same
 
--- nothing is put where one of its number stands
+-- no checkpoint is put there if one of its number stands there
 pub stays : (k : CheckpointEntry) (xs : List CheckpointEntry) (place : ℕ) (old : List CheckpointEntryData) → map checkpoint_entry_data xs ≡ old → length xs ≤ 3
     → place ≡ place_in k.number.0 (map checkpoint_entry_data xs) → stands_at place k.number.0 (map checkpoint_entry_data xs) ≡ true → old ≡ with_checkpoint (checkpoint_entry_data k) old
 stays k xs place old same few p h =

@@ -1,4 +1,4 @@
--- What is read of a log behind a change.
+-- What a log answers after a change.
 use Rattle.std.proofs.Common.{◌≡◌, ℕ, ◌+◌, ◌<◌, ◌^◌, Bool, true, false, cond, List, length, Option, Some, None, refl, sym, ap, ◌∙◌, subst, arith, ◌&&◌, ◌==◌, eqb-true, nat_lt, nat_le, slice_set, slice_index_or}
 use Rattle.std.proofs.lemmas.Bool.{and_parts, ltb-true, eqb-false}
 use Rattle.std.proofs.lemmas.List.{get_or-set_same, get_or-set_other}
@@ -31,7 +31,7 @@ row_behind m i j row is hi hj = go (i == j) refl
         let d = eqb-false i j e in let a = above_low m i hi in let b = above_low m j hj in
         get_or-set_other m.rows (place m j) (place m i) row no_row (λ h. absurd (omega arith))
 
--- what is read of it: the new at its number, and the old at others
+-- what it answers for the row: the new at its number, and the old at others
 reads : {A : Type 0} (f : Row → Option A) (m : LogData) (i j : ℕ) (row : Row) → IsLog m → is_in_marks m j ≡ true
     → cond (is_in_marks m i) (f (row_of (with_row m j row) i)) None ≡ cond (i == j) (f row) (cond (is_in_marks m i) (f (row_of m i)) None)
 reads f m i j row is hj = go (is_in_marks m i) refl
@@ -48,7 +48,7 @@ reads f m i j row is hj = go (is_in_marks m i) refl
     go true h = ap f (row_behind m i j row is h hj) ∙ within (i == j)
     go false h = outside (i == j) refl h
 
--- nothing is read otherwise where the row has the same
+-- the answers stay if the row has the same
 unread : {A : Type 0} (f : Row → Option A) (m : LogData) (i j : ℕ) (row : Row) → IsLog m → is_in_marks m j ≡ true → f row ≡ f (row_of m j)
     → cond (is_in_marks m i) (f (row_of (with_row m j row) i)) None ≡ cond (is_in_marks m i) (f (row_of m i)) None
 unread f m i j row is hj same = reads f m i j row is hj ∙ go (i == j) refl
@@ -74,7 +74,7 @@ voted f m i j s vote row is hj same = reads (λ r. vote_of (f r) s) m i j row is
         (ap (λ (votes : List Vote). vote_of votes s) (same ∙ ap (λ (n : ℕ). with_vote vote (f (row_of m n))) (sym is_same)) ∙ with_vote_of vote (f (row_of m i)) s)
     go false e = refl
 
--- what was committed in an earlier view stays where the row has the same
+-- a batch that was committed in an earlier view stays if the row has the same
 decided_stays : (m : LogData) (i j : ℕ) (row : Row) → IsLog m → is_in_marks m j ≡ true → row.decided ≡ (row_of m j).decided → is_in_marks m i ≡ true → (row_of (with_row m j row) i).decided ≡ (row_of m i).decided
 decided_stays m i j row is hj same hi = ap (λ (r : Row). r.decided) (row_behind m i j row is hi hj) ∙ go (i == j) refl
   where

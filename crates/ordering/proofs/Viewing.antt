@@ -1,4 +1,4 @@
--- What is read of a log in a later view.
+-- What a log answers in a later view.
 use Rattle.std.proofs.Common.{◌≡◌, ℕ, ◌<◌, Bool, true, false, cond, List, length, map, Option, None, refl, sym, ap, ◌∙◌, arith, slice_index_or}
 use Rattle.std.proofs.lemmas.List.{get_or-map}
 use Rattle.ordering.specs.Votes.{vote_of}

@@ -1,4 +1,4 @@
--- A vote that is added.
+-- A vote that a log adds.
 use Rattle.std.proofs.Common.{◌≡◌, ℕ, ◌<◌, Bool, true, false, cond, List, [], ◌∷◌, ◌++◌, Option, Some, None, option_map, is_some, find, refl, sym, ◌∙◌, subst, arith, eqb-true, eq-eqb, ◌==◌}
 use Rattle.std.proofs.lemmas.List.{length-append}
 use Rattle.std.specs.Bool.{then_some}
@@ -15,7 +15,7 @@ eqb_swap a b h = go (b == a) refl
     go false e = refl
     go true e = sym (eq-eqb a b (sym (eqb-true b a e))) ∙ h
 
--- what a sender votes for behind one more vote at the end
+-- the digest that a sender votes for, after one more vote at the end
 pushed_of : (vote : Vote) (votes : List Vote) (s : ℕ) → vote_of (votes ++ vote ∷ []) s ≡ or_else (vote_of votes s) (then_some (vote.sender.0 == s) vote.digest)
 pushed_of vote [] s = go (vote.sender.0 == s)
   where
@@ -49,7 +49,7 @@ with_vote_keeps n vote votes h l = go (vote_of votes vote.sender.0) refl
     go (Some d) e = h
     go None e = push_keeps n vote votes h e l
 
--- where a replica has no vote yet there is room for it
+-- if a replica has not voted, there is room for its vote
 pub room_for_one : (vote : Vote) (cast : SmallVec Vote) → AreVotes 10 cast.items → cast.capacity ≡ 10 → vote_of cast.items vote.sender.0 ≡ None → vote.sender.0 < 10 → HasRoomFor cast 1
 room_for_one vote cast h c e l = let m = no_more 10 (cast.items ++ vote ∷ []) (push_keeps 10 vote cast.items h e l) in let k = length-append cast.items (vote ∷ []) in omega arith
 

@@ -1,4 +1,4 @@
--- What each log keeps.
+-- The invariant of a log.
 use Rattle.std.specs.Prelude.{◌≡◌, ℕ, ◌^◌, ◌<◌, ◌≤◌, length, All}
 use Rattle.ordering.specs.Votes.{AreVotes}
 use Rattle.ordering.specs.Log.{Row, LogData, replicas}
@@ -7,7 +7,7 @@ pub record IsRow (n : ℕ) (row : Row) : Type 0 where
   pub prepares : AreVotes n row.prepares
   pub commits : AreVotes n row.commits
 
--- One to three replicas may be faulty; there is a row for each number within the marks, and a list of checkpoints for
+-- One to three replicas may be faulty. There is a row for each number within the marks, and a list of checkpoints for
 -- each replica.
 pub record IsLog (m : LogData) : Type 0 where
   pub some : 1 ≤ m.faults

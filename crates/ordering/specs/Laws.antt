@@ -1,5 +1,5 @@
--- What the changes of a log do to what is read of it. Within the marks what comes first stays, and a change is for one
--- number alone. What was committed in an earlier view stays where the marks leave it.
+-- How a change of a log changes what it answers. Within the marks the first vote or batch stays, and a change is for
+-- one number alone. A batch that was committed in an earlier view stays while it is within the marks.
 use Rattle.std.specs.Prelude.{◌≡◌, ℕ, true, List, ◌==◌, if◌then◌else◌, Some, None}
 use Rattle.std.specs.Bool.{then_some}
 use Rattle.quorum.specs.Votes.{or_else}
@@ -35,7 +35,7 @@ PreparesCount =
     × (commit_of (with_prepare m j vote) i s ≡ commit_of m i s)
     × (is_in_marks m i ≡ true → (row_of (with_prepare m j vote) i).decided ≡ (row_of m i).decided)
 
--- So does a commit.
+-- The same of a commit.
 abbrev pub CommitsCount : Type 0
 CommitsCount =
     (m : LogData) (i j s : ℕ) (vote : Vote) → IsLog m → is_in_marks m j ≡ true
@@ -46,7 +46,7 @@ CommitsCount =
     else commit_of m i s))
     × (is_in_marks m i ≡ true → (row_of (with_commit m j vote) i).decided ≡ (row_of m i).decided)
 
--- What is within the marks before and behind a cut stays, and nothing else is read.
+-- A cut keeps what is within the marks before and after it, and leaves nothing else.
 abbrev pub CutsKeep : Type 0
 CutsKeep =
     (m : LogData) (h i s : ℕ) → IsLog m
@@ -56,7 +56,7 @@ CutsKeep =
     × (is_in_marks (cut_to m h) i ≡ true
     → (row_of (cut_to m h) i).decided ≡ (if is_in_marks m i then (row_of m i).decided else None))
 
--- In a later view nothing is logged or voted for yet, and what was committed is.
+-- In a later view nothing is logged or voted for yet, and each committed batch stays.
 abbrev pub CommittedStay : Type 0
 CommittedStay =
     (m : LogData) (view i s : ℕ) → IsLog m

@@ -1,4 +1,4 @@
--- PBFT's message log of one replica, as plain data: what each message of its view changes, and what is logged,
+-- PBFT's message log of one replica, as plain data: how each message of its view changes it, and what is logged,
 -- prepared, committed and stable (Castro and Liskov, Practical Byzantine fault tolerance and proactive recovery, TOCS
 -- 2002, on normal-case operation and garbage collection).
 use Rattle.std.specs.Prelude.{ℕ, ◌+◌, ◌-◌, ◌*◌, ◌%◌, ◌^◌, Bool, true, false, ◌&&◌, not, List, [], ◌++◌, drop, map, replicate, nat_le, nat_lt, ◌==◌, if◌then◌else◌, Option, Some, None, slice_set, slice_index_or, option_map, min, is_none}
@@ -11,8 +11,8 @@ use Rattle.ordering.specs.declared.votes.Vote.{Vote}
 use Rattle.ordering.specs.Votes.{vote_of, voters, with_vote}
 use Rattle.ordering.specs.Checkpoints.{with_checkpoint, says_checkpoint}
 
--- What is held for one number: the text of the batch that is logged in the view, the prepares and commits of the view,
--- and the batch that was committed in an earlier view.
+-- One number's row: the text of the batch that is logged in the view, the prepares and commits of the view, and the
+-- batch that was committed in an earlier view.
 pub record Row : Type 0 where
   pub batch : Option (List ℕ)
   pub prepares : List Vote
@@ -25,8 +25,8 @@ no_row = record { batch = None; prepares = []; commits = []; decided = None }
 abbrev pub digest_of : Row → Option (List ℕ)
 digest_of row = option_map sha256 row.batch
 
--- What the replica me holds: its view, and whether it is active there; the low mark, and a row for each of the span
--- numbers above it, in order; and the checkpoints of each replica.
+-- The log of the replica me: its view, and whether it is active there; the low mark, and a row for each of the span
+-- numbers above the mark, in order; and the checkpoints of each replica.
 pub record LogData : Type 0 where
   pub me : ℕ
   pub faults : ℕ
@@ -37,7 +37,7 @@ pub record LogData : Type 0 where
   pub rows : List Row
   pub checkpoints : List (List CheckpointEntryData)
 
--- nothing was taken yet
+-- a log before its first message
 abbrev pub new_log : ℕ → ℕ → ℕ → LogData
 new_log me faults span =
     record {
@@ -60,11 +60,11 @@ primary m view = view % replicas m
 abbrev pub is_active_in : LogData → ℕ → Bool
 is_active_in m view = (view == m.view) && m.active
 
--- above the low mark, at most the span above it, and a number
+-- a number is above the low mark, at most the span above it, and below 2^48
 abbrev pub is_in_marks : LogData → ℕ → Bool
 is_in_marks m i = nat_lt m.low i && nat_le i (m.low + m.span) && nat_lt i (2 ^ 48)
 
--- the row of a number within the marks
+-- the place of the row of a number within the marks
 abbrev pub place : LogData → ℕ → ℕ
 place m i = i - m.low - 1
 
@@ -96,7 +96,8 @@ with_checkpoint_of m s entry =
       checkpoints = slice_set m.checkpoints s (with_checkpoint entry (checkpoints_of m s));
     }
 
--- The low mark moves up to h: the rows up to it go, and there are empty ones for the numbers that come into the marks.
+-- The low mark moves up to h: the rows up to it are dropped, and empty ones follow for the numbers that come into the
+-- marks.
 abbrev pub cut_rows : ℕ → List Row → List Row
 cut_rows count rows = drop count rows ++ replicate count no_row
 
@@ -105,9 +106,9 @@ cut_to m h =
     if nat_le h m.low then m
     else record m { low = h; rows = cut_rows (min (h - m.low) m.span) m.rows }
 
--- ---- what is logged within the marks
+-- ---- logged batches and votes within the marks
 
--- PrePrepared: the batch that is logged, and its digest.
+-- PrePrepared: the logged batch, and its digest.
 abbrev pub logged_batch : LogData → ℕ → Option (List ℕ)
 logged_batch m i = if is_in_marks m i then (row_of m i).batch else None
 
@@ -132,7 +133,7 @@ is_row_prepared faults n row =
 abbrev pub is_prepared : LogData → ℕ → Bool
 is_prepared m i = is_in_marks m i && is_row_prepared m.faults (replicas m) (row_of m i)
 
--- 2f + 1 different replicas committed the digest, the own commit among them
+-- 2f + 1 different replicas committed the digest, the replica itself among them
 abbrev pub is_digest_committed : ℕ → ℕ → ℕ → List Vote → List ℕ → Bool
 is_digest_committed faults n me commits digest =
     nat_le (2 * faults + 1) (voters n digest commits) && has_digest digest (vote_of commits me)
@@ -156,11 +157,11 @@ committed_batch m i =
 
 -- ---- views
 
--- The replica leaves its view: it is active no more.
+-- The replica leaves its view, and is not active any more.
 abbrev pub left : LogData → LogData
 left m = record m { active = false }
 
--- It enters a later view, and is active there: of each row that batch alone stays that is committed.
+-- The replica enters a later view, and is active there. Of each row only a committed batch stays.
 abbrev pub entered_row : ℕ → ℕ → ℕ → Row → Row
 entered_row faults n me row = record no_row { decided = row_decided faults n me row }
 
@@ -172,27 +173,27 @@ entered m view =
       rows = map (entered_row m.faults (replicas m) m.me) m.rows;
     }
 
--- ---- what the replica still has to say, while it is active
+-- ---- the votes that the replica still has to send, while it is active
 
--- The digest of a batch that is logged at a backup which has not prepared it.
+-- The digest of the batch of a number, if a backup has logged but not prepared it.
 abbrev pub due_prepare : LogData → ℕ → Option (List ℕ)
 due_prepare m i =
     if m.active && not (m.me == primary m m.view) && is_none (prepare_of m i m.me)
     then logged_digest m i else None
 
--- The digest of a batch that is prepared, where the replica has not committed it.
+-- The digest of the batch of a number, if it is prepared and the replica has not committed it.
 abbrev pub due_commit : LogData → ℕ → Option (List ℕ)
 due_commit m i =
     if m.active && is_prepared m i && is_none (commit_of m i m.me) then logged_digest m i else None
 
 -- ---- stable checkpoints
 
--- how many different replicas' checkpoints say this
+-- how many replicas have sent this checkpoint
 abbrev pub count_checkpoints : LogData → CheckpointEntryData → ℕ
 count_checkpoints m entry =
     count_below (λ s. says_checkpoint entry (checkpoints_of m s)) (replicas m)
 
--- Stable: a quorum of checkpoints is alike, the own among them.
+-- Stable: a quorum has sent this checkpoint, the replica itself among them.
 abbrev pub is_stable : LogData → CheckpointEntryData → Bool
 is_stable m entry =
     nat_le (2 * m.faults + 1) (count_checkpoints m entry)

@@ -1,4 +1,4 @@
--- What the fields of a log stand for, and the checkpoints of the program in it.
+-- The model of a log's fields, and the program's checkpoints in it.
 use Rattle.std.specs.Prelude.{Bool}
 use Rattle.terms.specs.declared.parties.ReplicaId.{ReplicaId}
 use Rattle.wire.specs.declared.messages.CheckpointEntry.{CheckpointEntry}
@@ -20,7 +20,7 @@ log_data l =
       checkpoints = l.checkpoints.items;
     }
 
--- whether a replica's checkpoints say this
+-- whether a replica has sent this checkpoint
 abbrev pub has_checkpoint : LogData → ReplicaId → CheckpointEntry → Bool
 has_checkpoint m sender entry =
     says_checkpoint (checkpoint_entry_data entry) (checkpoints_of m sender.0)

@@ -1,4 +1,4 @@
--- Why the messages of the program are dropped, and what taking them does.
+-- Why a log drops the program's messages, and what taking them does.
 use Rattle.std.specs.Prelude.{ℕ, List, Option, Result}
 use Rattle.terms.specs.declared.order.Number.{Number}
 use Rattle.terms.specs.declared.order.View.{View}
@@ -23,7 +23,7 @@ commit_fault_of m sender c = commit_fault m sender.0 c.view.0 c.number.0 c.diges
 abbrev pub checkpoint_fault_of : LogData → ReplicaId → Checkpoint → Option Dropped
 checkpoint_fault_of m sender c = checkpoint_fault m sender.0 c.number.0 c.root
 
--- A message is taken, and counts, or is dropped for its first fault.
+-- The log takes a message, and counts it, or drops it for its first fault.
 abbrev pub TakesBatch : LogData → LogData → ReplicaId → View → Number → List ℕ
     → Result Unit Dropped → Type 0
 TakesBatch old new sender view number text result =

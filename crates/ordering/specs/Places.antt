@@ -1,4 +1,4 @@
--- What the private functions that change a list in one place speak of.
+-- Words of the private functions that change a list in one place.
 use Rattle.std.specs.Prelude.{ℕ, zero, suc, Bool, false, ◌&&◌, nat_le, bytes_eq, List, [], ◌∷◌, ◌==◌, if◌then◌else◌, Some, slice_set, slice_index_or}
 use Rattle.wire.specs.Messages.{CheckpointEntryData}
 use Rattle.wire.specs.declared.messages.CheckpointEntry.{CheckpointEntry}
@@ -26,7 +26,7 @@ commit_put rows at vote =
       commits = with_vote vote (slice_index_or rows at no_row).commits;
     })
 
--- the checkpoints of all replicas with one more of the replica at a place
+-- the checkpoints of all replicas, with one more of the replica at a place
 abbrev pub checkpoint_put : List (List CheckpointEntryData) → ℕ → CheckpointEntryData
     → List (List CheckpointEntryData)
 checkpoint_put checkpoints at entry =
@@ -37,12 +37,12 @@ abbrev pub is_entry : CheckpointEntry → CheckpointEntry → Bool
 is_entry wanted entry =
     (entry.number.0 == wanted.number.0) && bytes_eq entry.digest wanted.digest
 
--- how many stand before the first whose number is not larger
+-- how many checkpoints stand before the first whose number is not larger
 abbrev pub place_in : ℕ → List CheckpointEntryData → ℕ
 place_in number [] = 0
 place_in number (e ∷ es) = if nat_le e.number number then 0 else suc (place_in number es)
 
--- whether one of the number stands at the place
+-- whether a checkpoint of the number stands at the place
 abbrev pub stands_at : ℕ → ℕ → List CheckpointEntryData → Bool
 stands_at place number [] = false
 stands_at zero number (e ∷ es) = e.number == number

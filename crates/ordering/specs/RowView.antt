@@ -1,4 +1,4 @@
--- What the fields of a row stand for, and a batch that is lent from it.
+-- The model of a row's fields, and of a batch that the row lends.
 use Rattle.std.specs.Prelude.{ℕ, List, Option, option_map}
 use Rattle.std.specs.Arc.{arc_value}
 use Rattle.std.specs.Borrow.{Bor}

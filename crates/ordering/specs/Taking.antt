@@ -8,12 +8,13 @@ use Rattle.ordering.specs.declared.dropped.Dropped.TheVariants.{WrongView, OutOf
 use Rattle.ordering.specs.Checkpoints.{root_at}
 use Rattle.ordering.specs.Log.{LogData, replicas, primary, is_active_in, is_in_marks, checkpoints_of, logged_digest, prepare_of, commit_of}
 
--- What came first stays: the same digest again is a duplicate, another one a conflict.
+-- The first digest stays: the same one again is a duplicate, another one a conflict.
 abbrev pub fault_beside : Option (List ℕ) → List ℕ → Option Dropped
 fault_beside None digest = None
 fault_beside (Some first) digest = Some (if bytes_eq first digest then Duplicate else Conflict)
 
--- Why an ordering message for this view and number is dropped, whatever batch it is for. The sender may send it or not.
+-- Why a log drops an ordering message for this view and number, whatever its batch. The flag says whether the sender
+-- may send it.
 abbrev pub ordering_fault : LogData → Bool → ℕ → ℕ → Option Dropped
 ordering_fault m may_send v i =
     if not may_send then Some UnknownSender
@@ -21,7 +22,7 @@ ordering_fault m may_send v i =
     else if not (is_in_marks m i) then Some OutOfMarks
     else None
 
--- The same of a pre-prepare, which the primary sends.
+-- The same of a pre-prepare, which only the primary may send.
 abbrev pub proposal_fault : LogData → ℕ → ℕ → ℕ → Option Dropped
 proposal_fault m s v i = ordering_fault m (s == primary m v) v i
 
@@ -46,8 +47,8 @@ checkpoint_fault m s i root =
     else if not (nat_lt m.low i && nat_lt i (2 ^ 48)) then Some OutOfMarks
     else fault_beside (root_at (checkpoints_of m s) i) root
 
--- A message is taken where there is no fault, and the log is then what it is after it; else it is dropped for that
--- fault, and the log is as it was.
+-- If there is no fault, the log takes the message and changes so. Else it drops the message for that fault, and stays
+-- as it was.
 abbrev pub Takes : Result Unit Dropped → Option Dropped → LogData → LogData → LogData → Type 0
 Takes (Ok done) fault old new after = (fault ≡ None) × (new ≡ after)
 Takes (Err dropped) fault old new after = (fault ≡ Some dropped) × (new ≡ old)

@@ -1,11 +1,11 @@
--- Votes for one number, in order of arrival: what each sender votes for, and how many vote alike (Castro and Liskov,
--- TOCS 2002, on quorums and certificates).
+-- The votes for one number, in order of arrival: each sender's digest, and how many replicas vote for a digest (Castro
+-- and Liskov, TOCS 2002, on quorums and certificates).
 use Rattle.std.specs.Prelude.{◌≡◌, ℕ, ◌<◌, List, [], ◌∷◌, ◌++◌, ◌==◌, if◌then◌else◌, find, Option, None, option_map, is_some, ⊤}
 use Rattle.quorum.specs.Quorum.{count_below}
 use Rattle.quorum.specs.Votes.{has_digest}
 use Rattle.ordering.specs.declared.votes.Vote.{Vote}
 
--- the digest that the sender votes for, by its first vote
+-- the digest of the sender's first vote
 abbrev pub vote_of : List Vote → ℕ → Option (List ℕ)
 vote_of votes s = option_map (λ vote. vote.digest) (find (λ vote. vote.sender.0 == s) votes)
 
@@ -19,6 +19,6 @@ AreVotes n (vote ∷ votes) =
 abbrev pub voters : ℕ → List ℕ → List Vote → ℕ
 voters n digest votes = count_below (λ s. has_digest digest (vote_of votes s)) n
 
--- the votes with one more at the end, unless its sender has one
+-- the votes with one more at the end, unless its sender has voted
 abbrev pub with_vote : Vote → List Vote → List Vote
 with_vote vote votes = if is_some (vote_of votes vote.sender.0) then votes else votes ++ vote ∷ []

@@ -8,7 +8,7 @@ use std::marker::Model;
 use terms::Digest;
 use wire::Batch;
 
-/// A batch with the digest of its text, which is made once.
+/// A batch with the digest of its text. The digest is computed once.
 #[derive(Drop)]
 pub struct HashedBatch {
     batch: Batch,

@@ -12,11 +12,11 @@ use std::marker::Model;
 use terms::{Digest, Number};
 use wire::CheckpointEntry;
 
-/// How many checkpoints of a replica are kept.
+/// At most so many checkpoints of a replica are kept.
 const KEPT: usize = 3;
 
-/// The checkpoints of one replica: of the three largest numbers, the largest first. There is room for them, and for one
-/// that comes, from the start, so no checkpoint takes memory.
+/// The checkpoints of one replica: those of the three largest numbers, the largest first. There is room for these and
+/// for a new one from the start, so no checkpoint takes memory.
 #[derive(Drop)]
 pub struct Checkpoints {
     entries: SmallVec<CheckpointEntry, 4>,
@@ -43,7 +43,7 @@ impl Checkpoints {
         }
     }
 
-    /// Adds a checkpoint where it is one of the three largest; of one number the earlier stays.
+    /// Adds a checkpoint, if it is one of the three largest. Of one number the earlier stays.
     pub fn add(&mut self, entry: CheckpointEntry)
         ensures { self.new ≡ with_checkpoint (checkpoint_entry_data entry) self.old }
     {
@@ -56,7 +56,7 @@ impl Checkpoints {
         }
     }
 
-    /// The root that is there for the number.
+    /// The root of the checkpoint of this number.
     pub fn root_at(&self, number: Number) -> Option<Digest>
         ensures { result ≡ root_at self.now number.0 }
     {
@@ -68,7 +68,7 @@ impl Checkpoints {
         None
     }
 
-    /// Whether a checkpoint of this number and root is there.
+    /// Whether there is a checkpoint of this number and root.
     pub fn has(&self, entry: &CheckpointEntry) -> bool
         ensures { result ≡ says_checkpoint (checkpoint_entry_data entry.now) self.now }
     {
@@ -82,7 +82,7 @@ fn has_entry(entries: &[CheckpointEntry], wanted: &CheckpointEntry) -> bool
     entries.iter().any(|entry| entry.number.0 == wanted.number.0 && entry.digest == wanted.digest)
 }
 
-// Where a checkpoint of the number belongs: before the first whose number is not larger.
+// The place of a checkpoint of the number: before the first whose number is not larger.
 fn place_of(entries: &[CheckpointEntry], number: Number) -> usize
     ensures place { result ≡ place_in number.0 (map checkpoint_entry_data entries.now) }
     ensures within { result ≤ length entries.now }
@@ -95,7 +95,7 @@ fn place_of(entries: &[CheckpointEntry], number: Number) -> usize
     entries.len()
 }
 
-// Whether one of the number stands at the place.
+// Whether a checkpoint of the number stands at the place.
 fn is_at(entries: &[CheckpointEntry], place: usize, number: Number) -> bool
     ensures { result ≡ stands_at place number.0 (map checkpoint_entry_data entries.now) }
 {

@@ -1,27 +1,27 @@
-//! Why a message is dropped.
+//! Why a log drops a message.
 
 ghost use Rattle.std.specs.Prelude.{◌≡◌};
 ghost use Rattle.ordering.specs.Faults.{refusal};
 
 use thiserror::Error;
 
-/// Why a message is dropped. Where several hold, the order is: unknown sender, wrong view, out of the marks, and last
-/// duplicate or conflict.
+/// Why a log drops a message. If several reasons hold, the order is: unknown sender, wrong view, out of the marks, and
+/// last duplicate or conflict.
 #[derive(Clone, Copy, Debug, PartialEq, Eq, Error)]
 pub enum Dropped {
-    /// It is of another view than the replica's, or the replica isn't active in it.
+    /// It is of another view than the replica's, or the replica isn't active in its view.
     #[error("the view is not the present one")]
     WrongView,
     /// Its number is not within the marks.
     #[error("the number is outside the marks")]
     OutOfMarks,
-    /// The same sender gave another digest for the number before.
+    /// The same sender sent another digest for the number before.
     #[error("another digest came before")]
     Conflict,
     /// The sender is no replica that sends such messages.
     #[error("the sender is unknown")]
     UnknownSender,
-    /// The same sender gave the same digest for the number before.
+    /// The same sender sent the same digest for the number before.
     #[error("the same came before")]
     Duplicate,
 }

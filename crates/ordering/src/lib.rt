@@ -1,16 +1,30 @@
 //! PBFT's message log of one replica: the batches, prepares and commits of its view for the numbers within its marks,
-//! what was committed for them in earlier views, and the checkpoints of each replica (Castro and Liskov, Practical
+//! the batches that were committed in earlier views, and the checkpoints of each replica (Castro and Liskov, Practical
 //! Byzantine fault tolerance and proactive recovery, TOCS 2002, on normal-case operation, garbage collection and view
 //! changes).
 //!
 //! # What is proved
 //!
-//! A [`Log`] is seen as plain data, and each call is an equation over it: what is logged, prepared, committed and
-//! stable follows from the messages that were taken, of which the first of a sender counts; a message is taken exactly
-//! where no refusal holds, and else the first one that holds is told and nothing changes. Where the replica enters a
-//! later view, of each number that batch alone stays that is committed. Laws: `first_votes_count`, `messages_are_read`
-//! (a message that is taken is read again at its number, and at no other), `cuts_keep` (what is within the marks before
-//! and behind a cut stays) and `committed_stay` (a later view changes nothing of what is committed).
+//! A [`Log`] is seen as plain data, and each call is an equation over that data. Which batches are logged, prepared and
+//! committed, and which checkpoints are stable, follows from the messages that the log took; the first one of a sender
+//! counts. The log takes a message exactly if no refusal holds; else it returns the first one that does, and nothing
+//! changes. If the replica enters a later view, only a committed batch stays of each number.
+//!
+//! Laws: `first_votes_count`, `messages_are_read` (a taken message changes the answers at its number, and at no other),
+//! `cuts_keep` (what is within the marks before and after a cut stays) and `committed_stay` (a later view keeps each
+//! committed batch).
+//!
+//! # How it is made
+//!
+//! - The plain data (`LogData`) have a row for each number above the low mark, in order, and three checkpoints of each
+//!   replica. A row has the logged batch, and the votes in order of arrival.
+//! - `on_preprepare`, `on_prepare`, `on_commit` and `on_checkpoint` take a message, or say why it is dropped.
+//! - `put_batch`, `add_prepare`, `add_commit` and `add_checkpoint` take the own messages as they are sent.
+//! - `due_prepare`, `due_commit` and `next_batch` tell what a number still asks for.
+//! - After `leave` a log asks for no vote. `enter` begins a later view. `next_batch` still gives a batch that was
+//!   committed before.
+//! - Votes and checkpoints have their room from the start. A batch lies behind an `Arc` with its digest, so it is
+//!   hashed once and kept once, and taking a message asks for no memory.
 #![tactic(auto)]
 
 mod batch;

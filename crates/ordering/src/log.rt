@@ -1,4 +1,4 @@
-//! The log.
+//! The message log of one replica.
 
 ghost use Rattle.std.specs.Prelude.{◌≡◌, ◌+◌, ◌*◌, ◌^◌, ◌<◌, ◌≤◌, IfOk, true, false};
 ghost use Rattle.std.specs.Arc.{arc_value};
@@ -27,14 +27,13 @@ use wire::CheckpointEntry;
 /// Numbers end below this.
 pub const NUMBERS_END: u64 = 1 << 48;
 
-/// What one replica holds of the messages of its view: a row for each number within its marks, with the batch that is
-/// logged and the votes for it, and the last three checkpoints of each replica. Of earlier views each row keeps the
-/// batch that was committed then.
+/// The messages of one replica's view: a row for each number within its marks, with the logged batch and the votes for
+/// it, and the last three checkpoints of each replica. Of earlier views each row keeps the batch that was committed
+/// then.
 ///
-/// A call goes over the votes of one row at most, ten prepares and ten commits, or over the three checkpoints of each
-/// replica; `cut` alone goes over all rows. A log takes its memory when it is made, under 1 KB for each number within
-/// the marks and for each replica, and none later: batches come with theirs, at most two for each number within the
-/// marks.
+/// A call reads at most the votes of one row, ten prepares and ten commits, or the three checkpoints of each replica;
+/// `cut` alone reads all rows. A log allocates its memory when it is made, under 1 KB for each number within the marks
+/// and for each replica, and none later. Batches bring their own memory, at most two for each number within the marks.
 #[derive(Drop)]
 pub struct Log {
     me: ReplicaId,
@@ -61,8 +60,8 @@ impl Model for Log {
 }
 
 impl Log {
-    /// The log of the replica `me`, which has taken nothing, in view 0. Up to `faults` of the `3 * faults + 1` replicas
-    /// may be faulty, and the marks reach `span` numbers.
+    /// The log of the replica `me` before its first message, in view 0. Up to `faults` of the `3 * faults + 1` replicas
+    /// may be faulty, and the marks span `span` numbers.
     pub fn new(alloc: Global, me: ReplicaId, faults: u8, span: u64) -> Result<Log, NoMemory>
         requires some { 1 ≤ faults }
         requires few { faults ≤ 3 }
@@ -84,7 +83,7 @@ impl Log {
         })
     }
 
-    /// The replica whose log it is.
+    /// The replica to which the log belongs.
     pub fn me(&self) -> ReplicaId
         ensures { result.0 ≡ self.now.me }
     {
@@ -132,14 +131,14 @@ impl Log {
         self.span
     }
 
-    /// Tells a proof what each log keeps. It does nothing.
+    /// Tells a proof the invariant of a log. Does nothing.
     pub fn keeps(&self)
         ensures { IsLog self.now }
     {
         let _low = &self.low;
     }
 
-    /// The replica whose view it is.
+    /// The primary of a view.
     pub fn primary(&self, view: View) -> ReplicaId
         ensures { result.0 ≡ spec.primary self.now view.0 }
     {
@@ -153,7 +152,7 @@ impl Log {
         view.0 == self.view.0 && self.active
     }
 
-    /// Leaves the view: the replica is not active any more, as where it moves to a later one.
+    /// Leaves the view: the replica is not active any more, as when it moves to a later view.
     pub fn leave(&mut self)
         ensures { self.new ≡ spec.left self.old }
     {
@@ -167,8 +166,7 @@ impl Log {
         self.active
     }
 
-    /// Enters a later view, and is active in it. Nothing is logged in it yet, and no vote of it is there. What was
-    /// committed before stays so.
+    /// Enters a later view, and is active in it. Nothing is logged or voted for in it yet. Committed batches stay.
     pub fn enter(&mut self, view: View)
         ensures { self.new ≡ spec.entered self.old view.0 }
     {
@@ -194,7 +192,7 @@ impl Log {
         &self.slots[(number.0 - self.low.0 - 1) as usize]
     }
 
-    /// Logs a batch: one's own, where it is proposed, and another's, where nothing speaks against it.
+    /// Logs a batch: the replica's own, when it proposes the batch, or another's that has no fault.
     pub fn put_batch(&mut self, number: Number, batch: Arc<HashedBatch>)
         requires { spec.is_in_marks self.old number.0 ≡ true }
         ensures { self.new ≡ spec.with_batch self.old number.0 (arc_value batch) }
@@ -203,7 +201,7 @@ impl Log {
         put_batch_at(&mut self.slots, at, batch);
     }
 
-    /// Counts a prepare, unless its sender has one: one's own, where it is sent.
+    /// Counts a prepare, unless its sender has one. The replica's own is counted when it is sent.
     pub fn add_prepare(&mut self, number: Number, vote: Vote)
         requires number { spec.is_in_marks self.old number.0 ≡ true }
         requires sender { vote.sender.0 < spec.replicas self.old }
@@ -213,7 +211,7 @@ impl Log {
         add_prepare_at(&mut self.slots, at, vote);
     }
 
-    /// Counts a commit, unless its sender has one: one's own, where it is sent.
+    /// Counts a commit, unless its sender has one. The replica's own is counted when it is sent.
     pub fn add_commit(&mut self, number: Number, vote: Vote)
         requires number { spec.is_in_marks self.old number.0 ≡ true }
         requires sender { vote.sender.0 < spec.replicas self.old }
@@ -277,7 +275,7 @@ impl Log {
         self.is_in_marks(number) && self.slot(number).is_committed(self.faults, self.me)
     }
 
-    /// The batch of the number, where it is committed in this view, or was in an earlier one.
+    /// The batch of the number, if it is committed in this view, or was in an earlier one.
     pub fn next_batch(&self, number: Number) -> Option<&Arc<HashedBatch>>
         ensures { batch_lent result ≡ spec.committed_batch self.now number.0 }
     {
@@ -314,7 +312,8 @@ impl Log {
         self.logged_digest(number)
     }
 
-    /// Counts a checkpoint: one's own, where it is sent. Of each sender those of the three largest numbers stay.
+    /// Counts a checkpoint. The replica's own is counted when it is sent. Of each sender those of the three largest
+    /// numbers stay.
     pub fn add_checkpoint(&mut self, sender: ReplicaId, entry: CheckpointEntry)
         requires { sender.0 < spec.replicas self.old }
         ensures { self.new ≡ with_checkpoint_of self.old sender.0 (checkpoint_entry_data entry) }
@@ -330,7 +329,7 @@ impl Log {
         self.checkpoints[sender.0 as usize].root_at(number)
     }
 
-    /// Whether a replica's checkpoints have one of this number and root.
+    /// Whether a replica has sent a checkpoint of this number and root.
     pub fn has_checkpoint(&self, sender: ReplicaId, entry: &CheckpointEntry) -> bool
         requires { sender.0 < spec.replicas self.now }
         ensures { result ≡ has_checkpoint self.now sender entry.now }
@@ -338,7 +337,7 @@ impl Log {
         self.checkpoints[sender.0 as usize].has(entry)
     }
 
-    /// How many replicas' checkpoints have this number and root.
+    /// How many replicas have sent a checkpoint of this number and root.
     pub fn count_checkpoints(&self, entry: &CheckpointEntry) -> u8
         ensures { result ≡ spec.count_checkpoints self.now (checkpoint_entry_data entry.now) }
     {
@@ -351,7 +350,7 @@ impl Log {
         count
     }
 
-    /// Whether a quorum of checkpoints has this number and root, the own among them.
+    /// Whether a quorum has sent a checkpoint of this number and root, the replica itself among them.
     pub fn is_stable(&self, entry: &CheckpointEntry) -> bool
         ensures { result ≡ spec.is_stable self.now (checkpoint_entry_data entry.now) }
     {

@@ -72,7 +72,7 @@ pub fn add_checkpoint_at(lists: &mut Vec<Checkpoints>, at: usize, entry: Checkpo
     kept.add(entry);
 }
 
-/// Drops the first rows, and puts as many empty ones behind the others.
+/// Drops the first rows, and appends as many empty ones.
 pub fn cut_slots(slots: &mut Vec<Slot>, alloc: Global, count: usize)
     requires { count ≤ length slots.old.items }
     ensures { slots.new.items ≡ cut_rows count slots.old.items }
@@ -83,7 +83,7 @@ pub fn cut_slots(slots: &mut Vec<Slot>, alloc: Global, count: usize)
     slots.rotate_left(count);
 }
 
-/// In each row a later view begins.
+/// Lets each row enter a later view.
 pub fn enter_slots(slots: &mut Vec<Slot>, alloc: Global, faults: u8, me: ReplicaId)
     requires few { faults ≤ 3 }
     requires rows { All (IsRow (3 * faults + 1)) slots.old.items }

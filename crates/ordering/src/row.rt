@@ -1,4 +1,4 @@
-//! What is held for one number.
+//! One number's row of a log.
 
 ghost use Rattle.std.specs.Prelude.{◌≡◌, ℕ, ◌<◌, ◌≤◌, Some};
 ghost use Rattle.std.specs.Arc.{arc_value};
@@ -15,8 +15,8 @@ use std::marker::Model;
 use std::sync::Arc;
 use terms::{Digest, ReplicaId};
 
-/// What is held for one number: the batch that is logged in the view, with the prepares and commits, and the batch that
-/// was committed in an earlier view.
+/// One number's row: the batch that is logged in the view, with the prepares and commits, and the batch that was
+/// committed in an earlier view.
 #[derive(Drop)]
 pub struct Slot {
     batch: Option<Arc<HashedBatch>>,
@@ -46,7 +46,7 @@ impl Slot {
         }
     }
 
-    /// A later view begins: of what is held only a batch that is committed stays.
+    /// Enters a later view: only a committed batch stays.
     pub fn enter_view(&mut self, alloc: Global, faults: u8, me: ReplicaId)
         requires { faults ≤ 3 }
         ensures { (n : ℕ) → IsRow n self.old → self.new ≡ entered_row faults n me.0 self.old }
@@ -99,14 +99,14 @@ impl Slot {
         self.commits.vote_of(sender)
     }
 
-    /// The batch that is logged.
+    /// The logged batch.
     pub fn batch(&self) -> Option<&Arc<HashedBatch>>
         ensures { batch_lent result ≡ self.now.batch }
     {
         self.batch.as_ref()
     }
 
-    /// The digest of the batch that is logged.
+    /// The digest of the logged batch.
     pub fn digest(&self) -> Option<Digest>
         ensures { result ≡ digest_of self.now }
     {
@@ -139,7 +139,7 @@ impl Slot {
     }
 }
 
-// Whether a vote is given, and for this digest.
+// Whether there is a vote, and for this digest.
 fn is_for(vote: Option<Digest>, digest: &Digest) -> bool
     ensures { result ≡ has_digest digest.now vote }
 {

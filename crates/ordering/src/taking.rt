@@ -1,4 +1,4 @@
-//! Messages that are taken, or dropped.
+//! Messages that a log takes or drops.
 
 ghost use Rattle.std.specs.Prelude.{◌≡◌};
 ghost use Rattle.std.specs.Arc.{arc_value};
@@ -15,7 +15,7 @@ use terms::{Digest, Number, ReplicaId, View};
 use wire::{Checkpoint, CheckpointEntry, Commit, PrePrepare, Prepare};
 
 impl Log {
-    // Why an ordering message would be dropped whatever batch it is for.
+    // Why the log would drop an ordering message, whatever its batch.
     fn ordering_fault(&self, may_send: bool, view: View, number: Number) -> Option<Dropped>
         ensures { result ≡ ordering_fault self.now may_send view.0 number.0 }
     {
@@ -37,7 +37,7 @@ impl Log {
         self.ordering_fault(sender.0 == self.primary(view).0, view, number)
     }
 
-    /// Why a pre-prepare would be dropped, or nothing. Its batch is hashed only where one is logged already.
+    /// Why the log would drop a pre-prepare, if it would. It hashes the batch only if one is logged already.
     pub fn preprepare_fault(&self, sender: ReplicaId, message: &PrePrepare) -> Option<Dropped>
         ensures { result ≡ preprepare_fault_of self.now sender message.now }
     {
@@ -65,7 +65,7 @@ impl Log {
         fault_beside(self.logged_digest(number), &batch.digest())
     }
 
-    /// Takes the primary's pre-prepare of a batch. It asks nothing of the requests, which are to be genuine.
+    /// Takes the primary's pre-prepare of a batch. Doesn't check the requests, which have to be authentic.
     #[tactic(auto, using(crate::proofs::Faults::batch_in_marks))]
     pub fn on_preprepare(
         &mut self,
@@ -167,7 +167,7 @@ impl Log {
     }
 }
 
-// What came first stays.
+// The first digest stays.
 fn fault_beside(first: Option<Digest>, digest: &Digest) -> Option<Dropped>
     ensures { result ≡ fault_beside first digest.now }
 {

@@ -8,10 +8,10 @@ use std::alloc::Global;
 use std::marker::Model;
 use terms::{Digest, ReplicaId};
 
-/// How many replicas there are at the most.
+/// There are at most so many replicas.
 pub const MAX_REPLICAS: usize = 10;
 
-/// What a replica votes for by a prepare, or by a commit: the digest of a batch.
+/// The digest of the batch that a replica votes for, by a prepare or by a commit.
 #[derive(Clone, Copy, Drop)]
 pub struct Vote {
     pub sender: ReplicaId,

@@ -127,7 +127,7 @@ fn a_new_tree(rt: HostRuntime) -> Result<(), Fail> {
     Ok(())
 }
 
-// Whether page 0 has the first text, and it, its part and the page behind it their digests.
+// Whether page 0 has the first text, and it, its part and the next page have their digests.
 fn is_first(tree: &Tree) -> bool {
     let pages = tree.children(Level::Inner, 0);
     tree.page(0) == FIRST_TEXT.as_slice()
@@ -167,7 +167,7 @@ fn a_snapshot_keeps_its_pages(rt: HostRuntime) -> Result<(), Fail> {
     Ok(())
 }
 
-// Whether the first page is set, at the second try where memory ran out at the first one, which changed nothing.
+// Whether the first page is set, at the second try if memory ran out at the first one, which changed nothing.
 fn sets_first(tree: &mut Tree) -> Result<bool, NoMemory> {
     let first: [(usize, &[u8]); 1] = [(0, FIRST_TEXT)];
     if set_pages(tree, first.as_slice()).is_ok() {
@@ -178,7 +178,7 @@ fn sets_first(tree: &mut Tree) -> Result<bool, NoMemory> {
     Ok(is_as_before)
 }
 
-/// At the second try where memory ran out at the first one.
+/// At the second try if memory ran out at the first one.
 pub fn new_tree(alloc: Global) -> Result<Tree, NoMemory> {
     match Tree::new(alloc) {
         Ok(tree) => Ok(tree),
@@ -186,7 +186,7 @@ pub fn new_tree(alloc: Global) -> Result<Tree, NoMemory> {
     }
 }
 
-/// At the second try where memory ran out at the first one.
+/// At the second try if memory ran out at the first one.
 pub fn snapshot_of(tree: &Tree) -> Result<Snapshot, NoMemory> {
     match tree.snapshot() {
         Ok(snapshot) => Ok(snapshot),

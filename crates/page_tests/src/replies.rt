@@ -1,4 +1,4 @@
-//! Replies' worked pages, texts that are no replies', and memory refused.
+//! Worked pages of replies, texts that are no reply's, and memory refused.
 
 ghost use Rattle.std.specs.Prelude.{◌≡◌};
 
@@ -31,7 +31,7 @@ fn found(alloc: Global) -> Result<Answer<Global>, Refusal> {
     }
 }
 
-// The page's text, at the second try where memory ran out at the first one.
+// The page's text, at the second try if memory ran out at the first one.
 fn page_of(cache: &ReplyCache, client: ClientId) -> Result<Vec<u8>, NoMemory> {
     match cache.page_text(client) {
         Ok(text) => Ok(text),
@@ -91,7 +91,7 @@ fn a_reply_is_replaced_whole(rt: HostRuntime) -> Result<(), Fail> {
     Ok(())
 }
 
-// The replies with these pages, at the second try where memory ran out at the first one.
+// The replies with these pages, at the second try if memory ran out at the first one.
 fn read(alloc: Global, pages: &[&[u8]]) -> Result<ReplyCache, Bad> {
     match ReplyCache::from_pages(alloc, pages) {
         Err(Bad::NoMemory) => ReplyCache::from_pages(alloc, pages),
@@ -108,13 +108,13 @@ fn has_pages(cache: &ReplyCache, pages: &[&[u8]]) -> bool {
     true
 }
 
-// What reading these pages gives: whether the cache has the pages again.
+// The result of reading these pages: whether the cache has the pages again.
 fn is_read(alloc: Global, pages: &[&[u8]]) -> Result<bool, Bad> {
     let cache = read(alloc, pages)?;
     Ok(has_pages(&cache, pages))
 }
 
-// The same where all pages are empty but one.
+// The same if all pages are empty except one.
 fn is_page_read(alloc: Global, client: u8, text: &[u8]) -> Result<bool, Bad> {
     let mut pages: [&[u8]; CLIENTS] = [&[]; CLIENTS];
     pages[client as usize] = text;
@@ -156,7 +156,7 @@ fn too_few_and_too_many_pages(rt: HostRuntime) {
     }
 }
 
-// Whether client 9 gets its first reply, at the second try where memory ran out at the first one, which changed
+// Whether client 9 gets its first reply, at the second try if memory ran out at the first one, which changed
 // nothing.
 fn gets_done(cache: &mut ReplyCache) -> bool {
     if cache.put(client(9), 1, 1, Answer::Done).is_ok() {
@@ -165,7 +165,7 @@ fn gets_done(cache: &mut ReplyCache) -> bool {
     cache.seen(client(9)) == 0 && cache.put(client(9), 1, 1, Answer::Done).is_ok()
 }
 
-// The same of client 200, where client 9 has its reply.
+// The same for client 200, after client 9 got its reply.
 fn gets_full(cache: &mut ReplyCache) -> bool {
     if cache.put(client(200), 4, 2, Answer::Full).is_ok() {
         return true;

@@ -1,4 +1,4 @@
-//! Pages that are set at once, and what trees and snapshots keep of pages that they shared, with memory refused.
+//! Pages that are set at once, and the shared pages that trees and snapshots keep, with memory refused.
 
 ghost use Rattle.std.specs.Prelude.{◌<◌};
 
@@ -188,7 +188,7 @@ fn trees_of_one_snapshot_are_apart(rt: HostRuntime) -> Result<(), Fail> {
     Ok(())
 }
 
-// The pages of the second try where memory ran out for those of the first one.
+// The pages of the second try if memory ran out for those of the first one.
 fn changes(alloc: Global) -> Result<Vec<Page>, AllocError> {
     match several(alloc) {
         Ok(pages) => Ok(pages),
@@ -196,7 +196,7 @@ fn changes(alloc: Global) -> Result<Vec<Page>, AllocError> {
     }
 }
 
-// Whether several pages are set, at the second try where memory ran out at the first one, which changed nothing.
+// Whether several pages are set, at the second try if memory ran out at the first one, which changed nothing.
 fn sets_or_stays(tree: &mut Tree, alloc: Global, empty: &Snapshot) -> Result<bool, NoMemory> {
     if tree.set_pages(changes(alloc)?).is_ok() {
         return Ok(tree.root() == SEVERAL_ROOT);
@@ -218,7 +218,7 @@ fn sets_other_or_stays(tree: &mut Tree) -> Result<bool, NoMemory> {
     Ok(sets_other(tree)? && is_as_before)
 }
 
-// The snapshot's tree, at the second try where memory ran out at the first one.
+// The snapshot's tree, at the second try if memory ran out at the first one.
 fn tree_of(snapshot: &Snapshot) -> Result<Tree, NoMemory> {
     match snapshot.tree() {
         Ok(tree) => Ok(tree),

@@ -40,7 +40,7 @@ fn is_applied(space: &mut Space, op: &Op<Global>) -> bool {
     space.births_left() && space.apply(0, op).is_ok()
 }
 
-// Whether the operation of these bytes is applied, at the second try where memory ran out at the first one, which
+// Whether the operation of these bytes is applied, at the second try if memory ran out at the first one, which
 // changed nothing.
 fn is_added(space: &mut Space, alloc: Global, op: &[u8]) -> bool {
     let Some(op) = read_op(alloc, op) else {
@@ -50,7 +50,7 @@ fn is_added(space: &mut Space, alloc: Global, op: &[u8]) -> bool {
     is_applied(space, &op) || space.count() == count && is_applied(space, &op)
 }
 
-// The page's text, at the second try where memory ran out at the first one.
+// The page's text, at the second try if memory ran out at the first one.
 fn page_of(space: &Space, page: usize) -> Result<Vec<u8>, NoMemory>
     requires { page < PAGES }
 {
@@ -105,7 +105,7 @@ fn births_in_order(rt: HostRuntime) {
     assert_eq!(rt; space.header_text(1), *LATER_HEADER);
 }
 
-// The space with these pages, at the second try where memory ran out at the first one.
+// The space with these pages, at the second try if memory ran out at the first one.
 fn space_of(alloc: Global, pages: &[&[u8]], header: &[u8]) -> Result<(Space, u64), Bad> {
     match Space::from_pages(alloc, pages, header) {
         Err(Bad::NoMemory) => Space::from_pages(alloc, pages, header),
@@ -122,13 +122,13 @@ fn has_pages(space: &Space, pages: &[&[u8]]) -> bool {
     true
 }
 
-// What reading these pages gives: whether the space has the pages and the header again.
+// The result of reading these pages: whether the space has the pages and the header again.
 fn is_read(alloc: Global, pages: &[&[u8]], header: &[u8]) -> Result<bool, Bad> {
     let (space, number) = space_of(alloc, pages, header)?;
     Ok(has_pages(&space, pages) && space.header_text(number).as_slice() == header)
 }
 
-// The same of pages of which the first two have these texts, and the others none.
+// The same if only the first two pages have texts.
 fn are_read(alloc: Global, first: [&[u8]; 2], header: &[u8]) -> Result<bool, Bad> {
     let mut pages: [&[u8]; PAGES] = [&[]; PAGES];
     pages[0] = first[0];

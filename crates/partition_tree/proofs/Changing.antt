@@ -1,4 +1,4 @@
--- What several pages that are set leave at each place.
+-- The pages after several are set, at each place.
 use Rattle.std.proofs.Common.{◌≡◌, ◌≢◌, ℕ, ◌<◌, List, [], ◌∷◌, inl, inr, length, set, get_or, get_or-set_same, get_or-set_other, refl, ◌∙◌, sym, subst}
 use Rattle.std.proofs.lemmas.Bool.{cases_eq}
 use Rattle.std.proofs.lemmas.List.{length-set}
@@ -12,7 +12,7 @@ length-pages_with [] pages = refl
 length-pages_with (c ∷ cs) pages =
     length-pages_with cs (set pages c.index c.text.items) ∙ length-set pages c.index c.text.items
 
--- What holds of each text that is set, and of each page that has none, holds of the pages then.
+-- If P holds of each text that is set, and of each page that isn't set, it holds of all pages afterwards.
 pub pages_with-each : (P : ℕ → List ℕ → Type 0) (changes : List Page) (pages : List (List ℕ))
     → All (λ (c : Page). P c.index c.text.items) changes
     → ((i : ℕ) → i < length pages → All (λ (c : Page). c.index ≢ i) changes → P i (get_or pages i []))

@@ -1,9 +1,9 @@
--- What lists of owners hold, as owners are added, set and cloned.
+-- The values that lists of owners hold, as owners are added, set and cloned.
 use Rattle.std.proofs.Common.{◌≡◌, ℕ, zero, suc, List, [], ◌∷◌, length, set, get_or, map, replicate, refl, ap, sym, ◌∙◌}
 use Rattle.std.proofs.lemmas.List.{map-set, set-get_or, length-map, length-replicate}
 use Rattle.std.specs.List.{AllZip}
 
--- f tells what an owner holds.
+-- f gives the value of an owner.
 module _ {A B : Type 0} (f : A → B) where
   pub held-set : (owners : List A) (i : ℕ) (owner : A) (x : B) → f owner ≡ x → map f (set owners i owner) ≡ set (map f owners) i x
   held-set owners i owner x e = map-set f owners i owner ∙ ap (set (map f owners) i) e
@@ -33,6 +33,6 @@ pub map-map : {A B C : Type 0} (g : B → C) (f : A → B) (xs : List A) → map
 map-map g f [] = refl
 map-map g f (x ∷ xs) = ap (λ ys. g (f x) ∷ ys) (map-map g f xs)
 
--- what stands there already may be set
+-- setting a value that stands there changes nothing
 pub set_there : {A : Type 0} (xs : List A) (i : ℕ) (d x : A) → get_or xs i d ≡ x → xs ≡ set xs i x
 set_there xs i d x e = sym (set-get_or xs i d) ∙ ap (set xs i) e

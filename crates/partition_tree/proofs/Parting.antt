@@ -65,7 +65,7 @@ pub parts_of_empty : pages_in (replicate 32 (replicate 32 [])) ≡ empty_pages
 unfolding empty_pages
 parts_of_empty = pages_alike 32 []
 
--- What the parts tell of the digests.
+-- The digests, computed from the parts.
 module _ (parts : List (List (List ℕ))) (full : AreFull parts) (count : length parts ≡ 32) where
   pub page_digests_of_part : (j : ℕ) → j < 32 → map sha256 (get_or parts j []) ≡ page_digests (pages_in parts) j
   unfolding page_digests

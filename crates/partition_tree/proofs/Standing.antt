@@ -1,4 +1,4 @@
--- What the owners of the parts tell of the pages, and how it follows a write.
+-- The pages that the owners of the parts hold, before and after a write.
 use Rattle.std.proofs.Common.{◌≡◌, ℕ, ◌+◌, ◌*◌, ◌/◌, ◌%◌, ◌<◌, Bool, true, false, List, [], inl, inr, length, map, set, get_or, get_or-set_same, get_or-set_other, ap, ◌∙◌, sym, subst, arith}
 use Rattle.std.proofs.lemmas.List.{length-set, length-map, get_or-map, set-get_or, map-set}
 use Rattle.std.proofs.lemmas.List.Elements.{All-set, All-get_or}
@@ -14,7 +14,7 @@ use Rattle.partition_tree.specs.Parts.{AreFull, pages_in, parts_of, part_digest}
 true_is_not_false : true ≡ false → ⊥
 true_is_not_false e = cc
 
--- what an owner that was read holds
+-- the part of an owner that was read
 pub read : (owners : List (Arc (List (List ℕ)) Global)) (j : ℕ) (owner : Arc (List (List ℕ)) Global) → j < length owners → owner ≡ get_or owners j owner
     → arc_value owner ≡ get_or (parts_of owners) j []
 read owners j owner h e = ap arc_value e ∙ sym (get_or-map arc_value owners j owner [] h)
@@ -62,7 +62,7 @@ module _ (owners : List (Arc (List (List ℕ)) Global)) (i : ℕ) (old new : Arc
       let within : i / 32 < length (parts_of owners) = rw length-map (omega arith) in
       subst AreFull (sym (parts_set owners (i / 32) old new (omega arith) was (i % 32) text is)) (set_full (parts_of owners) (i / 32) (i % 32) text within full)
 
--- the digests of the parts, where that of the written one is put in its place
+-- the digests of the parts, after the written part's digest is set
 pub digests_written : (owners : List (Arc (List (List ℕ)) Global)) (j : ℕ) (new there : Arc (List (List ℕ)) Global) (inner : List (List ℕ)) (digest : List ℕ) → j < length owners
     → inner ≡ map part_digest (parts_of owners) → there ≡ get_or (set owners j new) j there → digest ≡ part_digest (arc_value there) → set inner j digest ≡ map part_digest (parts_of (set owners j new))
 digests_written owners j new there inner digest h e p q =
@@ -71,7 +71,7 @@ digests_written owners j new there inner digest h e p q =
     ∙ sym (map-set part_digest (parts_of owners) j (arc_value new))
     ∙ ap (map part_digest) (sym (map-set arc_value owners j new))
 
--- the parts of which a change is told, where one more is told
+-- one more mark of change keeps the unmarked parts as they were
 pub kept_elsewhere : (changed : List Bool) (before : List (List (List ℕ))) (owners : List (Arc (List (List ℕ)) Global)) (j : ℕ) (new : Arc (List (List ℕ)) Global) → length changed ≡ 32 → j < 32
     → IsKept changed before (parts_of owners) → IsKept (set changed j true) before (parts_of (set owners j new))
 kept_elsewhere changed before owners j new count h kept k p told =

@@ -21,7 +21,7 @@ inner_digest pages j = digest_of_children (page_digests pages j)
 unfoldable pub inner_digests : List (List ℕ) → List (List ℕ)
 inner_digests pages = map (inner_digest pages) (range_with_len 0 32)
 
--- The digest of the whole.
+-- The digest of the root.
 abbrev pub root_of : List (List ℕ) → List ℕ
 root_of pages = digest_of_children (inner_digests pages)
 

@@ -1,4 +1,4 @@
--- What the private fields and functions that hold inner parts behind owners speak of.
+-- Definitions for the private fields and functions that share inner parts.
 use Rattle.std.specs.Prelude.{◌≡◌, ℕ, Bool, List, length, map, slice_set}
 use Rattle.std.specs.Arc.{arc_value}
 use Rattle.std.specs.declared.alloc.Global.{Global}
@@ -30,6 +30,6 @@ KeepsPart old new = arc_value new ≡ arc_value old
 abbrev pub SetsPages : List Page → List Owner → List Owner → Type 0
 SetsPages pages old new = pages_of new ≡ pages_with pages (pages_of old)
 
--- Each part of which no change is told is the same.
+-- Each part without a mark of change is the same.
 abbrev pub KeepsOthers : List Bool → List Owner → List Owner → Type 0
 KeepsOthers changed old new = IsKept changed (parts_of old) (parts_of new)

@@ -1,4 +1,4 @@
--- The texts that pages hold, each behind an owner that it may have with others.
+-- The texts of pages. Each has an owner, which others may share.
 use Rattle.std.specs.Prelude.{◌≡◌, ℕ, List, length, map}
 use Rattle.std.specs.Arc.{arc_slice_items}
 use Rattle.std.specs.declared.alloc.Global.{Global}

@@ -17,7 +17,7 @@ pub fn digest(text: &[u8]) -> Digest
     Sha256::digest(text)
 }
 
-/// The digest of a part from those of its children: the SHA-256 digest of these 1,024 bytes in order.
+/// The digest of a part: the SHA-256 digest of its children's 1,024 bytes of digests, in order.
 pub fn digest_of_children(children: &[Digest; CHILDREN]) -> Digest
     ensures { result ≡ spec.digest_of_children children.now }
 {

@@ -1,8 +1,8 @@
-//! A page that is to be set.
+//! A page to set.
 
 ghost use Rattle.std.specs.Prelude.{◌<◌};
 
-/// A page's index, 0 to 1,023, and the text that it is to have.
+/// A page's index, 0 to 1,023, and its new text.
 #[derive(Drop)]
 pub struct Page {
     pub index: usize,

@@ -11,7 +11,7 @@ use std::marker::Model;
 use std::sync::ArcSlice;
 use terms::{Digest, NoMemory};
 
-/// The texts of 32 pages, each behind an owner of its own that others may share, and their digests.
+/// The texts of 32 pages, each with an owner of its own that others may share, and their digests.
 #[derive(Drop)]
 pub struct Part {
     texts: Vec<ArcSlice<u8>>,
@@ -65,7 +65,7 @@ impl Part {
         digest_of_children(&self.digests)
     }
 
-    /// Puts a text in the place of a page's, and hashes it.
+    /// Replaces the text of a page, and hashes it.
     pub fn set(&mut self, child: usize, text: ArcSlice<u8>)
         requires { child < CHILDREN }
         ensures { self.new ≡ slice_set self.old child (arc_slice_items text) }

@@ -1,4 +1,4 @@
-//! The inner parts of a tree, each behind an owner of its own that others may share, and changes of their pages.
+//! The inner parts of a tree, each with an owner of its own that others may share, and changes of their pages.
 
 ghost use Rattle.std.specs.Prelude.{◌≡◌, ◌<◌, false, IfOk, OnOk, OnErr, map, length};
 ghost use Rattle.std.specs.Arc.{arc_slice_items};
@@ -12,7 +12,7 @@ use crate::part::Part;
 use std::sync::{Arc, ArcSlice};
 use terms::{Digest, NoMemory};
 
-/// Puts a text in the place of a page's, in a copy of the part where others share it.
+/// Replaces the text of a page, in a copy of the part if others share it.
 pub fn put(part: &mut Arc<Part>, child: usize, text: ArcSlice<u8>) -> Result<(), NoMemory>
     requires { child < CHILDREN }
     ensures ok { OnOk result (SetsText part.old part.new child (arc_slice_items text)) }
@@ -23,7 +23,7 @@ pub fn put(part: &mut Arc<Part>, child: usize, text: ArcSlice<u8>) -> Result<(),
     Ok(())
 }
 
-// Puts a text in the place of a page's, unless the page has it already. Whether it had another.
+// Replaces the text of a page, unless the page has it already. Gives whether the page changed.
 fn change(part: &mut Arc<Part>, child: usize, text: Vec<u8>) -> Result<bool, NoMemory>
     requires { child < CHILDREN }
     ensures ok { OnOk result (SetsText part.old part.new child text.items) }
@@ -36,7 +36,7 @@ fn change(part: &mut Arc<Part>, child: usize, text: Vec<u8>) -> Result<bool, NoM
     Ok(true)
 }
 
-/// Puts these texts in their places, and tells of each part whether a page of it was changed.
+/// Sets these texts, and tells of each part whether one of its pages changed.
 pub fn change_all(
     parts: &mut Vec<Arc<Part>>,
     pages: Vec<Page>,
@@ -59,7 +59,7 @@ pub fn change_all(
     Ok(changed)
 }
 
-/// The digests of the parts: the known ones, but for those of changed parts, which are hashed.
+/// The digests of the parts. Those of changed parts are hashed, the others are known.
 pub fn renewed(
     known: &[Digest; CHILDREN],
     parts: &[Arc<Part>],

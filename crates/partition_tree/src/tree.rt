@@ -18,8 +18,7 @@ use terms::{Digest, Level, NoMemory};
 pub const PAGES: usize = 1024;
 
 /// The pages 0 to 1,023, each a text of any length in bytes, under a tree of digests. Trees and snapshots share the
-/// parts that are the same in them, so what is set in one is set in a copy of the page's part, with the other texts of
-/// that part still shared.
+/// parts in which they agree. A write goes to a copy of the page's part, which still shares the other texts.
 #[derive(Drop)]
 pub struct Tree {
     parts: Vec<Arc<Part>>,
@@ -41,7 +40,7 @@ impl Model for Tree {
 }
 
 impl Tree {
-    /// A tree of empty pages. NoMemory where memory runs out.
+    /// A tree of empty pages. NoMemory if memory runs out.
     pub fn new(alloc: Global) -> Result<Tree, NoMemory>
         ensures { IfOk result (λ t. t ≡ empty_pages) }
     {
@@ -77,15 +76,15 @@ impl Tree {
         }
     }
 
-    /// The digest of the whole. Takes no memory.
+    /// The digest of the root. Takes no memory.
     pub fn root(&self) -> Digest
         ensures { result ≡ root_of self.now }
     {
         self.root
     }
 
-    /// Sets the text of page `i`, 0 to 1,023, and hashes it and twice 1,024 bytes of digests. Where the page has that
-    /// text already it hashes nothing and takes no memory. An error leaves the tree as it was.
+    /// Sets the text of page `i`, 0 to 1,023. Hashes it, and twice 1,024 bytes of digests. If the page has that text
+    /// already, it hashes nothing and takes no memory. An error leaves the tree as it was.
     pub fn set_page(&mut self, i: usize, text: &[u8]) -> Result<(), NoMemory>
         requires { i < PAGES }
         ensures ok { OnOk result (self.new ≡ slice_set self.old i text.now) }
@@ -103,9 +102,9 @@ impl Tree {
         Ok(())
     }
 
-    /// Sets the texts of several pages, of two for one page the later, and hashes each that is another than the page
-    /// has, each part above those once, and the root once. Takes over the texts' memory. An error leaves the tree as it
-    /// was.
+    /// Sets the texts of several pages; of two texts for one page the later counts. Hashes each text that differs
+    /// from the page's, each part above such a page once, and the root once. Takes over the texts' memory. An error
+    /// leaves the tree as it was.
     pub fn set_pages(&mut self, pages: Vec<Page>) -> Result<(), NoMemory>
         ensures ok { OnOk result (self.new ≡ pages_with pages.items self.old) }
         ensures err { OnErr result (self.new ≡ self.old) }
@@ -119,7 +118,7 @@ impl Tree {
         Ok(())
     }
 
-    /// The pages as they are now, whatever is set later. Their texts and digests are shared, not copied. NoMemory where
+    /// The pages as they are now, whatever is set later. The snapshot shares their texts and digests. NoMemory if
     /// memory runs out.
     pub fn snapshot(&self) -> Result<Snapshot, NoMemory>
         ensures { IfOk result (λ s. s ≡ self.now) }
@@ -127,7 +126,7 @@ impl Tree {
         Ok(Snapshot { tree: self.copy()? })
     }
 
-    /// An equal tree, which shares the texts and the digests of all pages until either tree sets them. NoMemory where
+    /// An equal tree, which shares the texts and the digests of all pages until either tree sets them. NoMemory if
     /// memory runs out.
     pub fn copy(&self) -> Result<Tree, NoMemory>
         ensures { IfOk result (λ t. t ≡ self.now) }

@@ -1,4 +1,4 @@
--- What is known of escaped texts.
+-- The properties of escaped texts.
 use Rattle.std.proofs.Common.{◌≡◌, ℕ, List, [], ◌∷◌, ◌++◌, Bool, true, false, refl, ap, sym, ◌∙◌, arith}
 use Rattle.std.specs.Prelude.{◌==◌, ◌||◌, ◌&&◌, not, if◌then◌else◌, codes}
 use Rattle.std.specs.List.{list_all}
@@ -6,7 +6,7 @@ use Rattle.std.proofs.lemmas.Bool.{false≢true}
 use Rattle.std.proofs.lemmas.List.Folds.{list_all-append}
 use Rattle.picture.specs.Escaping.{is_allowed, allowed, escaped, escaped_text, is_plain, BeginsEntity, EntitiesBegin}
 
--- what stands for a character that is none of the first four, of the first three, and so on
+-- the texts of characters that are none of the first four, none of the first three, and so on
 abbrev but_quote : ℕ → List ℕ
 but_quote c = if c == 39 then codes "&apos;" else allowed c ∷ []
 

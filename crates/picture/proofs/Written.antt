@@ -5,7 +5,7 @@ use Rattle.std.proofs.lemmas.Str.{encodes-append}
 use Rattle.std.proofs.lemmas.Grind.{flat_map-append}
 use Rattle.picture.specs.Escaping.{escaped}
 
--- one more character behind those before it
+-- one more character after those before it
 pub one_more : (old out new cs : List ℕ) (c : ℕ) → out ≡ old ++ encode_utf8_all (flat_map escaped cs) → new ≡ out ++ encode_utf8_all (escaped c) → new ≡ old ++ encode_utf8_all (flat_map escaped (cs ++ c ∷ []))
 one_more old out new cs c e h =
     h ∙ ap (λ t. t ++ encode_utf8_all (escaped c)) e ∙ append_assoc old (encode_utf8_all (flat_map escaped cs)) (encode_utf8_all (escaped c))

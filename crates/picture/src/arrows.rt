@@ -9,10 +9,10 @@ use std::collections::HashMap;
 use std::fmt::Write;
 use terms::{NoMemory, Party};
 
-// Where what nobody sent comes in, where it names no faulty party.
+// Where an arrow begins if no party sent the frame and it names no faulty sender.
 const MARGIN: u64 = 48;
 
-// Where a frame was sent, at the last.
+// The last sending of a frame.
 #[derive(Clone, Copy, Drop)]
 struct Sending {
     position: u64,
@@ -29,7 +29,7 @@ struct Line {
     y: u64,
 }
 
-/// Draws an arrow to each delivery, a short one where nobody sent the bytes. A sending is found by the frame's bytes.
+/// Draws an arrow to each delivery, a short one if no party sent the bytes. A sending is found by the frame's bytes.
 pub(crate) fn put_arrows(
     alloc: Global,
     lanes: &Lanes,
@@ -112,7 +112,7 @@ fn put_arrow(
     }
 }
 
-// Where a frame comes from that no party sent in the run: from the faulty party that it names.
+// Where the arrow of a frame begins that no party sent in the run: at the faulty sender that it names.
 fn source(lanes: &Lanes, shown: &Shown) -> u64 {
     match shown.sender {
         Some(party) => {
@@ -126,7 +126,7 @@ fn source(lanes: &Lanes, shown: &Shown) -> u64 {
     }
 }
 
-// Opens the element of an arrow, which goes round where it ends on its own lane.
+// Opens the element of an arrow. It is a curve if it ends on its own lane.
 fn put_line(kind: MessageKind, class: &str, line: Line, svg: &mut String) -> Result<(), NoMemory> {
     let name = kind.name();
     let Line {

@@ -17,12 +17,12 @@ const HEAD: &str =
 
 const TAIL: &str = "</svg>\n";
 
-/// Appends the chart of a run as a file of SVG: a lane for each party, an arrow from where a frame was sent to each of
-/// its deliveries, and marks for what else happened, an entry a row.
+/// Appends the chart of a run as a file of SVG: a lane for each party, an arrow from each sending to its deliveries,
+/// and marks for all other entries. Each entry has a row.
 ///
 /// # Errors
 ///
-/// NoMemory where memory runs out, and then the bytes are as they were.
+/// NoMemory if memory runs out, and then the bytes are as they were.
 pub fn write_picture(
     alloc: Global,
     config: &Config,
@@ -57,7 +57,7 @@ fn put_body(
     put_positions(&lanes, svg)
 }
 
-// What is left of the opening of the element, a title, and the paper.
+// The rest of the opening of the element, a title, and the paper.
 fn put_frame(lanes: &Lanes, svg: &mut String) -> Result<(), NoMemory> {
     let (width, height, rows) = (lanes.width(), lanes.height(), lanes.rows());
     write!(

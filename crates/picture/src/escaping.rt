@@ -6,8 +6,8 @@ ghost use Rattle.picture.specs.Escaping.{allowed, escaped, escaped_text};
 
 use terms::NoMemory;
 
-/// Appends the text for a place between tags, or between the quotes of an attribute. An `Err` leaves some of it behind
-/// what was there.
+/// Appends the text, for a place between tags or between the quotes of an attribute. An `Err` may leave a part of it
+/// after the old text.
 pub fn escape(text: &str, out: &mut String) -> Result<(), NoMemory>
     ensures { Appends result (string_bytes out.old) (encode_utf8_all (escaped_text (chars text.now)))
         (string_bytes out.new) }

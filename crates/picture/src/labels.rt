@@ -7,7 +7,7 @@ use std::fmt::Write;
 use terms::NoMemory;
 use trace_text::write_entry;
 
-/// Appends what is shown where the pointer rests: the position and the line of the entry.
+/// Appends the text that is shown at the pointer: the position and the line of the entry.
 pub(crate) fn put_title(
     alloc: Global,
     position: u64,
@@ -21,7 +21,7 @@ pub(crate) fn put_title(
     Ok(write!(svg, "</title>")?)
 }
 
-/// Appends no more than so many characters, and an ellipsis where that isn't all.
+/// Appends at most so many characters, and an ellipsis if there are more.
 pub(crate) fn put_label(
     alloc: Global,
     bytes: &[u8],

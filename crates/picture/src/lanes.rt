@@ -1,19 +1,19 @@
-//! The lanes of the parties, and where things stand on the page.
+//! The lanes of the parties, and the places of all parts on the page.
 
 use events::{Config, Entry, EntryKind};
 use std::alloc::{AllocError, Global};
 use std::fmt::{self, Write};
 use terms::{FIRST_CLIENT, NoMemory, Party};
 
-// From the left edge to the first lane, from a lane to the next, and from the last one to the right edge. Behind the
-// last lane is room for what clients are told.
+// From the left edge to the first lane, from a lane to the next, and from the last one to the right edge. Right of
+// the last lane is room for the answers of clients.
 const LEFT: u64 = 96;
 
 const LANE: u64 = 150;
 
 const RIGHT: u64 = 240;
 
-// The height of an entry's row, and what stands above the first and below the last.
+// The height of an entry's row, and the heights above the first row and below the last.
 const ROW: u64 = 14;
 
 const ABOVE: u64 = 128;
@@ -23,7 +23,7 @@ const BELOW: u64 = 44;
 // How far down the names are.
 const HEADS: u64 = 98;
 
-/// Whether a party stands in the configuration, and there as faulty.
+/// Whether the configuration has the party, and as faulty.
 #[derive(Clone, Copy, Debug, PartialEq, Eq, Drop)]
 pub(crate) enum Standing {
     Correct,
@@ -124,7 +124,7 @@ fn numbers(alloc: Global, config: &Config, trace: &[Entry]) -> Result<Vec<u16>, 
     Ok(numbers)
 }
 
-/// At whom an entry happened.
+/// The party at which an entry happened.
 pub(crate) fn party(kind: &EntryKind) -> Party {
     match kind {
         EntryKind::Invoke(client, _, _) => Party::Client(*client),

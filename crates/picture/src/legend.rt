@@ -1,4 +1,4 @@
-//! Colours, and what they mean.
+//! Colours, and their meanings.
 
 ghost use Rattle.std.specs.Prelude.{◌<◌};
 
@@ -45,7 +45,7 @@ pub(crate) fn put_styles(svg: &mut String) -> Result<(), NoMemory> {
     Ok(svg.push_str("</defs>\n")?)
 }
 
-// Its arrows are lines, its dots and bars are filled.
+// The arrows of a kind are lines, its dots and bars are filled.
 fn put_style(kind: MessageKind, svg: &mut String) -> Result<(), NoMemory> {
     let (name, colour) = (kind.name(), kind.colour());
     Ok(writeln!(
@@ -66,7 +66,7 @@ fn put_head(kind: MessageKind, svg: &mut String) -> Result<(), NoMemory> {
     )?)
 }
 
-/// Appends what the colours and marks mean: two lines of kinds, and one of marks.
+/// Appends the meanings of the colours and marks: two lines of kinds, and one of marks.
 pub(crate) fn put_legend(svg: &mut String) -> Result<(), NoMemory> {
     writeln!(svg, "<g class=\"arrows\">")?;
     for (place, kind) in KINDS.iter().enumerate() {

@@ -2,13 +2,21 @@
 //!
 //! # What is proved
 //!
-//! `escape` appends exactly what `specs/Escaping.antt` says: of each character that has a meaning in XML its entity, of
-//! each that XML 1.0 does not allow the replacement character, and of all others themselves. By the law
-//! `escaped_is_plain` what is escaped has no `<`, `>` or quote, none but XML's characters, and each `&` begins an
-//! entity. `write_picture` appends the declaration and the opening of an `svg` element, UTF-8, and the element's end,
-//! or leaves the bytes as they were; it is safe and returns, on any configuration and any entries. Which lanes, arrows
-//! and marks stand in between, and that tags are well nested, is tested and looked at (`picture_tests`,
-//! `docs/pictures`).
+//! `escape` appends exactly the text of `specs/Escaping.antt`: the entity of each character that has a meaning in
+//! XML, the replacement character for each that XML 1.0 does not allow, and all others themselves. By the law
+//! `escaped_is_plain` an escaped text has no `<`, `>` or quote and only XML's characters, and each `&` begins an
+//! entity.
+//!
+//! `write_picture` appends the declaration and the opening of an `svg` element, UTF-8, and the element's end, or
+//! leaves the bytes as they were. It is safe and returns, on any configuration and any entries. The lanes, arrows and
+//! marks in between, and that tags are well nested, are tested and looked at (`picture_tests`, `docs/pictures`).
+//!
+//! # How it is made
+//!
+//! - It draws the trace lines that `trace_text` writes.
+//! - It finds a frame's sending in a hash map by the frame's bytes. So the time grows with the bytes of the trace, and
+//!   hardly faster.
+//! - Labels are cut, titles are trace lines, and both go through `escape`.
 #![tactic(auto)]
 
 mod arrows;

@@ -1,4 +1,4 @@
-//! What happens at a party, on its lane.
+//! The marks of a party's entries, on its lane.
 
 use crate::labels::{put_label, put_title};
 use crate::lanes::{Lanes, party, row};
@@ -11,13 +11,12 @@ use terms::NoMemory;
 use tuple_codec::{Answer, Op};
 use tuple_text::{write_answer, write_op};
 
-// So many characters of an operation or an answer are shown where there is another lane on the right, and where there
-// is none.
+// Most characters of an operation or an answer: with another lane on the right, and with none.
 const BETWEEN: usize = 20;
 
 const BEHIND: usize = 36;
 
-/// Draws the mark of each entry but deliveries, which arrows end in.
+/// Draws the mark of each entry except deliveries, at which arrows end.
 pub(crate) fn put_marks(
     alloc: Global,
     lanes: &Lanes,
@@ -80,7 +79,7 @@ fn put_sign(
     }
 }
 
-// A sending is a dot, and of view changes and new views a bar.
+// A sending is a dot; that of a view change or a new view is a bar.
 fn put_sent(alloc: Global, bytes: &[u8], spot: Spot, svg: &mut String) -> Result<(), NoMemory> {
     let shown = read_shown(alloc, bytes)?;
     match shown.kind {
@@ -122,7 +121,7 @@ fn put_accepted(
     put_said(alloc, "answer", text.as_slice(), spot, most, svg)
 }
 
-// A text beside a mark, of no more than so many characters.
+// A text beside a mark, with at most so many characters.
 fn put_said(
     alloc: Global,
     class: &str,
@@ -137,7 +136,7 @@ fn put_said(
     Ok(write!(svg, "</text>")?)
 }
 
-// Where the arrows from a bar leave a note alone.
+// A place at which the arrows from a bar don't cross a note.
 fn above(spot: Spot) -> Spot {
     Spot {
         x: spot.x,
@@ -157,7 +156,7 @@ fn put_note(
     Ok(write!(svg, "<text x=\"{x}\" y=\"{y}\">{word}{number}</text>")?)
 }
 
-/// Appends what the marks mean, in a line of the legend.
+/// Appends the meanings of the marks, in a line of the legend.
 pub(crate) fn put_meanings(svg: &mut String) -> Result<(), NoMemory> {
     writeln!(svg, "<g class=\"marks\">")?;
     put_triangle(meaning(0), svg)?;

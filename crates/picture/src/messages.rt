@@ -1,10 +1,10 @@
-//! What the picture shows of a frame.
+//! The parts of a frame that the picture shows.
 
 use std::alloc::Global;
 use terms::{NoMemory, Party};
 use wire::{Body, Message, WireFault, decode};
 
-/// What a frame is coloured by.
+/// The kind of a frame, which has its colour.
 #[derive(Clone, Copy, Debug, PartialEq, Eq, Drop)]
 pub(crate) enum MessageKind {
     Request,
@@ -54,7 +54,7 @@ impl MessageKind {
         }
     }
 
-    // Muted, and apart from each other on white.
+    // Muted colours that differ from each other on white.
     pub(crate) fn colour(self) -> &'static str {
         match self {
             MessageKind::Request => "#4a74b0",
@@ -73,7 +73,7 @@ impl MessageKind {
     }
 }
 
-/// What is shown of a frame.
+/// The parts of a frame that the picture shows.
 #[derive(Clone, Copy, Drop)]
 pub(crate) struct Shown {
     pub(crate) kind: MessageKind,

@@ -3,7 +3,7 @@
 use std::fmt::Write;
 use terms::NoMemory;
 
-/// Where a mark stands.
+/// The place of a mark.
 #[derive(Clone, Copy, Drop)]
 pub(crate) struct Spot {
     pub(crate) x: u64,

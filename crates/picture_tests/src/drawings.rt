@@ -1,4 +1,4 @@
-//! What stands in a picture.
+//! The parts of a picture.
 
 use events::{Config, Entry, EntryKind};
 use hex::FromHexError;
@@ -14,8 +14,8 @@ const FIRST: &str = "00000017410100000000000000000100210101000000000000000100010
 
 const SECOND: &str = "00000017410101000000000000000100210101000000000000000200010000";
 
-// Lanes stand at 96, 246, 396 and so on, and the row of entry `n` at 128 + 14n. An arrow comes from where its frame was
-// sent, and a dashed one from 6 above its end, at the lane of a faulty sender or at the margin, 48.
+// Lanes stand at 96, 246, 396 and so on, and the row of entry `n` at 128 + 14n. An arrow begins at the sending of its
+// frame. A dashed one begins 6 above its end, at the lane of a faulty sender or at the margin, 48.
 static ARROWS: [&str; 5] = [
     "<path class=\"request\" d=\"M696 142L96 156\"><title>2 got r0 request c0 time 1 ordered out (1)</title></path>",
     "<path class=\"request\" d=\"M696 142L246 170\"><title>3 got r1 request c0 time 1 ordered out (1)</title></path>",
@@ -56,7 +56,7 @@ fn op(alloc: Global, line: &[u8]) -> Result<Op<Global>, Fail> {
     Ok(read_line(alloc, line)?.ok_or("no operation")?)
 }
 
-// What was put by `out`.
+// The tuple that was put by `out`.
 fn found(alloc: Global, line: &[u8]) -> Result<Answer<Global>, Fail> {
     match op(alloc, line)? {
         Op::Out(tuple) => Ok(Answer::Found(tuple)),
@@ -181,7 +181,7 @@ fn draws_strangers(rt: HostRuntime) -> Result<(), Fail> {
     Ok(())
 }
 
-// The whole picture, behind a byte that a refusal leaves alone.
+// The whole picture, after a byte that a refusal leaves alone.
 fn is_drawn(
     alloc: Global,
     config: &Config,

@@ -25,7 +25,7 @@ static ROWS: [(&str, &str); 9] = [
     ),
 ];
 
-// The escaped text stands behind what was there.
+// The escaped text follows the old one.
 fn is_escaped(alloc: Global, text: &str, escaped: &str) -> Result<bool, NoMemory> {
     let mut out = String::from_str(alloc, "<")?;
     escape(text, &mut out)?;

@@ -16,7 +16,7 @@ two_meet p q zero = omega arith
 two_meet p q (suc n) =
     step (p n) (q n) (count_below p n) (count_below q n) (count_below (λ k. p k && q k) n) n (two_meet p q n)
 
--- where more pass p than q, some number passes p and not q
+-- if more pass p than q, some number passes p and not q
 pub some_more : (p q : ℕ → Bool) (n : ℕ) → count_below q n < count_below p n
     → (k : ℕ) × (k < n) × (q k ≡ false) × (p k ≡ true)
 some_more p q zero h = absurd (omega arith)
@@ -51,7 +51,7 @@ one_is_correct f n faulty p few enough =
     let more : count_below faulty n < count_below p n = omega arith in
     some_more p faulty n more
 
--- where all that pass p pass q, no more pass p
+-- if all that pass p pass q, no more pass p
 pub count_mono : (p q : ℕ → Bool) (n : ℕ) → ((k : ℕ) → k < n → p k ≡ true → q k ≡ true) → count_below p n ≤ count_below q n
 count_mono p q zero h = omega arith
 count_mono p q (suc n) h =
@@ -66,12 +66,12 @@ count_mono p q (suc n) h =
     go false true below f = omega arith
     go false false below f = omega arith
 
--- where two tests are the same on each number, as many pass
+-- if two tests are the same on each number, as many pass
 pub count_same : (p q : ℕ → Bool) → ((s : ℕ) → p s ≡ q s) → (n : ℕ) → count_below p n ≡ count_below q n
 count_same p q h zero = refl
 count_same p q h (suc n) = ap (λ (b : Bool). cond b (suc (count_below p n)) (count_below p n)) (h n) ∙ ap (λ (m : ℕ). cond (q n) (suc m) m) (count_same p q h n)
 
--- one more passes where a is let in
+-- one more passes if a is let in
 pub count_with : (p : ℕ → Bool) (a n : ℕ) → a < n → suc (count_below (λ s. not (s == a) && p s) n) ≤ count_below (λ s. (s == a) || p s) n
 count_with p a zero h = absurd (omega arith)
 count_with p a (suc n) h = go (n == a) refl (p n) (count_with p a n) refl
@@ -104,7 +104,7 @@ count_with p a (suc n) h = go (n == a) refl (p n) (count_with p a n) refl
         let b = below lt in
         omega arith
 
--- at most one more passes where one number is let in
+-- at most one more passes if one number is let in
 one_more : (p : ℕ → Bool) (a n : ℕ) → (count_below (λ s. (a == s) || p s) n ≤ suc (count_below p n)) × (n ≤ a → count_below (λ s. (a == s) || p s) n ≤ count_below p n)
 one_more p a zero = (omega arith, λ h. omega arith)
 one_more p a (suc n) = go (a == n) refl (p n) (one_more p a n)
@@ -117,7 +117,7 @@ one_more p a (suc n) = go (a == n) refl (p n) (one_more p a n)
     go false e true h = (let k = h.0 in omega arith, λ g. let le : n ≤ a = omega arith in let k = h.1 le in omega arith)
     go false e false h = (h.0, λ g. let le : n ≤ a = omega arith in h.1 le)
 
--- no more pass than the list has elements, where each that passes stands in it
+-- no more numbers are members of the list than it has elements
 pub count_members : (xs : List ℕ) (n : ℕ) → count_below (member xs) n ≤ length xs
 count_members [] n = none n
   where
@@ -143,7 +143,7 @@ two_within u p q zero = omega arith
 two_within u p q (suc n) =
     within_step (u n) (p n) (q n) (count_below (λ k. u k && p k) n) (count_below (λ k. u k && q k) n) (count_below u n) (count_below (λ k. u k && (p k && q k)) n) (two_within u p q n)
 
--- those that pass and those that do not are all
+-- the numbers that pass and those that do not are all
 pub count_not : (p : ℕ → Bool) (n : ℕ) → count_below p n + count_below (λ k. not (p k)) n ≡ n
 count_not p zero = omega arith
 count_not p (suc n) = go (p n) (count_not p n)

@@ -1,7 +1,7 @@
--- Words on what is given or not, as a vote is.
+-- Values that are given or not, as votes are.
 use Rattle.std.specs.Prelude.{ℕ, Bool, true, false, List, Option, Some, None, bytes_eq}
 
--- the first of two that is given
+-- the first of the two that is given
 abbrev pub or_else : {A : Type 0} → Option A → Option A → Option A
 or_else (Some x) later = Some x
 or_else None later = later

@@ -1,5 +1,5 @@
-//! Counts of replicas, and the laws of quorums. A replica is named by its number, 0 to `3f`, where at most `f` of the
-//! `3f + 1` replicas are faulty.
+//! Counts of replicas, and the laws of quorums. Replicas have the numbers 0 to `3f`, and at most `f` of the `3f + 1`
+//! are faulty.
 #![tactic(auto)]
 
 ghost use Rattle.quorum.specs.Quorum.{QuorumsMeet, OneIsCorrect};

@@ -1,4 +1,4 @@
--- What a header says of hearing a read-only request.
+-- The header of a frame decides whether a party hears a read-only request.
 use Rattle.std.proofs.Common.{◌≡◌, ◌≢◌, ℕ, ◌+◌, ◌<◌, ◌≤◌, ◌^◌, true, false, List, ◌∷◌, ◌++◌, drop, Option, Some, None, is_some, ap, sym, refl, subst, ◌∙◌, arith}
 use Rattle.std.proofs.lemmas.Bool.{and_parts, leb-true}
 use Rattle.std.specs.Int.{w64, to_be_bytes}

@@ -12,7 +12,7 @@ use Rattle.signing.proofs.Heard.{heard_was_opened}
 use Rattle.wire.specs.Marks.{asks_read}
 use Rattle.read_only.specs.Hearing.{HearsNoRead, read_only_request}
 
--- whether a frame has the marks, by its message and the bytes behind it
+-- whether a frame has the marks, by its message and the bytes after it
 abbrev has_marks : MessageData → List ℕ → Bool
 has_marks message behind = eqb (message_type message) 0x41 && eqb (get_or (fields_spelling message ++ behind) 8 0) 1
 

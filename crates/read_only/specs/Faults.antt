@@ -1,4 +1,4 @@
--- The faults of peeking as those of reading.
+-- The faults of peeking, as faults of reading.
 use Rattle.space.specs.declared.tuples.PeekFault.{PeekFault}
 use Rattle.space.specs.declared.tuples.PeekFault.TheVariants as peek_faults
 use Rattle.read_only.specs.declared.read_fault.ReadFault.{ReadFault}

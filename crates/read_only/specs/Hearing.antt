@@ -19,7 +19,7 @@ HearsNoRead bytes =
     (m : Membership) (me sender timestamp : ℕ) (op : Operation)
     → heard m me bytes ≢ Some (read_only_request sender timestamp op)
 
--- From the bytes the replica hears the client's read-only request of an operation that this text spells.
+-- The replica hears the client's read-only request from the bytes, and this text spells its operation.
 pub record HearsRead (m : Membership) (me : ℕ) (bytes : List ℕ) (client timestamp : ℕ)
     (text : List ℕ) : Type 0 where
   pub op : Operation

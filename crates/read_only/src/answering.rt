@@ -14,19 +14,19 @@ use terms::{ClientId, Mode, Number, Timestamp};
 use tuple_codec::{Answer, Bad, decode_op};
 use wire::Reply;
 
-/// What reads are answered from: the tuples of an executed state, and its number.
+/// The executed state that answers reads: its tuples, and its number.
 #[derive(Clone, Copy, Drop)]
 pub struct Shelf<'a> {
     pub space: &'a Space,
     pub number: Number,
 }
 
-/// The reply to a read from the shelf. The operation is decoded in the arena, and dropped before this returns; the
+/// The reply to a read, from the shelf. The operation is decoded in the arena, and dropped before this returns; the
 /// reply is in ordinary memory.
 ///
 /// # Errors
 ///
-/// NotReadOnly where the operation is no read, before memory is looked at. NoMemory where memory runs out.
+/// NotReadOnly if the operation is no read; that takes no memory. NoMemory if memory runs out.
 pub fn answer(
     alloc: Global,
     shelf: &Shelf<'_>,
@@ -43,7 +43,8 @@ pub fn answer(
         return Err(ReadFault::NotReadOnly);
     }
     let answered = peek(shelf.space, request.op, arena);
-    // The operation is gone, and its room is free again. An arena that a caller left something in is replaced.
+    // The operation is gone, and its memory is free again. If something of a caller's is left in the arena, a new
+    // arena replaces it.
     if arena.reset().is_err() {
         *arena = Bump::new(alloc);
     }
@@ -51,7 +52,7 @@ pub fn answer(
     Ok(reply_of(request.client, request.timestamp, shelf.number, answer))
 }
 
-// The reply to a client's read-only request of this timestamp, from the state of this number.
+// The reply to a client's read-only request with this timestamp, from the state of this number.
 fn reply_of(client: ClientId, timestamp: Timestamp, number: Number, answer: Answer<Global>) -> Reply
     ensures says { reply_data result
         ≡ read_reply client.number timestamp.0 number.0 (outcome_of answer) }
@@ -77,7 +78,7 @@ fn is_read(text: &[u8]) -> bool
     }
 }
 
-// What the read that the text spells comes to in the space.
+// The answer of the space to the read that the text spells.
 fn peek(space: &Space, text: &[u8], arena: &Bump) -> Result<Answer<Global>, ReadFault>
     requires { SpellsRead text.now }
     ensures { MatchResult result (AnswersText space.now text.now) (λ e. e ≡ ReadFault.NoMemory) }

@@ -20,8 +20,8 @@ pub struct ReadRequest<'b> {
     pub op: &'b [u8],
 }
 
-/// Whether the bytes have the marks of a read-only request: byte 4 is 41 and byte 15 is 01 (hex). Takes no memory, and
-/// constant time.
+/// Whether the bytes have the marks of a read-only request: byte 4 is 41 and byte 15 is 01 (hex). Takes constant
+/// time, and no memory.
 pub fn asks_read(bytes: &[u8]) -> bool
     ensures value { result ≡ asks_read bytes.now }
     ensures none { IsFalse result → HearsNoRead bytes.now }
@@ -47,8 +47,8 @@ fn has_read_only_mode(bytes: &[u8]) -> bool
     }
 }
 
-/// The read-only request that the replica hears from bytes with these marks, judged in their place: nothing is decoded,
-/// and no memory taken but for the keys that the ring keeps.
+/// The read-only request that the replica hears from bytes with these marks. They are judged in their place: nothing
+/// is decoded, and only the keys that the ring keeps take memory.
 pub fn hear_read<'b>(ring: &mut Ring, me: ReplicaId, bytes: &'b [u8]) -> Option<ReadRequest<'b>>
     requires marks { asks_read bytes.now ≡ true }
     ensures some { IfSome result
@@ -67,7 +67,7 @@ pub fn hear_read<'b>(ring: &mut Ring, me: ReplicaId, bytes: &'b [u8]) -> Option<
     if ring.refusal(&header, me).is_some() {
         return None;
     }
-    // Clients alone send requests.
+    // Only clients send requests.
     let client = ClientId {
         number: sender - FIRST_CLIENT,
     };
@@ -79,8 +79,8 @@ pub fn hear_read<'b>(ring: &mut Ring, me: ReplicaId, bytes: &'b [u8]) -> Option<
     })
 }
 
-// The timestamp and the bytes of the operation in the body of a request: behind its type and sender, and behind the
-// mode.
+// The timestamp and the bytes of the operation in the body of a request. The timestamp follows the type and the
+// sender, the operation the mode.
 fn fields_of(text: &[u8]) -> (Timestamp, &[u8])
     requires { 12 ≤ length text.now }
     ensures timestamp { result.0.0 ≡ big_number 8 (drop 3 text.now) }

@@ -3,13 +3,19 @@
 //!
 //! # What is proved
 //!
-//! `asks_read` looks at two bytes: where it says false, no read-only request is heard. From all other bytes `hear_read`
-//! hears what the definitions say, where they lie: nothing is decoded, and no memory taken but for the keys that the
-//! ring keeps. `answer` gives the reply to a read, with what it comes to in the tuples of a [`Shelf`]; it refuses
-//! exactly the operations that may change a space, and wants memory only for others.
+//! `asks_read` looks at two bytes. If it says false, no party hears a read-only request from the bytes. From all
+//! other bytes `hear_read` hears the request that the definitions say, in their place: nothing is decoded, and only
+//! the keys that the ring keeps take memory. `answer` gives the reply to a read from the tuples of a [`Shelf`]. It
+//! refuses exactly the operations that may change a space, and memory runs out only for others.
 //!
-//! That nothing of an operation outlives its read in the arena, in which it is decoded, is the borrow checker's to
-//! say: `tools/refuses_to_compile` tries a text that keeps it.
+//! The borrow checker ensures that no part of an operation outlives its read in the arena. `tools/refuses_to_compile`
+//! tries a text that keeps one.
+//!
+//! # How it is made
+//!
+//! - `hear_read` tests one MAC. A reply needs the client, the timestamp and the bytes of the operation, and
+//!   `ReadRequest` lends these out of the frame.
+//! - `answer` copies only the matches into ordinary memory, into the reply.
 #![tactic(auto)]
 
 mod answering;

@@ -9,7 +9,7 @@ pub enum ReadFault {
     /// The operation may change a space.
     #[error("not a read-only operation")]
     NotReadOnly,
-    /// There was no room for the operation, or for the reply.
+    /// There was no memory for the operation, or for the reply.
     #[error("out of memory")]
     NoMemory,
 }

@@ -17,7 +17,7 @@ const FIRST_REPLY: At = (PAGE, 256);
 
 const HEADER: At = (PAGE, 512);
 
-// The root of the state behind `out (1)` of client 0. It was computed by Python's hashlib, where pages = [b''] * 1024,
+// The root of the state after `out (1)` of client 0. It was computed by Python's hashlib, where pages = [b''] * 1024,
 // one = (1).to_bytes(8, 'big'), pages[0] = bytes(8) + b'\x01\x01' + one, pages[256] = one + one + b'1' and
 // pages[512] = b'\x01' + one + one:
 //   H = lambda text: hashlib.sha256(text).digest()
@@ -84,8 +84,8 @@ static SECOND_AT_PRIMARY: [Row<'static>; 10] = [
     ),
 ];
 
-// Where number 2 is stable, the low mark is 2: of the states that are kept the opening one is given up, and that behind
-// number 2 stays, for whoever asks.
+// Once number 2 is stable, the low mark is 2. Of the kept states the opening one is given up, and that after number 2
+// stays, for whoever asks.
 static IS_MARKED_AT_BACKUP: [Row<'static>; 6] = [
     (Sent::Checkpoint(2, State::Behind(2), 0), &[]),
     (
@@ -116,8 +116,8 @@ static IS_MARKED_AT_PRIMARY: [Row<'static>; 6] = [
     ),
 ];
 
-// With a period of 1 each number has one. Until a quorum has it, the opening state is kept beside it. Of a sender the
-// first of a number counts, and once. Where it is stable, the opening state is given up.
+// With a period of 1 each number has a checkpoint. Until a quorum has it, the opening state is kept beside it. Of a
+// sender's checkpoints for a number the first counts, and once. When it is stable, the opening state is given up.
 pub static BECOMES_STABLE: [Row<'static>; 21] = [
     (Sent::PrePrepare(1), &[Given::Sends(Sent::Prepare(1, 1))]),
     (Sent::Prepare(1, 2), &[Given::Sends(Sent::Commit(1, 1))]),
@@ -249,7 +249,7 @@ pub static FREES_NUMBERS: [Row<'static>; 10] = [
     (Sent::Checkpoint(1, ONE, 2), &[]),
 ];
 
-// The request that waits comes again: the latest checkpoint goes out last, also where it is stable.
+// The waiting request comes again: the latest checkpoint goes out last, also if it is stable.
 static GOES_AGAIN: [Row<'static>; 11] = [
     (Sent::PrePrepare(1), &[Given::Sends(Sent::Prepare(1, 1))]),
     (Sent::Prepare(1, 2), &[Given::Sends(Sent::Commit(1, 1))]),

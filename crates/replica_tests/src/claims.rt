@@ -1,4 +1,4 @@
-//! A view change whose list of claims is as long as it can be, and what comes of one claim more.
+//! A view change whose list of claims is as long as it can be, and the effect of one claim more.
 
 use crate::frames::{Sent, eight};
 use crate::replicas::{Given, gives, gives_for, replica_of_period};
@@ -111,7 +111,7 @@ fn empty_change(
     signed_by(alloc, trees, sender, &body)
 }
 
-// Puts that view change behind its length.
+// Puts the length of that view change, and the view change.
 fn put_change(
     alloc: Global,
     trees: &[KeyTree],
@@ -205,7 +205,7 @@ fn claims_most(
     Ok(left == 0)
 }
 
-// Whether the last output is a view change of this length, signed with this leaf, and stands behind so many others.
+// Whether the last output is a view change of this length, signed with this leaf, and comes after so many others.
 fn ends_with_change(outputs: &Outputs, before: usize, len: usize, leaf: u8) -> bool {
     match outputs.as_slice().get(before) {
         Some(Output::Send(_, frame)) => {

@@ -10,7 +10,7 @@ use std::test::Fail;
 // Which byte of the read of client 0 is another one. Its body stands at 4 to 18, its MAC for replica 1 at 57.
 static WRONG: [usize; 5] = [3, 4, 14, 18, 57];
 
-// What is no read, or no read-only one.
+// Frames that are no read, or no read-only one.
 static OTHERS: [Sent; 3] = [Sent::Request(1), Sent::ReadOnlyTake, Sent::PrePrepare(1)];
 
 fn gives(desk: &mut Desk, alloc: Global, bytes: &[u8], all: &[Given]) -> Result<bool, Fail> {
@@ -88,7 +88,7 @@ fn gives_with(
     Ok(are_given(alloc, &outputs, all)?)
 }
 
-// Whether this is given where the request comes.
+// Whether this is given when the request comes.
 fn gives_for_request(
     orderer: &mut Orderer,
     desk: &mut Desk,

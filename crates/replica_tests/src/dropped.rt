@@ -6,13 +6,13 @@ use replica::Replica;
 use std::alloc::Global;
 use std::test::Fail;
 
-// Who gets the frame, and which byte of it is another one, where one is.
+// The receiver of the frame, the frame, and its changed byte, if any.
 type Row = (u8, Sent, Option<usize>);
 
 // A request's body stands at 4 to 26, its MAC for replica 0 at 31.
 static DROPPED: [Row; 16] = [
-    // A read-only request of what is no read; frames of its own; a frame without a MAC for it; a prepare of the
-    // primary.
+    // A read-only request of an operation that is no read; frames of its own; a frame without a MAC for it; a prepare
+    // of the primary.
     (0, Sent::ReadOnlyTake, None),
     (1, Sent::ReadOnlyTake, None),
     (1, Sent::Prepare(1, 1), None),

@@ -1,5 +1,5 @@
-//! The frames of a run of requests, `out (n)` of client n - 1 at the number n, and those of checkpoints and transfers
-//! of its states and views, written by docs/formats.md without what reads them.
+//! The frames of a run of requests, `out (n)` of client n - 1 at the number n, and of checkpoints and transfers of
+//! its states and views. They are written by docs/formats.md without the code that reads them.
 
 use crate::signed::{Begun, Change, change_frame, new_view_frame};
 use crate::states::{At, PAGE, State, children_at, page_text, root_of};
@@ -14,7 +14,7 @@ use test_bytes::{
 #[derive(Clone, Copy, Debug)]
 pub enum Sent {
     Request(u8),
-    /// The read-only request of client 0 for a read, and for what takes a tuple.
+    /// The read-only request of client 0 for a read, and for an operation that takes a tuple.
     Read,
     ReadOnlyTake,
     /// The answer to the read from the state of this number, 0 or 1, of this replica.
@@ -31,7 +31,7 @@ pub enum Sent {
     Reply(u8, u8),
     /// The checkpoint of this state.
     Checkpoint(u8, State, u8),
-    /// What asks for a part of the state of the number.
+    /// The fetch of a part of the state of the number.
     Fetch(u8, At, u8),
     /// The part of this state, from a replica to another one.
     Part(u8, State, At, u8, u8),
@@ -150,7 +150,7 @@ fn reply(alloc: Global, number: u8, replica: u8) -> Result<Vec<u8>, AllocError> 
     )
 }
 
-// In the opening state nothing is found, and behind the first number its tuple.
+// In the opening state nothing is found, and after the first number its tuple.
 fn read_answer(alloc: Global, number: u8) -> Result<Vec<u8>, AllocError> {
     if number == 0 {
         joined(alloc, &[ABSENT])

@@ -1,6 +1,6 @@
-//! Tests of a replica (`replica`), one of four over real frames: a request that is numbered, prepared, committed,
-//! executed and answered, reads, what comes again, what is dropped, checkpoints, marks that move, states that are
-//! fetched, views that change, and memory refused in each kind of event.
+//! Tests of a replica (`replica`), one of four over real frames. They have a request that is numbered, prepared,
+//! committed, executed and answered; reads; frames that come again, and frames that are dropped; checkpoints, marks
+//! that move, and states that are fetched; views that change; and memory refused in each kind of event.
 #![tactic(auto)]
 
 #[cfg(test)]

@@ -5,8 +5,8 @@ use crate::replicas::{Given, Row, gives_all, replica_of_period};
 use std::alloc::Global;
 use std::test::Fail;
 
-// The primary numbers the request, commits with prepares of two backups, executes with two commits beside its own, and
-// answers. What comes once more than it needs gives nothing.
+// The primary numbers the request, commits with prepares of two backups, executes with two commits beside its own,
+// and answers. Further frames than it needs give nothing.
 pub static AT_PRIMARY: [Row<'static>; 8] = [
     (Sent::Request(1), &[Given::Sends(Sent::PrePrepare(1))]),
     (Sent::Prepare(1, 1), &[]),
@@ -21,7 +21,7 @@ pub static AT_PRIMARY: [Row<'static>; 8] = [
     (Sent::Request(1), &[Given::Sends(Sent::Reply(1, 0))]),
 ];
 
-// A backup prepares what the primary numbered, and commits with the prepare of another one.
+// A backup prepares the batch that the primary numbered, and commits with the prepare of another backup.
 pub static AT_BACKUP: [Row<'static>; 8] = [
     (Sent::Request(1), &[]),
     (Sent::PrePrepare(1), &[Given::Sends(Sent::Prepare(1, 1))]),
@@ -66,7 +66,7 @@ static BACKWARDS: [Row<'static>; 6] = [
     (Sent::Request(1), &[Given::Sends(Sent::Reply(1, 3))]),
 ];
 
-// The request that waits comes again, and what was sent for its number goes out again.
+// The waiting request comes again, and the frames that were sent for its number go out again.
 pub static AGAIN_AT_PRIMARY: [Row<'static>; 5] = [
     (Sent::Request(1), &[Given::Sends(Sent::PrePrepare(1))]),
     (Sent::Request(1), &[Given::Sends(Sent::PrePrepare(1))]),
@@ -96,7 +96,7 @@ pub static AGAIN_AT_BACKUP: [Row<'static>; 6] = [
     ),
 ];
 
-/// A read is answered at once from what is executed, by a replica that waits for others too, and again each time.
+/// A read is answered at once from the executed state, also by a replica that waits for others, and again each time.
 pub static READS: [Row<'static>; 7] = [
     (Sent::Read, &[Given::Sends(Sent::ReadReply(0, 1))]),
     (Sent::PrePrepare(1), &[Given::Sends(Sent::Prepare(1, 1))]),

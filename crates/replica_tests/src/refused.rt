@@ -1,5 +1,6 @@
-//! Memory refused in an event. In a plain run nothing is refused here; `tools/growths` refuses each growth in turn, and
-//! each test passes at each: the replica stops in that event and gives nothing from then on, or gives what it gives.
+//! Memory refused in an event. In a plain run nothing is refused here. `tools/growths` refuses each growth in turn,
+//! and each test passes at each: the replica stops in that event and gives nothing from then on, or gives the
+//! expected outputs.
 
 use crate::checkpoints::{BECOMES_STABLE, FREES_NUMBERS};
 use crate::frames::{Sent, frame_of};
@@ -14,7 +15,7 @@ use std::alloc::{AllocError, Global};
 use std::test::Fail;
 use terms::NoMemory;
 
-// Whether the replica stopped for want of memory, and says so from then on.
+// Whether the replica stopped because memory ran out, and says so from then on.
 fn has_stopped(replica: &mut Replica, alloc: Global, stop: Stop) -> bool {
     stop == Stop::NoMemory
         && replica.is_stopped()
@@ -22,7 +23,7 @@ fn has_stopped(replica: &mut Replica, alloc: Global, stop: Stop) -> bool {
         && replica.step(alloc, Event::Got(b"")).err() == Some(Stop::Stopped)
 }
 
-// The bytes, at the second try where memory ran out at the first one.
+// The bytes, at the second try if memory ran out at the first one.
 fn bytes_of(alloc: Global, sent: Sent) -> Result<Vec<u8>, AllocError> {
     match frame_of(alloc, sent) {
         Ok(frame) => Ok(frame),
@@ -37,7 +38,7 @@ fn is_right(alloc: Global, outputs: &Outputs, all: &[Given]) -> Result<bool, All
     }
 }
 
-// Whether the event gives this; none, where the replica stops in it.
+// Whether the event gives this; none if the replica stops in it.
 fn hears_or_stops(
     replica: &mut Replica,
     alloc: Global,
@@ -74,7 +75,7 @@ fn gives_or_stops(
     }
 }
 
-// Whether each frame gives what it gives, up to one in which the replica stops.
+// Whether each frame gives the expected outputs, up to one in which the replica stops.
 fn gives_all_or_stops(
     replica: &mut Replica,
     alloc: Global,
@@ -90,7 +91,7 @@ fn gives_all_or_stops(
     Ok(true)
 }
 
-// The same of what happens in turn.
+// The same for turns of frames and of time.
 fn moves_or_stops(
     replica: &mut Replica,
     alloc: Global,
@@ -187,7 +188,7 @@ fn refused_memory_where_a_view_begins(rt: HostRuntime) -> Result<(), Fail> {
 
 const ONE: State = State::Behind(1);
 
-// Three replicas say a checkpoint that replica 3 is behind, and time goes by.
+// Three replicas send a checkpoint ahead of replica 3, and time goes by.
 static ASKS_AGAIN: [views::Row<'static>; 4] = [
     (Turn::Comes(Sent::Checkpoint(1, ONE, 0)), &[]),
     (Turn::Comes(Sent::Checkpoint(1, ONE, 1)), &[]),

@@ -1,4 +1,4 @@
-//! One of four replicas, and what it gives.
+//! One of four replicas, and its outputs.
 
 use crate::frames::{Sent, batch, count_of_receivers, frame_of, is_for};
 use crate::states::{State, root_of};
@@ -10,8 +10,7 @@ use std::test::Fail;
 use terms::{NoMemory, Party, ReplicaId};
 use test_bytes::FRAME_SEED;
 
-/// What is given for an event: a frame, the batch of a number that is executed, or a state of a number that is
-/// installed.
+/// An output of an event: a frame, the batch of a number that is executed, or a state of a number that is installed.
 #[derive(Clone, Copy, Debug)]
 pub enum Given {
     Sends(Sent),
@@ -19,7 +18,7 @@ pub enum Given {
     Installs(u8, State),
 }
 
-/// A frame that comes, and what is given for it.
+/// A frame that comes, and the outputs for it.
 pub type Row<'a> = (Sent, &'a [Given]);
 
 /// The configuration of four replicas and three clients, all correct, with a checkpoint at each multiple of the period.
@@ -34,8 +33,8 @@ pub fn new_replica(alloc: Global, config: &Config, me: u8) -> Result<Replica, No
     Replica::new(alloc, config, ReplicaId(me.min(last)), publics)
 }
 
-/// The same in the configuration of this period. It lies in a box: a function that owns all of a replica takes long to
-/// prove.
+/// The same in the configuration of this period. It lies in a box: a function that owns all of a replica takes long
+/// to prove.
 pub fn replica_of_period(alloc: Global, period: u8, me: u8) -> Result<Box<Replica>, Fail> {
     let config = config_of_period(alloc, period)?;
     Ok(Box::new(alloc, new_replica(alloc, &config, me)?)?)
@@ -129,7 +128,7 @@ pub fn gives_for(
     gives(replica, alloc, frame.as_slice(), all)
 }
 
-/// Whether it gives for each frame, one after another, what stands beside it.
+/// Whether the replica gives the expected outputs for each frame, one after another.
 pub fn gives_all(replica: &mut Replica, alloc: Global, rows: &[Row<'_>]) -> Result<bool, Fail> {
     for (sent, all) in rows {
         if !gives_for(replica, alloc, *sent, all)? {

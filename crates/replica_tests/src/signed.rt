@@ -1,4 +1,4 @@
-//! Frames that replicas sign, written by docs/formats.md without what reads them.
+//! Frames that replicas sign, written by docs/formats.md without the code that reads them.
 
 use crate::frames::{batch, digest, eight};
 use crate::states::{State, root_of};
@@ -60,7 +60,7 @@ fn put_signature(alloc: Global, body: &[u8], signature: &[u8]) -> Result<Vec<u8>
     Ok(frame)
 }
 
-// Turns the lowest bit of the last byte, which is the signature's, where it is to be wrong.
+// Turns the lowest bit of the last byte, which is the signature's, if it is to be wrong.
 fn forge(frame: &mut [u8], is_forged: bool) {
     if let Some(byte) = frame.last_mut() {
         *byte ^= u8::from(is_forged);

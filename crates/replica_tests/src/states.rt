@@ -1,5 +1,5 @@
-//! The states of the run, and two that no replica has, by their pages: written by docs/formats.md without what makes
-//! them.
+//! The states of the run, and two that no replica has, by their pages, written by docs/formats.md without the code
+//! that makes them.
 
 use crate::frames::eight;
 use sha2::{Digest, Sha256};
@@ -9,11 +9,11 @@ use test_bytes::joined;
 /// A state of the run, by its pages.
 #[derive(Clone, Copy, Debug)]
 pub enum State {
-    /// That behind so many of its requests.
+    /// The state after so many of its requests.
     Behind(u8),
-    /// The pages of that behind the first one, but for a header of no known version: they are no state's.
+    /// The pages of the state after the first request, with a header of no known version: they are no state's.
     NoState,
-    /// That behind the first two, but for the reply to the first one.
+    /// The state after the first two requests, without the reply to the first one.
     Forgetful,
 }
 
@@ -77,7 +77,7 @@ fn put_digest(bytes: &[u8], out: &mut Vec<u8>) -> Result<(), AllocError> {
     out.extend_from_slice(&digest)
 }
 
-// The digests of an inner part's pages, behind each other.
+// The digests of an inner part's pages, one after another.
 fn pages_below(alloc: Global, state: State, part: u16) -> Result<Vec<u8>, AllocError> {
     let mut digests = Vec::with_capacity(alloc, DIGESTS)?;
     for place in 0..CHILDREN {
@@ -88,7 +88,7 @@ fn pages_below(alloc: Global, state: State, part: u16) -> Result<Vec<u8>, AllocE
     Ok(digests)
 }
 
-// The digests of the inner parts, behind each other.
+// The digests of the inner parts, one after another.
 fn parts_below(alloc: Global, state: State) -> Result<Vec<u8>, AllocError> {
     let mut digests = Vec::with_capacity(alloc, DIGESTS)?;
     for part in 0..CHILDREN {
@@ -98,7 +98,7 @@ fn parts_below(alloc: Global, state: State) -> Result<Vec<u8>, AllocError> {
     Ok(digests)
 }
 
-/// The 32 digests below the root or an inner part, behind each other.
+/// The 32 digests below the root or an inner part, one after another.
 pub fn children_at(alloc: Global, state: State, (level, index): At) -> Result<Vec<u8>, AllocError> {
     if level == INNER {
         pages_below(alloc, state, index)

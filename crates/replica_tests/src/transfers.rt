@@ -13,8 +13,8 @@ const ONE: State = State::Behind(1);
 
 const TWO: State = State::Behind(2);
 
-// A quorum is ahead: its state is fetched, depth first where digests differ, and installed. It is kept then, and the
-// opening state is given up.
+// A quorum is ahead. The replica fetches its state, depth first at each digest that differs, and installs it. Then it
+// keeps that state, and gives up the opening one.
 pub static INSTALLS: [Row<'static>; 15] = [
     (Sent::Checkpoint(1, ONE, 0), &[]),
     (Sent::Checkpoint(1, ONE, 1), &[]),
@@ -60,7 +60,7 @@ pub static INSTALLS: [Row<'static>; 15] = [
     (Sent::Checkpoint(1, ONE, 0), &[]),
 ];
 
-// What is committed above is executed behind the installation.
+// Batches committed above are executed after the installation.
 static EXECUTES_BEHIND: [Row<'static>; 14] = [
     (Sent::PrePrepare(2), &[Given::Sends(Sent::Prepare(2, 3))]),
     (Sent::Prepare(2, 1), &[Given::Sends(Sent::Commit(2, 3))]),
@@ -107,7 +107,7 @@ static EXECUTES_BEHIND: [Row<'static>; 14] = [
     ),
 ];
 
-// Parts that come where none is asked for, and parts of other states, of another number and of other places change
+// Parts that come while none is asked for, and parts of other states, of another number and of other places change
 // nothing.
 static REFUSED: [Row<'static>; 23] = [
     (Sent::Part(1, ONE, ROOT, 0, 3), &[]),
@@ -289,7 +289,7 @@ static TIME_FALLS: [Row<'static>; 17] = [
     (Sent::Request(1), &[Given::Sends(Sent::Reply(1, 3))]),
 ];
 
-// A newer checkpoint overtakes. Pages that were fetched serve on, and the one that was given back is fetched anew.
+// A newer checkpoint overtakes. Fetched pages serve on, and the page that was given back is fetched again.
 static OVERTAKES: [Row<'static>; 10] = [
     (Sent::Checkpoint(2, TWO, 0), &[]),
     (Sent::Checkpoint(2, TWO, 1), &[]),
@@ -419,7 +419,7 @@ static REACHES: [Row<'static>; 11] = [
     ),
 ];
 
-// Executions below the number change what differs: the pages that number 1 made are fetched no more.
+// Executions below the number change the pages that differ: those that number 1 made are fetched no more.
 static GOES_ON: [Row<'static>; 14] = [
     (Sent::Checkpoint(2, TWO, 0), &[]),
     (Sent::Checkpoint(2, TWO, 1), &[]),

@@ -8,17 +8,17 @@ use replica::Replica;
 use std::alloc::Global;
 use std::test::Fail;
 
-/// What happens to a replica: a frame comes, or time goes by.
+/// An input of a replica: a frame comes, or time goes by.
 #[derive(Clone, Copy, Debug)]
 pub enum Turn {
     Comes(Sent),
     Time,
 }
 
-/// What happens, and what is given for it.
+/// An input, and the outputs for it.
 pub type Row<'a> = (Turn, &'a [Given]);
 
-/// What a replica that has ordered nothing says first, to move to view 1.
+/// The first view change, to view 1, of a replica that has ordered nothing.
 const NOTHING: Change = Change {
     sender: 0,
     leaf: 0,
@@ -70,8 +70,8 @@ const TO_2: Change = Change {
     ..NOTHING
 };
 
-/// Replica 2 does nothing as long as no request waits. Where one does, it moves to the next view each time, and says so
-/// again when the request comes again.
+/// Replica 2 does nothing as long as no request waits. If one does, it moves to the next view each time, and sends
+/// its view change again when the request comes again.
 pub static IN_TIME: [Row<'static>; 7] = [
     (Turn::Time, &[]),
     (Turn::Comes(Sent::Request(1)), &[]),
@@ -245,8 +245,9 @@ const RIGHT: Begun = Begun {
 };
 
 // New views that are not taken: those of another sender, or of another sender's view; over two view changes, over one
-// for another view, and over two of one sender; with the null batch at what was prepared, with another batch, with
-// none, and with one more; from a state that nobody lists; with a wrong signature, and over a view change that has one.
+// for another view, and over two of one sender; with the null batch in place of a prepared one, with another batch,
+// with none, and with one more; from a state that nobody lists; with a wrong signature, and over a view change that
+// has one.
 static WRONG: [Begun; 12] = [
     Begun { sender: 2, ..RIGHT },
     Begun { view: 2, ..RIGHT },
@@ -390,7 +391,7 @@ const AHEAD: Begun = Begun {
     is_forged: false,
 };
 
-// What replica 3 says then: it keeps no state from the mark 1 on yet.
+// Replica 3's view change then: it keeps no state from the mark 1 on yet.
 const BEHIND: Change = Change {
     sender: 3,
     view: 2,

@@ -1,4 +1,4 @@
--- What stands at the front of a page's text.
+-- The front of a page's text.
 use Rattle.std.proofs.Common.{◌≡◌, ℕ, zero, suc, ◌+◌, ◌^◌, ◌≤◌, ◌<◌, cond, List, [], ◌∷◌, ◌++◌, length, drop, get_or, Option, Some, None, true, refl, sym, ap, subst, ◌∙◌, arith, inl, inr}
 use Rattle.std.specs.Prelude.{◌==◌}
 use Rattle.std.specs.Int.{w64, to_be_bytes}
@@ -46,7 +46,7 @@ module _ (text front rest : List ℕ) (timestamp number : ℕ) (r : Outcome) (lo
         spelled = number_front text (omega arith) bytes ∙ ap (λ n. to_be_bytes w64 n ++ drop 8 text) (sym is_timestamp) ∙ ap (λ bs. to_be_bytes w64 timestamp ++ bs) (sym is_front ∙ tail);
       }
 
--- what stands behind the numbers of a reply
+-- the bytes after the numbers of a reply
 pub reply_rest : (text : List ℕ) (o : Option Kept) → 16 ≤ length text → SpellsReply text o → (r : Outcome) × SpellsOutcome (drop 16 text) r
 reply_rest text None l h = absurd (let e : length text ≡ 0 = ap length h.spelled in omega arith)
 reply_rest text (Some k) l h = (k.outcome, record { valid = h.valid.answer; spelled = ap (drop 16) h.spelled })

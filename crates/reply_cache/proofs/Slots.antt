@@ -96,7 +96,7 @@ pub AreReplies-none : AreReplies no_replies
 unfolding no_replies
 AreReplies-none = record { all = length-replicate {A = Option Kept} 256 None; each = λ client. subst IsReply (sym (get_or-empty 256 client)) tt }
 
--- what holds is said of each refusal
+-- a property holds of each refusal too
 pub on_err : {T E P : Type 0} (r : Result T E) → P → OnErr r P
 on_err (Ok x) p = tt
 on_err (Err e) p = p

@@ -3,13 +3,13 @@ use Rattle.std.specs.Prelude.{◌≡◌, ℕ, ◌<◌}
 use Rattle.reply_cache.specs.Replies.{Kept, Replies, IsKept, AreReplies, with_reply}
 use Rattle.reply_cache.specs.Pages.{page_text}
 
--- Replies are equal where their pages are.
+-- Replies with equal pages are equal.
 abbrev pub PagesDetermine : Type 0
 PagesDetermine =
     (rs qs : Replies) → AreReplies rs → AreReplies qs
     → ((client : ℕ) → client < 256 → page_text rs client ≡ page_text qs client) → rs ≡ qs
 
--- A reply that is put among replies leaves replies.
+-- A reply that is added to replies leaves replies.
 abbrev pub RepliesStay : Type 0
 RepliesStay =
     (rs : Replies) (client : ℕ) (k : Kept) → AreReplies rs → IsKept k → client < 256

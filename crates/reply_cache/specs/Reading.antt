@@ -1,4 +1,4 @@
--- What the functions that read pages speak of.
+-- Words of the functions that read pages.
 use Rattle.std.specs.Prelude.{◌≡◌, ℕ, ◌<◌, List, [], length, map, slice_index_or, Option, None}
 use Rattle.std.specs.Borrow.{Bor}
 use Rattle.reply_cache.specs.Replies.{Kept, Replies, IsReply}

@@ -1,4 +1,4 @@
--- The last reply to each client. Of each client's requests those run whose timestamp is above that of its last reply
+-- The last reply to each client. A client's request runs only if its timestamp is above that of the client's last reply
 -- (Castro and Liskov, Practical Byzantine fault tolerance and proactive recovery, TOCS 2002, on the client and on
 -- normal-case operation).
 use Rattle.std.specs.Prelude.{◌≡◌, ℕ, ◌^◌, ◌≤◌, ◌<◌, List, length, replicate, slice_index_or, slice_set, Option, Some, None}
@@ -21,7 +21,7 @@ no_replies = replicate 256 None
 abbrev pub last_of : Replies → ℕ → Option Kept
 last_of rs client = slice_index_or rs client None
 
--- The timestamp of the last reply, 0 where there is none.
+-- The timestamp of the last reply, 0 if there is none.
 abbrev pub seen_of : Replies → ℕ → ℕ
 seen_of rs client = option_map_or (λ k. k.timestamp) (last_of rs client) 0
 

@@ -1,4 +1,4 @@
--- Codes of replies, by which a proof tells them apart.
+-- Codes of replies, by which a proof distinguishes them.
 use Rattle.std.specs.Prelude.{ℕ, refl}
 use Rattle.std.specs.Coded.{Coded, code_by, coded_list, coded_option, coded×, coded_ℕ}
 use Rattle.tuple_codec.specs.Operations.{Outcome}

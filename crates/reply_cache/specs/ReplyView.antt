@@ -1,4 +1,4 @@
--- What replies in memory stand for.
+-- The model of the program's replies.
 use Rattle.std.specs.Prelude.{ℕ, ◌-◌, ◌≤◌, List, ◌++◌, length, map, replicate, slice_index_or, Option, Some, None}
 use Rattle.terms.specs.declared.parties.ClientId.{ClientId}
 use Rattle.tuple_codec.specs.OperationView.{outcome_of}
@@ -23,7 +23,7 @@ reply_of (Some r) = Some (kept_of r)
 unfoldable pub padded : List (Option Reply) → Replies
 padded slots = map reply_of slots ++ replicate (256 - length slots) None
 
--- what the slots keep
+-- the invariant of the slots
 pub record AreSlots (slots : List (Option Reply)) : Type 0 where
   pub few : length slots ≤ 256
   pub each : (client : ℕ) → IsReply (reply_of (slice_index_or slots client None))

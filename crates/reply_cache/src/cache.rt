@@ -13,7 +13,7 @@ use std::marker::Model;
 use terms::{ClientId, NoMemory};
 use tuple_codec::{Answer, Bad};
 
-/// How many clients there are at the most.
+/// There are at most so many clients.
 pub const CLIENTS: usize = 256;
 
 /// The reply to a client's last request.
@@ -68,7 +68,7 @@ impl ReplyCache {
         }
     }
 
-    /// The timestamp of the client's last request, 0 where there is none. Takes no memory.
+    /// The timestamp of the client's last request, 0 if there is none. Takes no memory.
     pub fn seen(&self, client: ClientId) -> u64
         ensures { result ≡ seen_of self.now client.number }
     {
@@ -78,9 +78,9 @@ impl ReplyCache {
         }
     }
 
-    /// Keeps the reply to the client's last request in place of the one before. The client is one of 0 to 255, and
-    /// `timestamp` from 1 on. NoMemory comes only where neither the client nor one of a higher number has a reply yet.
-    /// It changes nothing.
+    /// Keeps the reply to the client's last request instead of the one before. The client is one of 0 to 255, and
+    /// `timestamp` from 1 on. NoMemory is returned only if neither the client nor one of a higher number has a reply
+    /// yet. It changes nothing.
     pub fn put(
         &mut self,
         client: ClientId,
@@ -106,7 +106,7 @@ impl ReplyCache {
     }
 
     /// The text of the client's page: empty without a reply, else the timestamp and the number in 8 bytes each, high
-    /// byte first, and the spelling of the answer. NoMemory where memory runs out.
+    /// byte first, and the spelling of the answer. NoMemory if memory runs out.
     pub fn page_text(&self, client: ClientId) -> Result<Vec<u8>, NoMemory>
         ensures { IfOk result (λ text. text.items ≡ page_text self.now client.number) }
     {
@@ -121,13 +121,13 @@ impl ReplyCache {
     ///
     /// # Errors
     ///
-    /// Malformed where these are the pages of no replies: a timestamp is 0, an answer isn't spelled, or there are not
-    /// 256 texts. That is judged before memory is asked for. NoMemory where memory runs out.
+    /// Malformed if these are the pages of no replies: a timestamp is 0, an answer isn't spelled, or there are not 256
+    /// texts. That is judged before memory is allocated. NoMemory if memory runs out.
     pub fn from_pages(alloc: Global, pages: &[&[u8]]) -> Result<ReplyCache, Bad>
-        // What is read has these pages.
+        // The replies that were read have these pages.
         ensures found { IfOk result (λ c. ArePages (texts_of pages.now) c) }
 
-        // Texts that are the pages of no replies are refused as such, whatever memory there is.
+        // Texts that are the pages of no replies are refused as malformed, whatever memory there is.
         ensures memory { (result ≡ Err Bad.NoMemory) → AreSomePages (texts_of pages.now) }
 
         // The replies with these pages are read, unless memory runs out.
@@ -168,7 +168,7 @@ fn add_slot(slots: &mut Vec<Option<Reply>>, slot: Option<Reply>) -> Result<(), N
     Ok(slots.push(slot)?)
 }
 
-// Adds empty slots up to that of the client. An `Err` keeps what the slots stand for.
+// Adds empty slots up to that of the client. An `Err` keeps the same replies.
 fn reach(slots: &mut Vec<Option<Reply>>, client: usize) -> Result<(), NoMemory>
     requires client { client < 256 }
     requires slots { AreSlots slots.old.items }

@@ -2,12 +2,12 @@
 
 ghost use Rattle.reply_cache.specs.Laws.{PagesDetermine, RepliesStay};
 
-/// Replies are equal where their pages are.
+/// Replies with equal pages are equal.
 pub fn pages_determine()
     ensures { PagesDetermine }
 {}
 
-/// A reply that is put among replies leaves replies.
+/// A reply that is added to replies leaves replies.
 pub fn replies_stay_replies()
     ensures { RepliesStay }
 {}

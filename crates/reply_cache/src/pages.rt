@@ -15,7 +15,7 @@ use std::alloc::Global;
 use terms::NoMemory;
 use tuple_codec::{Answer, Bad, decode_result, encode_result, is_result};
 
-// How many bytes stand before the answer.
+// The number of bytes before the answer.
 const NUMBERS_LEN: usize = 16;
 
 /// Appends the text of a reply.

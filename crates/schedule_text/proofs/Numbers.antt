@@ -12,7 +12,7 @@ use Rattle.schedule_text.specs.declared.fault.StepFault.TheVariants.{Refused, No
 pub number_utf8 : (n : ℕ) (word : List ℕ) → NumberText n word → IsUtf8 word
 number_utf8 n word h = subst IsUtf8 (sym h.0) (IsUtf8-from_ascii (decimal n) (IsAscii-decimal n h.1))
 
--- what refuses one thing refuses another, where the second would be the first
+-- a reason to refuse Q is a reason to refuse P, if P implies Q
 pub because : (fault : StepFault) {P Q : Type 0} → (P → Q) → Because fault P → Because fault Q
 because Refused f h = f h
 because NoMemory f h = tt

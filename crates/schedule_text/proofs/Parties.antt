@@ -11,7 +11,7 @@ use Rattle.schedule_text.specs.Reading.{PartyText, ClientText, PartiesText}
 use Rattle.schedule_text.proofs.Numbers.{differ}
 use Rattle.schedule_text.proofs.Pieces.{NoneBefore}
 
--- behind an r stands the number of a replica, behind a c that of a client
+-- the number of a replica follows an r, that of a client a c
 replica_case : (p : ℕ) (digits : List ℕ) (s : Bool) → nat_lt p 256 ≡ s → 114 ∷ digits ≡ cond s (114 ∷ decimal p) (99 ∷ decimal (p - 256)) → (p < 256) × (digits ≡ decimal p)
 replica_case p digits true e h = (ltb-true p 256 e, cc)
 replica_case p digits false e h = absurd (differ 114 99 digits (decimal (p - 256)) refl h)
@@ -74,7 +74,7 @@ commas_more : (ps : List ℕ) → Commas (more_parties_text ps)
 commas_more [] = tt
 commas_more (p ∷ ps) = refl
 
--- ---- where a text is parted at its first comma
+-- ---- a text that is parted at its first comma
 
 parts_once : (xs ys us vs : List ℕ) → NoComma xs → NoComma ys → Commas us → Commas vs → xs ++ us ≡ ys ++ vs → (xs ≡ ys) × (us ≡ vs)
 parts_once [] [] us vs h k c d e = (refl, e)
@@ -100,7 +100,7 @@ commas_in [] (suc n) within found = absurd (omega arith)
 commas_in (b ∷ bs) zero within found = found (omega arith)
 commas_in (b ∷ bs) (suc n) within found = commas_in bs n (omega arith) (λ p. found (omega arith))
 
--- A list of parties whose text is parted so: the first stands before the comma, and the others behind it.
+-- A list of parties whose text is parted at a comma: the first party stands before the comma, the others after it.
 abbrev Parted : List ℕ → List ℕ → ℕ → List ℕ → Type 0
 Parted front behind q qs = PartyText q front × (behind ≡ more_parties_text qs) × All IsParty qs
 
@@ -173,7 +173,7 @@ at_comma rest front behind n within before found f b = record {
   comma = subst Commas (sym b) (commas_in rest n within found);
 }
 
--- what stands before the comma is no party's, and so the word is no list's
+-- the bytes before the comma are no party's text, and so the word is no list's text
 pub no_parties : (done rest word front behind : List ℕ) → Leaves done rest word → At rest front behind
     → ((p : ℕ) → PartyText p front → ⊥) → (ps : List ℕ) → PartiesText ps word → ⊥
 no_parties done rest word front behind l a none ps h =
@@ -187,7 +187,7 @@ last_party done rest word front [] p l a few h =
     leaves_none done word front p (subst (λ t. Leaves done t word) (a.whole ∙ append-nil front) l) h
 last_party done rest word front (b ∷ bs) p l a few h = absurd (omega arith)
 
--- what is left behind the comma
+-- the rest after the comma
 abbrev pub behind_comma : List ℕ → List ℕ
 behind_comma behind = take (length behind - 1) (drop 1 behind)
 

@@ -8,7 +8,7 @@ use Rattle.schedule_text.specs.Reading.{IsFirst}
 abbrev pub NoneBefore : ℕ → List ℕ → ℕ → Type 0
 NoneBefore byte xs n = (k : ℕ) → k < n → slice_index xs k ≢ byte
 
--- where the text parts at its first blank
+-- n parts the text at its first blank
 abbrev Parts : List ℕ → ℕ → Type 0
 Parts xs n = (take n xs ≡ before_blank xs) × (drop n xs ≡ from_blank xs)
 
@@ -31,7 +31,7 @@ parts (b ∷ bs) zero within before found = parts_at b bs (found (omega arith))
 parts (b ∷ bs) (suc n) within before found =
     parts_behind b bs n (before 0 (omega arith)) (parts bs n (omega arith) (none_behind 32 b bs n before) (λ p. found (omega arith)))
 
--- What is left behind blanks begins with none.
+-- The rest after blanks begins with no blank.
 abbrev Starts : List ℕ → Type 0
 Starts [] = Unit {0}
 Starts (b ∷ bs) = (b == 32) ≡ false

@@ -41,7 +41,7 @@ is_none line word rest first plain none = (
   λ step h. none step (named line word rest first step h),
 )
 
--- what refuses the words behind the name refuses the line
+-- a reason to refuse the words after the name is one to refuse the line
 pub refuses : (line word rest : List ℕ) → IsFirst line word rest → (IsComment line → ⊥) → (fault : StepFault)
     → Because fault ((step : schedules.Step) → IsNamed word rest step → ⊥) → Refuses fault line
 refuses line word rest first plain Refused h = is_none line word rest first plain h

@@ -1,4 +1,4 @@
--- What refusals of parts make of a line.
+-- The faults of a line if parts of it are refused.
 use Rattle.hex.specs.declared.error.FromHexError.{FromHexError}
 use Rattle.hex.specs.declared.error.FromHexError.TheVariants as hex
 use Rattle.tuple_text.specs.declared.faults.LineFault.{LineFault}

@@ -1,4 +1,4 @@
--- What reading a line tells of it.
+-- The results of reading a line.
 use Rattle.std.specs.Prelude.{List, ℕ, Option, MatchOption, Result, MatchResult}
 use Rattle.tuple_text.specs.Lines.{IsSkipped}
 use Rattle.protocol.specs.System.Schedule as schedules
@@ -8,11 +8,11 @@ use Rattle.schedule_text.specs.declared.fault.StepFault.TheVariants.{Refused, No
 use Rattle.schedule_text.specs.Steps.{IsStep}
 use Rattle.schedule_text.specs.StepView.{step_of}
 
--- the line is the step's, or there is none, and the line is skipped
+-- the step is that of the line, or there is none and the line is skipped
 abbrev pub IsRead : List ℕ → Option Step → Type 0
 IsRead line read = MatchOption read (IsSkipped line) (λ step. IsStep (step_of step) line)
 
--- the line is not skipped, and is no step's
+-- the line is not skipped, and is the text of no step
 abbrev pub IsNone : List ℕ → Type 0
 IsNone line = (IsSkipped line → ⊥) × ((step : schedules.Step) → IsStep step line → ⊥)
 

@@ -1,4 +1,4 @@
--- What the functions tell that read words of a line. The contracts of private functions speak of these.
+-- The results of reading words of a line, for the contracts of private functions.
 use Rattle.std.specs.Prelude.{◌≡◌, ◌≢◌, ℕ, ◌+◌, List, [], Result, MatchResult, All}
 use Rattle.std.specs.Fmt.{decimal}
 use Rattle.protocol.specs.System.Schedule as schedules
@@ -9,7 +9,7 @@ use Rattle.schedule_text.specs.Steps.{party_text, parties_text, IsParty, IsWord,
 use Rattle.schedule_text.specs.StepView.{step_of}
 use Rattle.schedule_text.specs.Words.{first_word, after_word}
 
--- what stands as a word
+-- the texts of values as words
 abbrev pub NumberText : ℕ → List ℕ → Type 0
 NumberText n word = (word ≡ decimal n) × IsWord n
 
@@ -27,12 +27,12 @@ abbrev pub Because : StepFault → Type 0 → Type 0
 Because Refused why = why
 Because NoMemory why = Unit {0}
 
--- The text is that of the value, or of none.
+-- The text is that of the value, or of no value.
 abbrev pub JudgesText : {V S : Type 0} → (V → S) → (S → List ℕ → Type 0) → List ℕ → Result V StepFault → Type 0
 JudgesText view IsText text result =
     MatchResult result (λ v. IsText (view v) text) (λ fault. Because fault ((s : _) → IsText s text → ⊥))
 
--- the first word, which is not empty, and what is left behind it
+-- the first word, which is not empty, and the rest after it
 pub record IsFirst (line word rest : List ℕ) : Type 0 where
   pub some : word ≢ []
   pub first : first_word line ≡ word
@@ -44,19 +44,19 @@ pub record Passes (IsText : List ℕ → Type 0) (line rest : List ℕ) : Type 0
   pub text : IsText (first_word line)
   pub behind : rest ≡ after_word line
 
--- The first word is that of the value and is passed, or is that of none.
+-- The first word is the text of the value and is passed, or is the text of no value.
 abbrev pub ReadsWord : {V S : Type 0} → (V → S) → (S → List ℕ → Type 0) → List ℕ → Result V StepFault → List ℕ → Type 0
 ReadsWord view IsText line result rest =
     MatchResult result (λ v. Passes (IsText (view v)) line rest)
     (λ fault. Because fault ((s : _) → first_word line ≢ [] → IsText s (first_word line) → ⊥))
 
--- a step of this name, of whose line this is left
+-- a step of this name, with this rest of the line after the name
 pub record IsNamed (name_read rest : List ℕ) (step : schedules.Step) : Type 0 where
   pub named : name step ≡ name_read
   pub arguments : Arguments step rest
   pub range : HasRange step
 
--- What is left behind the name is that of the step, or of none.
+-- The rest after the name is that of the step, or of no step.
 abbrev pub JudgesNamed : List ℕ → List ℕ → Result Step StepFault → Type 0
 JudgesNamed name_read rest result =
     MatchResult result (λ step. IsNamed name_read rest (step_of step))

@@ -1,4 +1,4 @@
--- What a step of the program stands for.
+-- The plain step that a Rust value stands for.
 use Rattle.std.specs.Prelude.{map}
 use Rattle.terms.specs.Parties.{party_number}
 use Rattle.tuple_codec.specs.OperationView.{operation_of}

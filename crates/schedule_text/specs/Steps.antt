@@ -34,7 +34,7 @@ name (sign replica leaf receivers body) = codes "sign"
 name (ticks party) = codes "tick"
 name flush = codes "flush"
 
--- what stands behind the name
+-- the words after the name
 abbrev pub Arguments : Step → List ℕ → Type 0
 Arguments (calls client op) rest = (first_word rest ≡ decimal client) × IsLine op (after_word rest)
 Arguments (deliver frame party) rest = HasWords (decimal frame ∷ party_text party ∷ []) rest

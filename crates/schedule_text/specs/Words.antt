@@ -1,4 +1,4 @@
--- The words of a line: what stands between its blanks.
+-- The words of a line, which blanks separate.
 use Rattle.std.specs.Prelude.{◌≡◌, ◌≢◌, ℕ, ◌==◌, if◌then◌else◌, List, [], ◌∷◌}
 
 -- without the blanks in front
@@ -15,7 +15,7 @@ abbrev pub from_blank : List ℕ → List ℕ
 from_blank [] = []
 from_blank (b ∷ bs) = if b == 32 then b ∷ bs else from_blank bs
 
--- the first word of a line, and the line behind it and the blanks that follow
+-- the first word of a line, and the rest after it and the blanks that follow it
 abbrev pub first_word : List ℕ → List ℕ
 first_word line = before_blank (trimmed line)
 

@@ -1,4 +1,4 @@
-//! What the words of a step stand for.
+//! The values of a step's words.
 
 ghost use Rattle.std.specs.Prelude.{map};
 ghost use Rattle.terms.specs.Parties.{party_number};
@@ -15,7 +15,7 @@ use terms::{ClientId, Party, ReplicaId};
 // The number of the last client that a frame can name.
 const LAST_CLIENT: u16 = 65_279;
 
-/// The number that is written so, without a sign or a leading zero.
+/// The number of this decimal text, without a sign or a leading zero.
 pub(crate) fn number_of(word: &[u8]) -> Result<u64, StepFault>
     ensures { JudgesText (λ n. n) NumberText word.now result }
 {
@@ -33,7 +33,7 @@ pub(crate) fn number_of(word: &[u8]) -> Result<u64, StepFault>
     }
 }
 
-/// The party that is written so: replica 0 as `r0`, client 0 as `c0`.
+/// The party of this text: replica 0 is `r0`, client 0 is `c0`.
 pub(crate) fn party_of(word: &[u8]) -> Result<Party, StepFault>
     ensures { JudgesText party_number PartyText word.now result }
 {
@@ -62,7 +62,7 @@ pub(crate) fn client_of(digits: &[u8]) -> Result<ClientId, StepFault>
     }
 }
 
-/// The parties that are written so, with commas between them.
+/// The parties of this text, with commas between them.
 pub(crate) fn parties_of(alloc: Global, word: &[u8]) -> Result<Vec<Party>, StepFault>
     ensures { JudgesText (λ ps. map party_number ps.items) PartiesText word.now result }
 {

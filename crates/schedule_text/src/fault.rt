@@ -8,7 +8,7 @@ use tuple_text::LineFault;
 /// Why a line gives no step.
 #[derive(Clone, Copy, Debug, PartialEq, Eq, Error)]
 pub enum StepFault {
-    /// It is the text of no step.
+    /// The line is the text of no step.
     #[error("the line is no step")]
     Refused,
     #[error("out of memory")]

@@ -2,8 +2,8 @@
 //!
 //! # What is proved
 //!
-//! `read_step` gives a step exactly where the line is its text (`IsStep`), nothing exactly where the line is skipped,
-//! and else a refusal that holds. That a step may come where it stands is no matter of its text.
+//! `read_step` gives a step exactly if the line is its text (`IsStep`), nothing exactly if the line is skipped, and
+//! otherwise a refusal that holds. Whether a step may come at its place is no matter of its text.
 #![tactic(auto)]
 
 mod arguments;

@@ -14,14 +14,14 @@ use terms::ClientId;
 use tuple_codec::Op;
 use tuple_text::read_line;
 
-/// The step of a line, which comes without its line end; `None` where the line is empty, of blanks alone, or begins
-/// with a hash.
+/// The step of a line, which comes without its line end. `None` if the line is empty, of blanks alone, or begins with
+/// a hash.
 ///
 /// # Errors
 ///
-/// Refused where the line is the text of no step, and NoMemory where memory runs out.
+/// Refused if the line is the text of no step, and NoMemory if memory runs out.
 pub fn read_step(alloc: Global, line: &[u8]) -> Result<Option<Step>, StepFault>
-    // What is read stands there, and what is refused is the text of no step.
+    // The given step is that of the line, and a refused line is the text of no step.
     ensures answer { JudgesLine line.now result }
     ensures skipped { IsSkipped line.now → result ≡ Ok None }
 {
@@ -47,7 +47,7 @@ fn is_word(word: &[u8], name: &[u8]) -> bool
     word == name
 }
 
-// The step of this name, of which the other words are left.
+// The step of this name, from the words after it.
 fn read_named(alloc: Global, name: &[u8], words: Words<'_>) -> Result<Step, StepFault>
     ensures { JudgesNamed name.now words.entry.rest.now result }
 {
@@ -70,7 +70,7 @@ fn read_named(alloc: Global, name: &[u8], words: Words<'_>) -> Result<Step, Step
     }
 }
 
-// Behind the client stands the line of an operation.
+// The line of an operation follows the client.
 fn read_invoke(alloc: Global, mut words: Words<'_>) -> Result<Step, StepFault>
     ensures { JudgesNamed (codes "invoke") words.entry.rest.now result }
 {

@@ -4,7 +4,7 @@ use std::alloc::Global;
 use terms::{ClientId, Party};
 use tuple_codec::Op;
 
-/// What a schedule does next.
+/// The next step of a schedule.
 #[derive(Drop)]
 pub enum Step {
     /// The client calls the operation.
@@ -35,7 +35,7 @@ pub enum Step {
         receivers: Vec<Party>,
         body: Vec<u8>,
     },
-    /// The party is told that time went by.
+    /// The party hears that time went by.
     Tick {
         party: Party,
     },

@@ -1,4 +1,4 @@
-//! The words of a line: what stands between its blanks.
+//! The words of a line, which blanks separate.
 
 ghost use Rattle.std.specs.Prelude.{◌≡◌, ◌≢◌, ◌≤◌, ◌<◌, ℕ, [], length, map, slice_index, MatchOption, MatchResult};
 ghost use Rattle.terms.specs.Parties.{party_number};
@@ -11,7 +11,7 @@ use crate::fault::StepFault;
 use std::alloc::Global;
 use terms::{ClientId, Party};
 
-/// How many bytes stand before the first such byte, or how many there are.
+/// How many bytes stand before the first byte of this value, or how many there are.
 pub(crate) fn len_before(byte: u8, text: &[u8]) -> usize
     ensures within { result ≤ length text.now }
     ensures before { (k : ℕ) → k < result → slice_index text.now k ≢ byte }
@@ -23,7 +23,7 @@ pub(crate) fn len_before(byte: u8, text: &[u8]) -> usize
     }
 }
 
-/// What is left of a line, of which words are read.
+/// The rest of a line, from which words are read.
 #[derive(Drop)]
 pub(crate) struct Words<'a> {
     rest: &'a [u8],
@@ -36,14 +36,14 @@ impl<'a> Words<'a> {
         Words { rest: line }
     }
 
-    /// What is left behind the words that were read, and the blanks behind them.
+    /// The rest after the words that were read and the blanks after them.
     pub(crate) fn rest(&self) -> &'a [u8]
         ensures { result.now ≡ self.now.rest.now }
     {
         self.rest
     }
 
-    /// The next word, and it is passed with the blanks around it.
+    /// The next word. It is passed, with the blanks around it.
     pub(crate) fn next(&mut self) -> Option<&'a [u8]>
         ensures { MatchOption result (trimmed self.old.rest.now ≡ [])
             (λ w. IsFirst self.old.rest.now w.now self.new.rest.now) }
@@ -66,7 +66,7 @@ impl<'a> Words<'a> {
         }
     }
 
-    /// The next word, where there is one.
+    /// The next word, or Refused if there is none.
     pub(crate) fn word(&mut self) -> Result<&'a [u8], StepFault>
         ensures { MatchResult result (λ w. IsFirst self.old.rest.now w.now self.new.rest.now)
             (λ fault. trimmed self.old.rest.now ≡ []) }
@@ -112,7 +112,7 @@ impl<'a> Words<'a> {
         bytes_of(alloc, word)
     }
 
-    /// There is no further word.
+    /// Refused if there is a further word.
     pub(crate) fn end(&mut self) -> Result<(), StepFault>
         ensures { MatchResult result (λ _. trimmed self.old.rest.now ≡ [])
             (λ fault. Because fault (trimmed self.old.rest.now ≡ [] → ⊥)) }

@@ -60,8 +60,8 @@ fn ring(alloc: Global) -> Ring {
     Ring::new(alloc, &seed(), 1, 2)
 }
 
-// The request's frame for one receiver. A body is dropped by a call: at the end of a function all kinds of messages are
-// told apart.
+// The request's frame for one receiver. A body is dropped by a call: a drop at the function's end has a case for each
+// kind of message.
 fn sealed_for(
     ring: &mut Ring,
     alloc: Global,
@@ -149,7 +149,7 @@ fn refusal(ring: &mut Ring, alloc: Global, bytes: &[u8], me: Party) -> Option<Op
     ring.open(alloc, bytes, me).err()
 }
 
-// Whether the party opens it. Want of memory is no answer, and is handed on.
+// Whether the party opens it. Out of memory is no answer, and is handed on.
 fn is_opened(ring: &mut Ring, alloc: Global, bytes: &[u8], me: Party) -> Result<bool, OpenFault> {
     match refusal(ring, alloc, bytes, me) {
         None => Ok(true),
@@ -184,7 +184,7 @@ fn a_request_for_four_replicas(rt: HostRuntime) -> Result<(), Fail> {
     Ok(())
 }
 
-// Changes the last byte of the entry for replica 1, where the frame has its length.
+// Changes the last byte of the entry for replica 1, if the frame has its length.
 fn change_entry_of_1(frame: &mut [u8]) -> bool {
     if frame.len() != 165 {
         return false;
@@ -340,7 +340,7 @@ fn body_of_client(alloc: Global) -> Result<Body, Bad>
     }
 }
 
-// The body's frame for the four replicas, at the second try where memory ran out at the first one.
+// The body's frame for the four replicas, at the second try if memory ran out at the first one.
 fn sealed_body(ring: &mut Ring, alloc: Global, body: &Body) -> Result<Vec<u8>, SealFault>
     requires said { IsBody (body_data body.now) }
     requires unsigned { is_signed (message_data body.now.message) ≡ false }
@@ -382,8 +382,8 @@ fn opens_each_time(ring: &mut Ring, alloc: Global, bytes: &[u8]) -> Result<bool,
     Ok(true)
 }
 
-// Passes whichever growth is refused, as by `tools/growths`: a second try gives what the first one
-// gives where nothing is refused, so the ring still has its seed and its parties.
+// Passes whichever growth is refused, as by `tools/growths`: a second try gives the same as the first one gives if
+// nothing is refused, so the ring still has its seed and its parties.
 #[test]
 fn refusals_change_nothing(rt: HostRuntime) -> Result<(), Fail> {
     let mut ring = ring(rt.alloc());

@@ -1,4 +1,4 @@
-//! Tests of what proves who said a message: codes and sealed frames (`authenticator`), and signatures (`signing`).
+//! Tests of the proofs of a message's sender: codes and sealed frames (`authenticator`), and signatures (`signing`).
 #![tactic(auto)]
 
 #[cfg(test)]

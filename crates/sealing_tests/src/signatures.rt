@@ -33,7 +33,7 @@ fn tree_of(byte: u8) -> KeyTree {
     KeyTree::new(&[byte; 32])
 }
 
-// By the next leaf, at the second try where memory ran out at the first one. That spends no leaf.
+// By the next leaf, at the second try if memory ran out at the first one. That spends no leaf.
 fn signed(signer: &mut Signer, alloc: Global) -> Result<Signature, SignFault> {
     match signer.sign(alloc, b"a text") {
         Err(SignFault::NoMemory) => signer.sign(alloc, b"a text"),
@@ -41,7 +41,7 @@ fn signed(signer: &mut Signer, alloc: Global) -> Result<Signature, SignFault> {
     }
 }
 
-// By leaf 37, at the second try where memory ran out at the first one.
+// By leaf 37, at the second try if memory ran out at the first one.
 fn signed_by_37(tree: &KeyTree, alloc: Global) -> Result<Signature, AllocError> {
     match tree.sign_with(alloc, 37, b"a text") {
         Ok(signature) => Ok(signature),
@@ -56,8 +56,8 @@ fn copied(alloc: Global, signature: &Signature) -> Result<Option<Signature>, All
     }
 }
 
-// Passes whichever growth is refused, as by `tools/growths`: a second try gives what the first one
-// gives where nothing is refused, by the same leaf.
+// Passes whichever growth is refused, as by `tools/growths`: a second try gives the same as the first one gives if
+// nothing is refused, by the same leaf.
 #[test]
 fn a_signer(rt: HostRuntime) -> Result<(), Fail> {
     let mut signer = signer_of(0);

@@ -43,7 +43,7 @@ fn are_taken<N: Naming + Send + Sync + 'static>(
     )
 }
 
-// Each correct replica is needed, since nobody tells the others that time goes by.
+// Each correct replica is needed, because nobody tells the others that time goes by.
 fn answers_all<N: Naming + Send + Sync + 'static, R: Threads + Wait + Clock + Sync>(
     rt: &R,
     alloc: Global,

@@ -1,5 +1,5 @@
-//! Calls in a thread of their own, which the test looks after. So it goes on if memory runs out in a node without which
-//! they have no answer.
+//! Calls in a thread of their own, which the test watches. So the test goes on if memory runs out in a node that the
+//! calls need.
 
 use journal::Naming;
 use space_node::{CallFault, ClientHandle, Cluster};
@@ -14,7 +14,7 @@ use terms::{ClientId, NoMemory, Party};
 use tuple_codec::{Answer, Op};
 use tuple_text::{read_line, write_answer};
 
-// After so many looks, with a pause of a millisecond after each, the clients are told that time went by.
+// After so many looks, with a pause of a millisecond after each, the clients hear that time went by.
 const LOOKS_OF_CLIENTS: u32 = 500;
 
 // After so many the calls have no answer.
@@ -29,9 +29,9 @@ pub const TRIES: u32 = 2;
 /// The line of a call, and the line of its answer.
 pub type Call = (&'static str, &'static str);
 
-/// Has the client call one operation after another, and says whether all were answered so. If more nodes stop than the
-/// calls can spare, or no answer comes, the cluster ends, and the `Err` says that memory may have run out. So does it
-/// where no thread starts: the calls come last then, when the cluster has ended.
+/// Has the client call one operation after another, and says whether all were answered so. If more nodes stop than
+/// the calls can spare, or no answer comes, the cluster ends, and the `Err` says that memory may have run out. The
+/// same happens if no thread starts: the calls then come after the cluster has ended.
 pub fn call_each<N: Naming + Send + Sync + 'static, R: Threads + Wait + Clock + Sync>(
     rt: &R,
     alloc: Global,

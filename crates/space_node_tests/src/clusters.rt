@@ -1,4 +1,4 @@
-//! Clusters of two clients: their configuration, their clients' handles, and the run that they come to.
+//! Clusters of two clients: their configuration, their clients' handles, and their runs.
 
 use events::Config;
 use journal::Naming;
@@ -23,8 +23,8 @@ pub fn config_of(
     Ok(Config::new(faults, 2, seed(), 4, replicas, clients)?)
 }
 
-/// Puts the handle of the client of this number behind those that were taken before, and says whether there was one. No
-/// other function owns a handle, since each of its exits would have to drop it.
+/// Puts the handle of the client of this number after those that were taken before, and says whether there was one.
+/// No other function owns a handle, because each of its exits would have to drop it.
 pub fn take_client<N: Naming + Send + Sync + 'static>(
     cluster: &mut Cluster<N>,
     clients: &mut Vec<ClientHandle<N>>,

@@ -54,7 +54,7 @@ static CALLS: [Call; 6] = [
 
 static LATE_CALL: [Call; 1] = [("rdp (*)", "absent")];
 
-// How often a client calls on, with a pause before each call, so that it takes what came late.
+// How often a client calls on, with a pause before each call, so that it takes late frames.
 const LATE_CALLS: u32 = 20;
 
 // Each correct replica is needed.

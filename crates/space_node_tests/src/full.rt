@@ -15,8 +15,9 @@ use terms::{ClientId, Party};
 use tuple_codec::Op;
 use tuple_tree::Tuple;
 
-// A journal's limit, how often the client is told that time went by before it calls, and how many entries the trace has
-// in the end, where that is certain. It is told more often than the limit needs, since memory may run out for one.
+// A journal's limit, how often the client hears that time went by before it calls, and how many entries the trace has
+// at the end, if that is certain. The client hears it more often than the limit needs, because memory may run out
+// once.
 struct Row {
     limit: u32,
     pulses: u8,

@@ -1,4 +1,4 @@
-//! A gate that holds nodes, and what it and a test tell each other.
+//! A gate that holds nodes, and the flags that it shares with a test.
 
 use space_node::Gate;
 use std::alloc::{AllocError, Global};
@@ -11,7 +11,7 @@ use std::time::Duration;
 // How often a flag is looked at, with a pause of a millisecond each time.
 const TURNS: u32 = 10_000;
 
-/// What a gate and its test tell each other.
+/// The flags that a gate and its test share.
 #[derive(Drop)]
 pub struct Flags {
     // By the number of the node: whether it is to be held.
@@ -46,7 +46,7 @@ impl Flags {
         self.opened.store(1, Ordering::SeqCst);
     }
 
-    /// Waits until the node is seen inside, for so many turns at the most.
+    /// Waits until the node is seen inside, for at most so many turns.
     pub fn see<R: Clock>(&self, rt: &R, node: usize) -> bool {
         match self.inside.get(node) {
             Some(inside) => waits_for(rt, inside),

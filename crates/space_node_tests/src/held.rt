@@ -16,7 +16,7 @@ use std::test::Fail;
 use std::thread::Threads;
 use terms::{NoMemory, Party, ReplicaId};
 
-// What is called before nodes are held and while they are, and which they are.
+// The calls before nodes are held and while they are, and these nodes.
 struct Holding {
     first: &'static [Call],
     then: &'static [Call],

@@ -12,7 +12,7 @@ use std::sync::Wait;
 use std::test::Fail;
 use std::thread::Threads;
 
-// What came of a cluster.
+// The result of a cluster.
 #[derive(Clone, Copy, PartialEq, Eq)]
 enum Came {
     /// A trace of no entries, and the shares of four replicas.

@@ -32,7 +32,7 @@ other_bytes xs ys other = elim (cases_Bool (bytes_eq xs ys)) [
   | inr unlike ↦ unlike
 ]
 
--- what a comparison that failed tells
+-- a failed comparison shows that the digests differ
 pub digests_differ : (same : Bool) (a b digest : List ℕ) → same ≡ bytes_eq a b → same ≡ false → a ≡ digest → digest ≢ b
 digests_differ same a b digest told unlike is e = both_ways same unlike (told ∙ same_bytes a b (is ∙ e))
 
@@ -61,7 +61,7 @@ fitting_kept : (digest : List ℕ) (told : Option (List (List ℕ))) (children :
 fitting_kept digest None children e = cc
 fitting_kept digest (Some digests) children e = ap Some (cond_some (bytes_eq (digest_of_children digests) digest) digests children e).1
 
--- what is kept is of 32 children
+-- the kept digests are of 32 children
 pub fitting_whole : (digest : List ℕ) (told : List (Option (List (List ℕ)))) (j : ℕ) (children : List (List ℕ)) → length told ≡ 32 → j < 32
     → All (λ digests. ForSome digests AreOfChildren) told → fitting digest (get_or told j None) ≡ Some children → length children ≡ 32
 fitting_whole digest told j children count h all e =
@@ -104,7 +104,7 @@ module _ (t : TransferData) where
       let held = held_at t.held place.level place.index in
       ap (λ (known : Option (List ℕ)). option_map_or (λ d. not (bytes_eq d held)) known false) e ∙ ap not (other_bytes digest held h)
 
-  -- ---- where nothing is missing
+  -- ---- if nothing is missing
 
   missing_in_same_root : differs t root_place ≡ false → (level : Level) (index : ℕ) → is_missing t (record { level = level; index = index }) ≡ false
   missing_in_same_root e Root index = first_fails (differs t root_place) true (not (is_told_at t Root index)) e
@@ -138,7 +138,7 @@ module _ (t : TransferData) where
       ap (λ b. cond b (Some (inner_place j)) (find (is_missing t) (map page_place (range_with_len (32 * j) 32)))) (missing_in_same_root same_root Inner j)
       ∙ found_none_in_range (is_missing t) page_place (32 * j) 32 (λ i l m. missing_in_same_root same_root Page i))
 
-  -- ---- what is missing first
+  -- ---- the first missing place
 
   root_differs : root_of t.held ≢ t.root → differs t root_place ≡ true
   root_differs e = other root_place t.root refl (λ h. e (sym h))
@@ -210,7 +210,7 @@ module _ (t : TransferData) where
             let same_text : differs t (page_place (32 * j + s)) ≡ false = same (page_place (32 * j + s)) (get_or pages s []) (digest_of_page_is s within) (page.before s below ∙ page_digest t.held j s all small within) in
             subst (λ (k : ℕ). is_missing t (page_place k) ≡ false) at (same_page (32 * j + s) same_text)))
 
--- ---- what the code finds
+-- ---- the place that the code finds
 
 pub root_is_first : (t : TransferData) (place : Place) → root_of t.held ≢ t.root → t.part_digests ≡ None → place ≡ root_place → IsFirstMissing t (record { place = place; digest = t.root })
 root_is_first t place differ unknown is = record {

@@ -1,4 +1,4 @@
--- What a new transfer has.
+-- The parts of a new transfer.
 use Rattle.std.proofs.Common.{List, ℕ, Option, None, replicate}
 use Rattle.std.proofs.lemmas.List.Elements.{All-replicate}
 use Rattle.std.specs.List.{All}

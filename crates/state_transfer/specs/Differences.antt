@@ -1,4 +1,4 @@
--- What the private function that compares digests speaks of.
+-- Definitions for the private function that compares digests.
 use Rattle.std.specs.Prelude.{◌≡◌, ◌≢◌, ℕ, ◌<◌, List, [], slice_index_or}
 
 -- The first of 32 digests that differs.

@@ -1,4 +1,4 @@
--- What each transfer keeps.
+-- The invariants of each transfer.
 use Rattle.std.specs.Prelude.{◌≡◌, ℕ, List, length, Some, All}
 use Rattle.std.specs.Option.{ForSome}
 use Rattle.partition_tree.specs.Digests.{digest_of_children}
@@ -13,8 +13,8 @@ AreOfChildren digests = length digests ≡ 32
 abbrev pub AreOfPart : List ℕ → List (List ℕ) → Type 0
 AreOfPart digest digests = AreOfChildren digests × (digest_of_children digests ≡ digest)
 
--- There are 1,024 pages and 32 inner parts, known digests of the inner parts have the wanted root, and it is known
--- which digest the place that was asked for is to have.
+-- There are 1,024 pages and 32 inner parts. If the digests of the inner parts are known, they have the wanted root.
+-- This digest is wanted at the place asked for.
 pub record IsTransfer (t : TransferData) (digest : List ℕ) : Type 0 where
   pub pages : length t.held ≡ 1024
   pub fetched : length t.fetched ≡ 1024

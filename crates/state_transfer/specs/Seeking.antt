@@ -1,11 +1,11 @@
--- What the private function that seeks the missing place speaks of.
+-- Definitions for the private function that seeks the missing place.
 use Rattle.std.specs.Prelude.{◌≡◌, ◌≢◌, Some}
 use Rattle.partition_tree.specs.Digests.{root_of}
 use Rattle.state_transfer.specs.declared.missing.Missing.{Missing}
 use Rattle.state_transfer.specs.Places.{IsPlace}
 use Rattle.state_transfer.specs.Transfer.{TransferData, next_place, wanted}
 
--- The place comes next, and this is the digest that it is to have.
+-- The place is the next one to ask for, and this digest is wanted there.
 pub record IsFirstMissing (t : TransferData) (missing : Missing) : Type 0 where
   pub first : next_place t ≡ Some missing.place
   pub place : IsPlace missing.place

@@ -1,5 +1,5 @@
--- Which parts of a state a transfer takes, and why it refuses the others (Castro and Liskov, TOCS 2002, on state
--- transfer). The first fault that applies is told.
+-- The parts of a state that a transfer takes, and why it refuses the others (Castro and Liskov, TOCS 2002, on state
+-- transfer). It tells the first fault that applies.
 use Rattle.std.specs.Prelude.{◌≡◌, ◌≢◌, ℕ, List, Some}
 use Rattle.sha2.specs.Sha256.{sha256}
 use Rattle.partition_tree.specs.Digests.{digest_of_children}
@@ -10,16 +10,16 @@ use Rattle.state_transfer.specs.declared.place.Place.{Place}
 use Rattle.state_transfer.specs.Places.{page_place}
 use Rattle.state_transfer.specs.Transfer.{TransferData, wanted, with_page, replaced_at, given_back}
 
--- The place was asked for last, for the state of this number.
+-- This is the place asked for last, and the state's number.
 pub record IsAsked (t : TransferData) (number : ℕ) (place : Place) : Type 0 where
   pub of_state : t.number ≡ number
   pub at_place : t.asked ≡ place
 
--- So were the digests of its children. A page has none.
+-- This is the place asked for last, and it has children. A page has none.
 abbrev pub IsMetaAsked : TransferData → ℕ → Place → Type 0
 IsMetaAsked t number place = IsAsked t number place × (place.level ≢ Page)
 
--- It is known which digest that place is to have.
+-- The digest wanted at the place asked for is known.
 abbrev pub IsKnown : TransferData → Type 0
 IsKnown t = (digest : List ℕ) × (wanted t t.asked ≡ Some digest)
 
@@ -30,7 +30,7 @@ RefusesMeta t number place digests WrongDigest =
     IsMetaAsked t number place × (wanted t place ≢ Some (digest_of_children digests))
 RefusesMeta t number place digests NoMemory = ⊥
 
--- The text of a page is refused for this fault. Memory is asked for a text that is wanted alone.
+-- The text of a page is refused for this fault. Only a wanted text takes memory.
 abbrev pub RefusesPage : TransferData → ℕ → ℕ → List ℕ → PartFault → Type 0
 RefusesPage t number page text NotAsked = IsAsked t number (page_place page) → ⊥
 RefusesPage t number page text WrongDigest =
@@ -38,7 +38,7 @@ RefusesPage t number page text WrongDigest =
 RefusesPage t number page text NoMemory =
     IsAsked t number (page_place page) × (wanted t (page_place page) ≡ Some (sha256 text))
 
--- A page that is given back at once leaves the transfer as it was.
+-- Giving a page back at once leaves the transfer as it was.
 abbrev pub GivingBackRestores : Type 0
 GivingBackRestores =
     (t : TransferData) (page : ℕ) (text : List ℕ)

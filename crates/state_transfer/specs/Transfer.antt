@@ -1,6 +1,6 @@
--- The transfer of a state to a replica that lags, as plain data: what is held, what is wanted, and which part comes
--- next (Castro and Liskov, Practical Byzantine fault tolerance and proactive recovery, TOCS 2002, on state transfer).
--- A digest is SHA-256 (FIPS 180-4), and pages are the list of their texts.
+-- The transfer of a state to a replica that lags, as plain data: the held pages, the wanted state, and the part to
+-- ask for next (Castro and Liskov, Practical Byzantine fault tolerance and proactive recovery, TOCS 2002, on state
+-- transfer). A digest is SHA-256 (FIPS 180-4), and pages are the list of their texts.
 use Rattle.std.specs.Prelude.{◌≡◌, ℕ, ◌<◌, length, ◌/◌, ◌%◌, Bool, true, false, ◌&&◌, not, List, [], replicate, slice_index_or, slice_set, slice_get, Option, Some, None, option_and_then, is_none, bytes_eq, if◌then◌else◌}
 use Rattle.std.specs.List.{find, list_all}
 use Rattle.std.specs.Option.{option_map_or}
@@ -12,8 +12,8 @@ use Rattle.state_transfer.specs.declared.place.Place.{Place}
 use Rattle.state_transfer.specs.declared.replaced.Replaced.{Replaced}
 use Rattle.state_transfer.specs.Places.{root_place, path, places}
 
--- The wanted state's number and root; the pages that are held, and which of them were fetched; the digests of the inner
--- parts, and those of each inner part's pages, where they were got; and the place that was asked for last.
+-- The wanted state's number and root; the held pages, and which of them were fetched; the digests of the inner parts,
+-- and of each inner part's pages, if they came; and the place asked for last.
 pub record TransferData : Type 0 where
   pub number : ℕ
   pub root : List ℕ
@@ -42,14 +42,14 @@ new_transfer number root pages =
       asked = root_place;
     }
 
--- A newer state is wanted: the root's children are asked for anew, and all else that was got is kept.
+-- A newer state is wanted: the transfer asks for the root's children again, and keeps all other parts that came.
 abbrev pub moved_to : TransferData → ℕ → List ℕ → TransferData
 moved_to t number root =
     record t { number = number; root = root; part_digests = None; asked = root_place }
 
--- ---- what is wanted
+-- ---- wanted digests
 
--- The digests of children, where their own digest is the one that is wanted.
+-- The digests of children, if their own digest is this one.
 abbrev pub fitting : List ℕ → Option (List (List ℕ)) → Option (List (List ℕ))
 fitting digest None = None
 fitting digest (Some children) =
@@ -58,7 +58,7 @@ fitting digest (Some children) =
 abbrev pub digest_of_part : TransferData → ℕ → Option (List ℕ)
 digest_of_part t part = option_and_then (λ digests. slice_get digests part) t.part_digests
 
--- The digests that the pages of an inner part are to have, where they are known.
+-- The digests wanted for the pages of an inner part, if they are known.
 abbrev pub pages_of_part : TransferData → ℕ → Option (List (List ℕ))
 pages_of_part t part =
     option_and_then (λ digest. fitting digest (slice_index_or t.page_digests part None))
@@ -68,7 +68,7 @@ abbrev pub digest_of_page : TransferData → ℕ → Option (List ℕ)
 digest_of_page t page =
     option_and_then (λ digests. slice_get digests (page % 32)) (pages_of_part t (page / 32))
 
--- The digest that a place is to have, where it is known: it stands among those of the children of the part above.
+-- The digest wanted at a place, if it is known: it is one of the digests of the part above.
 abbrev pub wanted_at : TransferData → Level → ℕ → Option (List ℕ)
 wanted_at t Root index = Some t.root
 wanted_at t Inner index = digest_of_part t index
@@ -77,15 +77,15 @@ wanted_at t Page index = digest_of_page t index
 abbrev pub wanted : TransferData → Place → Option (List ℕ)
 wanted t place = wanted_at t place.level place.index
 
--- ---- what is missing
+-- ---- missing places
 
--- The digest of what is held at a place.
+-- The digest of the pages held at a place.
 abbrev pub held_at : List (List ℕ) → Level → ℕ → List ℕ
 held_at pages Root index = root_of pages
 held_at pages Inner index = inner_digest pages index
 held_at pages Page index = sha256 (slice_index_or pages index [])
 
--- Another digest is wanted at the place than what is held there has.
+-- The digest wanted at the place is known, and the held pages have another one there.
 abbrev pub differs : TransferData → Place → Bool
 differs t place =
     option_map_or (λ digest. not (bytes_eq digest (held_at t.held place.level place.index)))
@@ -97,11 +97,11 @@ is_told_at t Root index = not (is_none t.part_digests)
 is_told_at t Inner index = not (is_none (pages_of_part t index))
 is_told_at t Page index = false
 
--- A place is missing where it and each part that it lies in differ, and its children aren't known.
+-- A place is missing if it and each part above it differ, and the digests of its children aren't known.
 abbrev pub is_missing : TransferData → Place → Bool
 is_missing t place = list_all (differs t) (path place) && not (is_told_at t place.level place.index)
 
--- The place that is asked for next: the first in depth-first order that is missing.
+-- The place to ask for next: the first missing one in depth-first order.
 unfoldable pub next_place : TransferData → Option Place
 next_place t = find (is_missing t) places
 
@@ -109,7 +109,7 @@ abbrev pub asking : Option Place → TransferData → TransferData
 asking None t = t
 asking (Some place) t = record t { asked = place }
 
--- ---- what is taken
+-- ---- taking parts
 
 abbrev pub with_part_digests : TransferData → List (List ℕ) → TransferData
 with_part_digests t digests = record t { part_digests = Some digests }
@@ -118,7 +118,7 @@ abbrev pub with_page_digests : TransferData → ℕ → List (List ℕ) → Tran
 with_page_digests t part digests =
     record t { page_digests = slice_set t.page_digests part (Some digests) }
 
--- The digests of a place's children are known then.
+-- The transfer after the digests of a place's children came.
 abbrev pub with_digests : TransferData → Place → List (List ℕ) → TransferData
 with_digests t place digests =
     elim place.level [
@@ -127,12 +127,12 @@ with_digests t place digests =
       | Page ↦ t
     ]
 
--- A page is held that was fetched.
+-- The transfer after a page was fetched.
 abbrev pub with_page : TransferData → ℕ → List ℕ → TransferData
 with_page t page text =
     record t { held = slice_set t.held page text; fetched = slice_set t.fetched page true }
 
--- What a page replaces. It is forgotten again for what was held before it.
+-- The pages and the mark that a page replaces, to give it back.
 abbrev pub replaced_at : TransferData → ℕ → Replaced
 replaced_at t page =
     record { index = page; held = t.held; fetched = slice_index_or t.fetched page false }
@@ -144,7 +144,7 @@ given_back t replaced =
       fetched = slice_set t.fetched replaced.index replaced.fetched;
     }
 
--- The replica's own pages are these now: they are held where none was fetched.
+-- The transfer after the replica's own pages changed: it holds them at each place that wasn't fetched.
 pub record RestsOn (old : TransferData) (pages : List (List ℕ)) (new : TransferData) : Type 0 where
   pub same : new ≡ record old { held = new.held }
   pub count : length new.held ≡ 1024

@@ -1,4 +1,4 @@
--- What the fields of a transfer stand for.
+-- The plain values that the fields of a transfer stand for.
 use Rattle.state_transfer.specs.declared.transfer.Transfer.TheInside.{Inside}
 use Rattle.state_transfer.specs.Transfer.{TransferData}
 

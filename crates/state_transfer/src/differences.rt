@@ -1,4 +1,4 @@
-//! Where digests differ.
+//! The first difference between lists of digests.
 
 ghost use Rattle.std.specs.Prelude.{◌≡◌, IfNone, IfSome};
 ghost use Rattle.state_transfer.specs.Differences.{IsFirstDifference};

@@ -1,8 +1,8 @@
-//! Laws of what is taken.
+//! Laws of taking pages.
 
 ghost use Rattle.state_transfer.specs.Taking.{GivingBackRestores};
 
-/// A page that is given back at once leaves the transfer as it was. It does nothing.
+/// Giving a page back at once leaves the transfer as it was. Does nothing.
 pub fn giving_back_restores()
     ensures { GivingBackRestores }
 {}

@@ -1,18 +1,20 @@
 //! The transfer of a state to a replica that lags, part by part (Castro and Liskov, Practical Byzantine fault tolerance
 //! and proactive recovery, TOCS 2002, on state transfer and hierarchical state partitions).
 //!
-//! A replica that wants the state of a checkpoint asks for one place of its tree at a time: for the root's children,
-//! then depth first for the children of each inner part that differs from what it holds, and for each page of it that
-//! differs. What it holds are the pages of its own state, with those put in that were fetched.
+//! A replica that wants the state of a checkpoint asks for one place of its tree at a time. It asks for the root's
+//! children, and then depth first for the children of each inner part, and for each page, that differs from its own.
+//! It holds the pages of its own state, with the fetched ones in their places.
 //!
 //! # What is proved
 //!
-//! A [`Transfer`] is seen as plain data (`specs/Transfer.antt`), and each call tells what it is then. `next_fetch` asks
-//! for the first place in depth-first order that is missing: it and each part that it lies in have another digest than
-//! is wanted, and its children's digests aren't known. There is none exactly where the pages that are held have the
-//! wanted root. An answer is taken exactly where it is for the place that was asked for last and has the digest that is
-//! wanted there; else the first fault that applies is told, and nothing changes. Digests that were got serve in their
-//! own place alone, and there only where their own digest is wanted. Law: `giving_back_restores`.
+//! A [`Transfer`] is seen as plain data (`specs/Transfer.antt`), and each contract tells that data after the call.
+//! `next_fetch` asks for the first missing place in depth-first order. A place is missing if it and each part above
+//! it have other digests than wanted, and its children's digests aren't known. None is missing exactly if the held
+//! pages have the wanted root.
+//!
+//! A transfer takes an answer exactly if it is for the place asked for last and has the digest wanted there.
+//! Otherwise it tells the first fault that applies, and nothing changes. Digests that came serve only in their own
+//! place, and only if their own digest is wanted there. Law: `giving_back_restores`.
 #![tactic(auto)]
 
 mod differences;

@@ -1,9 +1,9 @@
-//! A place that is missing.
+//! A missing place.
 
 use crate::place::Place;
 use terms::Digest;
 
-/// A place that is missing, and the digest that is wanted there.
+/// A missing place, and the digest wanted there.
 #[derive(Clone, Copy, Drop)]
 pub struct Missing {
     pub place: Place,

@@ -1,18 +1,18 @@
-//! Why a part of a state isn't taken.
+//! Why a transfer doesn't take a part of a state.
 
 use terms::NoMemory;
 use thiserror::Error;
 
-/// Why a part of a state isn't taken. Where several hold, the first is told.
+/// Why a transfer doesn't take a part of a state. If several reasons hold, it tells the first.
 #[derive(Clone, Copy, Debug, PartialEq, Eq, Error)]
 pub enum PartFault {
-    /// It is of another state or place than was asked for last.
+    /// The part is of another state or place than was asked for last.
     #[error("the part was not asked for")]
     NotAsked,
-    /// It doesn't have the digest that is wanted there.
+    /// The part doesn't have the digest that is wanted there.
     #[error("the part has another digest")]
     WrongDigest,
-    /// There was no room for it.
+    /// There was no memory for the part.
     #[error("out of memory")]
     NoMemory,
 }

@@ -1,8 +1,9 @@
-//! What a page replaced.
+//! The pages before a page was taken.
 
 use partition_tree::Tree;
 
-/// What was held before a page was taken, with which the page is given back. It shares the texts of all other pages.
+/// The pages held before a page was taken. With these the page is given back. They share the texts of all other
+/// pages.
 #[derive(Drop)]
 pub struct Replaced {
     pub(crate) index: u16,

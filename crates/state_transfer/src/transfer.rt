@@ -20,11 +20,11 @@ use std::marker::Model;
 use std::mem;
 use terms::{Digest, Level, NoMemory, Number};
 
-/// The transfer of the state of a number and root to a replica that lags. One place is asked for at a time.
+/// The transfer of the state with this number and root to a replica that lags. It asks for one place at a time.
 ///
-/// What is held are the replica's own pages with those put in that were fetched. It shares the texts of the pages that
-/// it was started with, and has at most 1,024 texts of its own. For 33 times 1,024 bytes of digests it has room from
-/// the start.
+/// It holds the replica's own pages, with the fetched ones in their places. It shares the texts of the pages that it
+/// was started with, and has at most 1,024 texts of its own. From the start it has room for 33 times 1,024 bytes of
+/// digests.
 #[derive(Drop)]
 pub struct Transfer {
     number: Number,
@@ -34,7 +34,7 @@ pub struct Transfer {
     part_digests: Option<[Digest; CHILDREN]>,
     page_digests: Vec<Option<[Digest; CHILDREN]>>,
     asked: Place,
-    // The digest that is wanted at the place that was asked for.
+    // The digest that is wanted at the place asked for.
     wanted: Digest,
 }
 
@@ -62,7 +62,7 @@ impl Transfer {
     ) -> Result<Transfer, NoMemory>
         ensures { IfOk result (λ t. t ≡ spec.new_transfer number.0 root pages.now) }
     {
-        // A proof learns from a page that there are 1,024.
+        // Tells a proof that there are 1,024 pages.
         let _first = pages.page(0);
         let held = pages.copy()?;
         let fetched = Vec::from_slice(alloc, &[false; PAGES])?;
@@ -93,7 +93,7 @@ impl Transfer {
         self.root
     }
 
-    /// The place that was asked for last.
+    /// The place asked for last.
     pub fn asked(&self) -> Place
         ensures value { result ≡ self.now.asked }
         ensures range { IsPlace result }
@@ -101,14 +101,14 @@ impl Transfer {
         self.asked
     }
 
-    /// The pages that are held.
+    /// The held pages.
     pub fn pages(&self) -> &Tree
         ensures { result.now ≡ self.now.held }
     {
         &self.held
     }
 
-    /// The pages of the wanted state, where those that are held have its root; none while a place is missing.
+    /// The pages of the wanted state if the held pages have its root, or `None` while a place is missing.
     pub fn finish(&self) -> Option<&Tree>
         ensures pages { IfSome result (λ pages. pages.now ≡ self.now.held) }
         ensures root { IfSome result (λ pages. root_of pages.now ≡ self.now.root) }
@@ -120,7 +120,7 @@ impl Transfer {
         Some(&self.held)
     }
 
-    /// Tells a proof what each transfer keeps. It does nothing.
+    /// Tells a proof the invariants of each transfer. It does nothing.
     pub fn keeps(&self)
         ensures pages { length self.now.held ≡ PAGES }
         ensures fetched { length self.now.fetched ≡ PAGES }
@@ -130,8 +130,8 @@ impl Transfer {
         let _number = &self.number;
     }
 
-    /// Goes on with a newer state. The root's children are asked for anew; pages and digests of pages that were got
-    /// serve on.
+    /// Goes on with a newer state. Asks for the root's children again; keeps fetched pages, and digests of pages that
+    /// came.
     pub fn move_to(&mut self, number: Number, root: Digest)
         ensures { self.new ≡ spec.moved_to self.old number.0 root }
     {
@@ -142,9 +142,8 @@ impl Transfer {
         self.wanted = root;
     }
 
-    /// Goes on from other own pages of the replica's, where its state changed. Compares each text that wasn't fetched,
-    /// and hashes those that are others than before, each with 2,048 bytes of digests. An error leaves the transfer as
-    /// it was.
+    /// Goes on from other own pages, after the replica's state changed. Compares each text that wasn't fetched, and
+    /// hashes those that changed, each with 2,048 bytes of digests. An error leaves the transfer as it was.
     pub fn rest_on(&mut self, pages: &Tree) -> Result<(), NoMemory>
         ensures ok { OnOk result (RestsOn self.old pages.now self.new) }
         ensures err { OnErr result (self.new ≡ self.old) }
@@ -159,8 +158,8 @@ impl Transfer {
         Ok(())
     }
 
-    // The digests that the pages of an inner part, 0 to 31, are to have, where those that were got have the digest that
-    // is wanted of the part.
+    // The digests wanted for the pages of an inner part, 0 to 31, if those that came have the digest wanted for the
+    // part.
     fn pages_of_part(&self, part: usize, wanted: &Digest) -> Option<&[Digest; CHILDREN]>
         requires { part < CHILDREN }
         ensures { option_copied result
@@ -172,7 +171,7 @@ impl Transfer {
         }
     }
 
-    // The place that is missing first, depth first from the root, and the digest that is wanted there.
+    // The first missing place, depth first from the root, and the digest wanted there.
     fn missing(&self) -> Option<Missing>
         ensures none { IfNone result (root_of self.now.held ≡ self.now.root) }
         ensures some { IfSome result (IsFirstMissing self.now) }
@@ -200,8 +199,8 @@ impl Transfer {
         })
     }
 
-    /// The first place in depth-first order that is missing, which then is the one that was asked for last; or nothing
-    /// where the pages that are held have the wanted root. Compares 65 digests, and hashes 1,024 bytes, at the most.
+    /// The first missing place in depth-first order, which then is the one asked for last, or `None` if the held
+    /// pages have the wanted root. Compares at most 65 digests, and hashes at most 1,024 bytes.
     pub fn next_fetch(&mut self) -> Option<Place>
         ensures place { result ≡ spec.next_place self.old }
         ensures range { IfSome result IsPlace }
@@ -214,23 +213,23 @@ impl Transfer {
         Some(place)
     }
 
-    // Whether the place of this state was asked for last.
+    // Whether the place of this state is the one asked for last.
     fn is_asked(&self, number: Number, place: Place) -> bool
         ensures { IsTrue result ↔ IsAsked self.now number.0 place }
     {
         number.0 == self.number.0 && place == self.asked
     }
 
-    // Whether the digest is the one that is wanted at the place that was asked for.
+    // Whether the digest is the one wanted at the place asked for.
     fn is_wanted(&self, digest: Digest) -> bool
         ensures { IsTrue result ↔ (wanted self.now self.now.asked ≡ Some digest) }
     {
         digest == self.wanted
     }
 
-    /// Takes the digests of the children of the place that was asked for, the root or an inner part, and hashes them.
-    /// An error leaves the transfer as it was, and is the first of [`PartFault::NotAsked`] and
-    /// [`PartFault::WrongDigest`] that applies, and never [`PartFault::NoMemory`].
+    /// Takes the digests of the children of the place asked for, the root or an inner part, and hashes them. An error
+    /// leaves the transfer as it was. It is the first of [`PartFault::NotAsked`] and [`PartFault::WrongDigest`] that
+    /// applies, and never [`PartFault::NoMemory`].
     pub fn on_meta(
         &mut self,
         number: Number,
@@ -257,9 +256,9 @@ impl Transfer {
         Ok(())
     }
 
-    /// Takes the text of the page that was asked for, which then is held. What it replaced gives it back, by
-    /// [`Transfer::give_back`]. An error leaves the transfer as it was, and is the first that applies. Hashes the text;
-    /// where it is taken, copies it, and copies and hashes 2,048 bytes of digests.
+    /// Takes the text of the page asked for, and holds it from then on. [`Transfer::give_back`] undoes that with the
+    /// result. An error leaves the transfer as it was, and is the first that applies. Hashes the text; if it is
+    /// taken, copies it, and copies and hashes 2,048 bytes of digests.
     pub fn on_page(
         &mut self,
         number: Number,
@@ -295,11 +294,11 @@ impl Transfer {
         Ok(replaced)
     }
 
-    /// Forgets a page again, and takes no memory. Where nothing was taken since, the transfer is as it was before.
+    /// Forgets a page again, and takes no memory. If nothing was taken since, the transfer is as it was before.
     pub fn give_back(&mut self, replaced: Replaced)
         ensures { self.new ≡ spec.given_back self.old replaced }
     {
-        // A proof learns from a page that there are 1,024.
+        // Tells a proof that there are 1,024 pages.
         let _first = replaced.held.page(0);
         let Replaced {
             index,

@@ -1,9 +1,10 @@
-//! What several crates name: the want of memory, the parties, what orders requests, and the levels of a state's tree.
+//! What several crates name: the error for out of memory, the parties, the numbers that order requests, and the
+//! levels of a state's tree.
 //!
 //! # What is proved
 //!
-//! A client's number fits behind those of the replicas by its type, and `Party::number` is the number by which a party
-//! stands in frames.
+//! A client's number in frames comes after all numbers of replicas, and its type makes it fit. `Party::number` is the
+//! number of a party in frames.
 #![tactic(auto)]
 
 mod no_memory;

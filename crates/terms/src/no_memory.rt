@@ -1,4 +1,4 @@
-//! The want of memory.
+//! The error for out of memory.
 
 use std::alloc::{AllocError, AllocFailed};
 use thiserror::Error;

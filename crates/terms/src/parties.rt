@@ -2,7 +2,7 @@
 
 ghost use Rattle.std.specs.Prelude.{◌≤◌};
 
-/// The number in frames of client 0. Replicas have the numbers below it.
+/// The number of client 0 in frames. Replicas have the numbers below it.
 pub const FIRST_CLIENT: u16 = 256;
 
 /// A replica. A configuration has up to 10 of them; frames may name more.
@@ -27,7 +27,7 @@ impl Party {
     ghost use Rattle.std.specs.Prelude.{◌≡◌};
     ghost use Rattle.terms.specs.Parties.{party_number};
 
-    /// The number by which this party stands in frames.
+    /// The number of this party in frames.
     pub fn number(self) -> u16
         ensures { result ≡ party_number self }
     {

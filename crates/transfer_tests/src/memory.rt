@@ -7,7 +7,7 @@ use std::alloc::Global;
 use std::test::Fail;
 use terms::{Level, NoMemory, Number};
 
-// Takes page 5 of state 2, at the second try where memory was refused at the first one.
+// Takes page 5 of state 2, at the second try if memory was refused at the first one.
 fn takes_page(transfer: &mut Transfer, tree: &Tree) -> bool {
     let own = transfer.pages().root();
     match transfer.on_page(Number(2), 5, tree.page(5)) {

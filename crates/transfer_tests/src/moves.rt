@@ -9,11 +9,11 @@ use terms::{Level, NoMemory, Number};
 
 static OLD: Texts<'static> = &[(0, b"a"), (1, b"a"), (256, b"a"), (512, b"a")];
 
-// What is taken before the newer state comes, what that state sets, and what is asked for then.
+// The places taken before the newer state comes, the texts that this state sets, and the places asked for then.
 type Row<'a> = (&'a [At], Texts<'a>, &'a [At]);
 
 static ROWS: [Row<'static>; 4] = [
-    // Pages that were fetched serve on, also where their part has another digest now.
+    // Fetched pages serve on, also if their part has another digest now.
     (
         &[ROOT, (Level::Inner, 0), (Level::Page, 0), (Level::Page, 1)],
         &[(2, b"b"), (512, b"b")],
@@ -27,7 +27,7 @@ static ROWS: [Row<'static>; 4] = [
             (Level::Page, 512),
         ],
     ),
-    // Digests that were fetched serve on where their part has the same digest.
+    // Fetched digests serve on if their part has the same digest.
     (
         &[ROOT, (Level::Inner, 0)],
         &[(512, b"b")],
@@ -41,7 +41,7 @@ static ROWS: [Row<'static>; 4] = [
             (Level::Page, 512),
         ],
     ),
-    // A page that was fetched is fetched again where it has another text now.
+    // A fetched page is fetched again if it has another text now.
     (
         &[ROOT, (Level::Inner, 0), (Level::Page, 0), (Level::Page, 1)],
         &[(0, b"b"), (256, b""), (512, b"")],
@@ -55,7 +55,7 @@ static ROWS: [Row<'static>; 4] = [
     ),
 ];
 
-// Whether the transfer takes what comes before the newer state, and goes on with that.
+// Whether the transfer takes these places before the newer state comes, and then goes on with the others.
 fn is_overtaken(
     transfer: &mut Transfer,
     tree: &mut Tree,
@@ -156,7 +156,7 @@ fn a_page_is_given_back(rt: HostRuntime) -> Result<(), Fail> {
     Ok(())
 }
 
-// Whether page 3 of a newer state is taken and given back, where that of the state before it was fetched or not.
+// Whether page 3 of a newer state is taken and given back, after that of the older state was fetched or not.
 fn gives_newer_back(
     transfer: &mut Transfer,
     tree: &mut Tree,
@@ -171,8 +171,8 @@ fn gives_newer_back(
     Ok(takes(transfer, tree, &places[..2])? && takes_and_gives_back(transfer, tree)?)
 }
 
-// Where a page was given back that was not fetched before it, the own text is held again, whatever that is then; where
-// another text of it had been fetched, that stays.
+// After a page was given back that was not fetched before, the own text is held again, whatever it is then. If
+// another text of the page had been fetched, that stays.
 fn holds_behind(
     transfer: &mut Transfer,
     tree: &mut Tree,

@@ -1,4 +1,4 @@
-//! Parts that are not taken, and why: the first fault that applies is told.
+//! Parts that are not taken, and why: the fault is the first one that applies.
 
 use crate::trees::{At, ROOT, answer, begun, completes, place, takes, tree_of};
 use partition_tree::{CHILDREN, Tree};
@@ -9,7 +9,7 @@ use terms::{Digest, Level, NoMemory, Number};
 
 static TO_PAGE_5: [At; 2] = [ROOT, (Level::Inner, 0)];
 
-// Number, index and text of a page, and why it is refused where page 5 of state 2 was asked for, which is `text`.
+// Number, index and text of a page, and why it is refused when page 5 of state 2, with the text `text`, is asked for.
 static PAGES: [(u64, u16, &[u8], PartFault); 7] = [
     (2, 5, b"texx", PartFault::WrongDigest),
     (2, 5, b"", PartFault::WrongDigest),
@@ -20,7 +20,7 @@ static PAGES: [(u64, u16, &[u8], PartFault); 7] = [
     (3, 6, b"texx", PartFault::NotAsked),
 ];
 
-// Whether these places are taken, and this one is asked for behind them.
+// Whether these places are taken, and this one is asked for after them.
 fn comes_to(
     transfer: &mut Transfer,
     tree: &Tree,
@@ -67,8 +67,8 @@ fn pages_are_refused(rt: HostRuntime) -> Result<(), Fail> {
     Ok(())
 }
 
-// Number and place of digests that are those of the root's children but for one bit, and why they are refused where the
-// root's of state 2 were asked for.
+// Number and place of digests, and why they are refused when the digests of the root of state 2 are asked for. The
+// digests differ from those of the root's children in one bit.
 static DIGESTS: [(u64, At, PartFault); 6] = [
     (2, ROOT, PartFault::WrongDigest),
     (3, ROOT, PartFault::NotAsked),
@@ -154,8 +154,8 @@ fn are_late(transfer: &mut Transfer, digests: &[Digest; CHILDREN]) -> bool {
     transfer.on_meta(Number(2), place(ROOT), digests) == Err(PartFault::NotAsked)
 }
 
-// Whether the digests of the root's children are refused where another place was asked for behind them, and so are
-// those of the earlier state where a newer one is wanted.
+// Whether the digests of the root's children are refused after another place was asked for, and those of the earlier
+// state after a newer one is wanted.
 fn refuses_behind_the_root(transfer: &mut Transfer, tree: &Tree) -> Result<bool, NoMemory> {
     if !takes(transfer, tree, &[ROOT])? || transfer.next_fetch().is_none() {
         return Ok(false);

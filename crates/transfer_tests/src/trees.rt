@@ -76,7 +76,7 @@ pub fn answer(transfer: &mut Transfer, tree: &Tree, number: u64) -> Result<(), P
     }
 }
 
-/// Whether these places are asked for and taken, one after another. NoMemory where memory runs out.
+/// Whether these places are asked for and taken, one after another. NoMemory if memory runs out.
 pub fn takes(transfer: &mut Transfer, tree: &Tree, places: &[At]) -> Result<bool, NoMemory> {
     let number = transfer.number().0;
     for at in places {

@@ -7,11 +7,11 @@ use std::alloc::Global;
 use std::test::Fail;
 use terms::{Level, NoMemory, Number};
 
-// The texts of the state, the own ones, and the places: depth first, where page i is below inner part i / 32.
+// The texts of the state, the own ones, and the places: depth first. Page i is below inner part i / 32.
 type Row<'a> = (Texts<'a>, Texts<'a>, &'a [At]);
 
 static ROWS: [Row<'static>; 5] = [
-    // Six tuples, a client's reply, and a header, where nothing is held.
+    // Six tuples, a client's reply, and a header, while nothing is held.
     (
         &[
             (0, b"t0"),
@@ -39,7 +39,7 @@ static ROWS: [Row<'static>; 5] = [
             (Level::Page, 512),
         ],
     ),
-    // Where nothing differs, nothing is asked for.
+    // If nothing differs, nothing is asked for.
     (&[(7, b"a"), (300, b"b")], &[(7, b"a"), (300, b"b")], &[]),
     // The first and last pages of inner parts. Pages 0 and 700 are held.
     (

@@ -25,11 +25,11 @@ module _ {V : Type 0} (IsValue : V → Type 0) (spelling : V → List ℕ) (at :
       let n : length (spelling v) ≡ length bs - length rest = omega (arith, ap length f.0.whole, length-append (spelling v) rest) in
       record { valid = f.1; spelled = ap (take (length bs - length rest)) f.0.whole ∙ take_at (spelling v) rest (length bs - length rest) n }
 
-  -- what is read stands at the front
+  -- a value that the reader gives is spelled at the front
   pub front : (bs rest : List ℕ) (v : V) → AreBytes bs → at bs ≡ Some (v, rest) → FrontSpells IsValue spelling bs
   front bs rest v h e = (v, length bs - length rest, omega arith, spelled bs rest v h e)
 
-  -- where the first k bytes are spelled so, that is what is read
+  -- if the first k bytes spell a value, the reader gives that value
   pub only : (bs : List ℕ) (v : V) (k : ℕ) → Spells IsValue spelling (take k bs) v → at bs ≡ Some (v, drop k bs)
   only bs v k s = ap at (sym (take-append-drop k bs) ∙ ap (λ xs. xs ++ drop k bs) s.spelled) ∙ reads.again v (drop k bs) s.valid
 

@@ -14,7 +14,7 @@ use Rattle.tuple_codec.specs.Spelling.{string, flag, wide_bytes, datum_spelling,
 use Rattle.tuple_codec.proofs.Readers.{FoundBehind, bind_some, parts, moved, as_found, as_again, tag_found, RowsFound, ◌⨾◌, found_by_table, unknown_found}
 use Rattle.tuple_codec.proofs.Numbers.{number_found, number_again, string_found, string_again, text_found, text_again, flag_found, flag_again}
 
--- What a reader of leaves, each behind its tag, is to be.
+-- The laws of a reader of leaves, each of which has a tag in front.
 pub record ReadsLeaves {L : Type 0} (IsLeaf : L → Type 0) (length_of : L → ℕ) (spelling : L → List ℕ) (leaf_at : ℕ → Reader L) : Type 0 where
   pub found : (tag : ℕ) → FoundBehind tag IsLeaf spelling (leaf_at tag)
   pub again : (x : L) (rest : List ℕ) → IsLeaf x → length_of x ≤ 1024 → (inner_at : Reader (Item L)) → item_with leaf_at inner_at (spelling x ++ rest) ≡ Some (leaf x, rest)

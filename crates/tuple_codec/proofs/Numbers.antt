@@ -49,7 +49,7 @@ number_again k n rest p =
     let l : ltb (length (big_bytes k n ++ rest)) k ≡ false = le-ltb _ k (omega (arith, length-append (big_bytes k n) rest, length-bytes_high_first k n)) in
     rw (l, big_number-reads_back k n rest p, drop_at (big_bytes k n) rest k (length-bytes_high_first k n)) refl
 
--- what is read where there are bytes enough
+-- the number that is read if there are bytes enough
 pub number_there : (k : ℕ) (bs : List ℕ) → k ≤ length bs → number_of k bs ≡ Some (big_number k bs, drop k bs)
 unfolding number_of
 number_there k bs l = ap (λ b. cond b None (Some (big_number k bs, drop k bs))) (le-ltb _ k l)

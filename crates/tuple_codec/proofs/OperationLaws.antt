@@ -78,7 +78,7 @@ operation_again upgrade rest h = refl
 pub operation_reads : Reads IsOperation operation_spelling operation_at
 operation_reads = record { found = operation_found; again = operation_again }
 
--- Tuples behind their count.
+-- At most 64 tuples, each within the limits.
 abbrev IsAnswer : List TupleTree → Type 0
 IsAnswer ts = (length ts ≤ 64) × AreTuples ts
 

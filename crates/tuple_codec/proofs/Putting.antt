@@ -1,4 +1,4 @@
--- Bytes that are put behind others, one text after another.
+-- Texts that are appended one after another.
 use Rattle.std.proofs.Common.{◌≡◌, ℕ, ◌+◌, ◌<◌, ◌≤◌, List, [], ◌∷◌, ◌++◌, length, take, drop, get_or, Result, Ok, Err, ap, sym, refl, ◌∙◌, arith, append_assoc, append-nil}
 use Rattle.std.proofs.lemmas.List.{take_at, take-take, take-append-le, length-take, at_drop_more, at_drop_all}
 use Rattle.tuple_tree.specs.Items.{Item, Items, how_many, items_of}
@@ -7,7 +7,7 @@ use Rattle.tuple_tree.proofs.Viewing.{items_at}
 use Rattle.tuple_codec.specs.Puts.{Puts}
 use Rattle.tuple_codec.specs.Spelling.{item_spelling, items_spelling, whole_spelling, tuple_spelling, tuples_spelling}
 
--- What stood at the front still does.
+-- The old bytes still stand at the front.
 pub grown : (old new y : List ℕ) → new ≡ old ++ y → take (length old) new ≡ old
 grown old new y e = ap (take (length old)) e ∙ take_at old y (length old) refl
 

@@ -1,4 +1,4 @@
--- Laws of readers: what is read is spelled so, and what is spelled is read again.
+-- Laws of readers: each value that a reader gives is spelled at the front, and each spelled value is read again.
 use Rattle.std.proofs.Common.{◌≡◌, ◌⊎◌, inl, inr, ℕ, zero, suc, ◌+◌, ◌-◌, ◌<◌, ◌≤◌, Bool, true, false, cond, List, [], ◌∷◌, ◌++◌, length, take, drop, Option, Some, None, ap, sym, subst, refl, ◌∙◌, arith, append_assoc, length-append}
 use Rattle.std.proofs.lemmas.List.{take-append-drop, length-take}
 use Rattle.std.proofs.Math.Seq.{take-append-add, drop-append-add}
@@ -53,11 +53,11 @@ bytes_append [] ys h k i = k i
 bytes_append (x ∷ xs) ys h k zero = h 0
 bytes_append (x ∷ xs) ys h k (suc i) = bytes_append xs ys (λ j. h (suc j)) k i
 
--- what is read is a value, spelled at the front
+-- the reader gives valid values alone, and each is spelled at the front
 abbrev pub Found : {V : Type 0} → (V → Type 0) → (V → List ℕ) → Reader V → Type 0
 Found {V = V} IsValue spelling at = (bs rest : List ℕ) (v : V) → AreBytes bs → at bs ≡ Some (v, rest) → Takes bs (spelling v) rest × IsValue v
 
--- the same where the tag stands before the bytes
+-- the same, if the tag stands before the bytes
 abbrev pub FoundBehind : {V : Type 0} → ℕ → (V → Type 0) → (V → List ℕ) → Reader V → Type 0
 FoundBehind {V = V} tag IsValue spelling at = (bs rest : List ℕ) (v : V) → AreBytes bs → at bs ≡ Some (v, rest) → Takes (tag ∷ bs) (spelling v) rest × IsValue v
 
@@ -75,7 +75,7 @@ byte_found (c ∷ bs) rest b h e =
     let p = parts e in
     (record { whole = rw (p.0, p.1) refl; bytes = subst AreBytes p.1 (λ i. h (suc i)) }, subst (λ x. x < 256) p.0 (h 0))
 
--- a value that is another one behind a tag
+-- a value whose spelling is a tag and then the spelling of another value
 pub as_found : {A B : Type 0} (IsA : A → Type 0) (IsB : B → Type 0) (a_spelling : A → List ℕ) (b_spelling : B → List ℕ) (tag : ℕ) (f : A → B) (at : Reader A)
     → Found IsA a_spelling at → ((x : A) → IsA x → (b_spelling (f x) ≡ tag ∷ a_spelling x) × IsB (f x)) → FoundBehind tag IsB b_spelling (read_as f at)
 as_found IsA IsB a_spelling b_spelling tag f at reads law bs rest v h e =
@@ -107,7 +107,7 @@ behind_found IsValue spelling behind reads bs rest v h e =
 pub at_tag : {V : Type 0} (IsValue : V → Type 0) (spelling : V → List ℕ) (tag k : ℕ) (bs rest : List ℕ) (v : V) → tag ≡ k → Takes (k ∷ bs) (spelling v) rest × IsValue v → Takes (tag ∷ bs) (spelling v) rest × IsValue v
 at_tag IsValue spelling tag k bs rest v p t = subst (λ n. Takes (n ∷ bs) (spelling v) rest × IsValue v) (sym p) t
 
--- What each row of a table reads is spelled behind its tag.
+-- Each row of a table gives values whose spelling is the row's tag and the bytes that it read.
 abbrev pub RowsFound : {V : Type 0} → (V → Type 0) → (V → List ℕ) → List (Row V) → Type 0
 RowsFound IsValue spelling [] = Unit {0}
 RowsFound IsValue spelling (row ∷ rows) = FoundBehind row.0 IsValue spelling row.1 × RowsFound IsValue spelling rows
@@ -117,7 +117,7 @@ infixr 3 ◌⨾◌
 pub ◌⨾◌ : {A B : Type 0} → A → B → A × B
 row ⨾ rows = (row, rows)
 
--- The law of tables: what is read by one is spelled, where this holds of each row, and of the reader for other tags.
+-- The law of tables: if each row, and the reader for other tags, gives spelled values, the table does.
 pub found_by_table : {V : Type 0} (IsValue : V → Type 0) (spelling : V → List ℕ) (rows : List (Row V)) (other : ℕ → Reader V) → RowsFound IsValue spelling rows
     → ((tag : ℕ) → FoundBehind tag IsValue spelling (other tag)) → (tag : ℕ) → FoundBehind tag IsValue spelling (by_tag rows other tag)
 found_by_table IsValue spelling [] other found otherwise tag bs rest v h e = otherwise tag bs rest v h e
@@ -130,7 +130,7 @@ found_by_table IsValue spelling (row ∷ rows) other found otherwise tag bs rest
 pub unknown_found : {V : Type 0} (IsValue : V → Type 0) (spelling : V → List ℕ) (tag : ℕ) → FoundBehind tag IsValue spelling (unknown tag)
 unknown_found IsValue spelling tag bs rest v h e = absurd (let g : ⊥ = cc in g)
 
--- Values that are taken in one after another: what is taken in, its spelling, and how many there are.
+-- Values that are collected one after another: their spelling, their count, and that they stay valid.
 pub record Grows {X S : Type 0} (IsX : X → Type 0) (x_spelling : X → List ℕ) (grow : S → X → S) (IsS : S → Type 0) (s_spelling : S → List ℕ) (count : S → ℕ) : Type 0 where
   pub spelled : (s : S) (x : X) → s_spelling (grow s x) ≡ s_spelling s ++ x_spelling x
   pub counted : (s : S) (x : X) → count (grow s x) ≡ count s + 1
@@ -178,7 +178,7 @@ framed_found IsValue spelling limit at reads bs rest v h e =
     let l : length (spelling k.0.0) ≤ limit = omega (arith, ap length a.0.whole, length-append (spelling k.0.0) k.0.1, length-take limit bs) in
     moved (λ v. IsValue v × (length (spelling v) ≤ limit)) spelling bs (record { whole = w; bytes = bytes_append k.0.1 (drop limit bs) a.0.bytes (bytes_drop limit bs h) }, (a.1, l)) p.0 p.1
 
--- the front of what follows, and the rest
+-- the first bytes of a text and what follows it, and the rest
 framed_text : (s rest : List ℕ) (limit : ℕ) → length s ≤ limit → (take limit (s ++ rest) ≡ s ++ take (limit - length s) rest) × (drop limit (s ++ rest) ≡ drop (limit - length s) rest)
 framed_text s rest limit p =
     let n : length s + (limit - length s) ≡ limit = omega arith in

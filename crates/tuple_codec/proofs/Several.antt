@@ -8,14 +8,14 @@ use Rattle.std.specs.Prelude.{All}
 use Rattle.tuple_tree.specs.Values.{TupleTree, IsTuple}
 use Rattle.tuple_codec.specs.Operations.{AreTuples}
 
--- what is copied so far, and one copy more
+-- the copies before the loop's step, and one copy more
 pub copied : (ts : List TupleTree) (i : ℕ) (t copy : TupleTree) (old new : List TupleTree) → i < length ts → t ≡ get_or ts i t → old ≡ take i ts → new ≡ old ++ copy ∷ [] → copy ≡ t → new ≡ take (i + 1) ts
 copied ts i t copy old new p is so_far pushed same = pushed ∙ ap (λ us. us ++ copy ∷ []) so_far ∙ ap (λ u. take i ts ++ u ∷ []) (same ∙ is) ∙ sym (take_more ts i t p)
 
 nothing_left : {A : Type 0} (n : ℕ) (xs : List A) → length xs ≤ n → drop n xs ≡ []
 nothing_left n xs h = grind (arith, common_steps)
 
--- past the end of one list, both are equal where nothing is left of the other
+-- past the end of one list, both are equal exactly if nothing is left of the other
 pub compared : {A : Type 0} (xs ys : List A) (i at : ℕ) (G : Type 0) → length xs ≤ i → at ≤ length ys → ((drop i xs ≡ drop at ys) ↔ G)
     → (IsTrue (nat_eq at (length ys)) → G) × (G → IsTrue (nat_eq at (length ys)))
 compared xs ys i at G past within both =

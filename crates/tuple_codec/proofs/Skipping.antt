@@ -1,4 +1,4 @@
--- What follows what is read, without the value.
+-- The bytes after a value, without the value itself.
 use Rattle.std.proofs.Common.{◌≡◌, ◌↔◌, ℕ, zero, suc, ◌+◌, ◌-◌, ◌<◌, ◌≤◌, List, [], ◌∷◌, ◌++◌, length, take, drop, Option, Some, None, IsTrue, Bool, true, false, ap, sym, refl, ◌∙◌, arith}
 use Rattle.std.proofs.lemmas.Bool.{le-ltb, eqb-true}
 use lib.Dec.{ltb, eqb}
@@ -20,7 +20,7 @@ pub rest_none : {A : Type 0} (o : Option (A × List ℕ)) → rest_of o ≡ None
 rest_none None e = refl
 rest_none (Some x) e = absurd (let g : ⊥ = cc in g)
 
--- another value of what is read
+-- the rest is the same if f is applied to the value
 pub rest_as : {A B : Type 0} (f : A → B) (o : Option (A × List ℕ)) → rest_of (o >>= λ x. Some (f x.0, x.1)) ≡ rest_of o
 rest_as f None = refl
 rest_as f (Some x) = refl
@@ -30,7 +30,7 @@ rest_bind None f g h = refl
 rest_bind (Some x) f g h = h x
 
 module _ {X S : Type 0} (at : Reader X) (grow : S → X → S) where
-  -- What was taken in before doesn't matter.
+  -- The values collected before don't matter.
   rest_more : (n : ℕ) (s u : S) (bs : List ℕ) → rest_of (more at grow n s bs) ≡ rest_of (more at grow n u bs)
   rest_more zero s u bs = refl
   rest_more (suc n) s u bs = rest_bind (at bs) (λ x. more at grow n (grow s x.0) x.1) (λ x. more at grow n (grow u x.0) x.1) (λ x. rest_more n (grow s x.0) (grow u x.0) x.1)
@@ -85,7 +85,7 @@ pub skip_both_fails : (bs : List ℕ) → rest_of (template_at bs) ≡ None → 
 unfolding cas_at
 skip_both_fails bs e = ap (λ o. rest_of (o >>= λ p. read_as (cas p.0) tuple_at p.1)) (rest_none (template_at bs) e)
 
--- What is skipped stands at the front, and where nothing is skipped nothing does.
+-- If bytes are skipped, they spell a value at the front; if none can be skipped, no front spells a value.
 module _ {V : Type 0} (IsValue : V → Type 0) (spelling : V → List ℕ) (at : Reader V) (reads : Reads IsValue spelling at) where
   pub front_there : (bs rest : List ℕ) → AreBytes bs → rest_of (at bs) ≡ Some rest → FrontSpells IsValue spelling bs
   front_there bs rest h e = let x = rest_some (at bs) rest e in front IsValue spelling at reads bs rest x.0 h x.1

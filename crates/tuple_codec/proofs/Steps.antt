@@ -35,7 +35,7 @@ pub byte_length : (bs front : List ℕ) (n : ℕ) → byte_at bs ≡ Some (n, fr
 byte_length [] front n e = absurd (let g : ⊥ = cc in g)
 byte_length (b ∷ bs) front n e = omega (arith, ap length (parts e).1)
 
--- Reading one after another, so far as the loop has come.
+-- Readers of several values in a loop, at each step of the loop.
 module _ {X S : Type 0} (at : Reader X) (grow : S → X → S) where
   pub step : (n i : ℕ) (s : S) (bs : List ℕ) → i < n → more at grow (n - i) s bs ≡ (at bs >>= λ x. more at grow (n - (i + 1)) (grow s x.0) x.1)
   step n i s bs p = let e : n - i ≡ suc (n - (i + 1)) = omega arith in rw e refl
@@ -66,7 +66,7 @@ pub whole_tuples : (bs front rest : List ℕ) (n i : ℕ) (ts : List TupleTree) 
 unfolding tuples_at
 whole_tuples bs front rest n i ts e p h = let l : ltb 64 n ≡ false = le-ltb 64 n p in h ∙ sym (rw (e, l) refl)
 
--- Trees so far as the loop has come: i items of a list that stood in at most 1,024 bytes.
+-- The tree at one step of the loop: i items of a list that stood in at most 1,024 bytes.
 pub record Filled {L : Type 0} (IsLeaf : L → Type 0) (length_of : L → ℕ) (levels i : ℕ) (t : Items L) (rest : List ℕ) : Type 0 where
   pub items : how_many t ≡ i
   pub depth : levels_in t ≤ levels
@@ -98,7 +98,7 @@ not_equal a b ne =
     let cases : (c : Bool) → eqb a b ≡ c → eqb a b ≡ false = elim [ true ↦ λ e. absurd (ne (eqb-true a b e)) | false ↦ λ e. e ] in
     cases (eqb a b) refl
 
--- What a tag that is no 5 leads to, and a 5.
+-- The reader of an item after a tag that is no 5, and after a 5.
 module _ {L : Type 0} (leaf_at : ℕ → Reader L) where
   pub at_leaf : (levels tag : ℕ) (bs front : List ℕ) → byte_at bs ≡ Some (tag, front) → (tag ≡ 5 → ⊥) → item_at leaf_at levels bs ≡ read_as leaf (leaf_at tag) front
   unfolding item_with
@@ -124,7 +124,7 @@ module _ {L : Type 0} (leaf_at : ℕ → Reader L) where
   inner_fails bad.NoMemory levels tag bs front e f p h = tt
   inner_fails bad.Malformed levels tag bs front e f p h = at_five levels tag bs front e f ∙ inner_below levels front p ∙ ap (λ o. o >>= λ x. Some (inner x.0, x.1)) h
 
--- What follows a value that was read within the first bytes.
+-- The bytes after a value that was read within the first bytes.
 pub frame_rest : (bs text rest : List ℕ) (limit : ℕ) → take limit bs ≡ text ++ rest → (length rest ≤ length (take limit bs)) × (drop (length (take limit bs) - length rest) bs ≡ rest ++ drop limit bs)
 frame_rest bs text rest limit e =
     let n : length (take limit bs) ≡ length text + length rest = ap length e ∙ length-append text rest in

@@ -58,7 +58,7 @@ module _ {L : Type 0} (IsLeaf : L → Type 0) (length_of : L → ℕ) (spelling 
         (omega arith, r.valid.0, r.valid.1),
       )
 
-  -- what is behind a 5
+  -- the reader of the bytes after a tag 5 gives spelled values
   abbrev pub FoundInner : ℕ → Reader (Item L) → Type 0
   FoundInner levels at = FoundBehind 5 (IsItemOf levels) (item_spelling spelling) at
 

@@ -1,4 +1,4 @@
--- What the operations and answers of the program stand for, and how they are spelled.
+-- The plain operations and answers that the Rust values stand for, and their spellings.
 use Rattle.std.specs.Prelude.{ℕ, List}
 use Rattle.tuple_codec.specs.Operations.{Operation, out, rdp, inp, cas, rd_all, in_all, upgrade, Outcome, done, found, absent, swapped, all, full, refused}
 use Rattle.tuple_codec.specs.Spelling.{operation_spelling, outcome_spelling}

@@ -1,4 +1,4 @@
--- Codes of operations and outcomes, by which a proof tells them apart.
+-- Codes of operations and outcomes. A proof tells them apart by these.
 use Rattle.std.specs.Prelude.{◌≡◌, ◌⊎◌, ℕ, zero, suc, Bool, List, refl}
 use Rattle.std.specs.Coded.{Coded, code_by, coded_list, coded⊎, coded×, coded_ℕ, coded_bool}
 use Rattle.std.proofs.Common.{inl, inr}

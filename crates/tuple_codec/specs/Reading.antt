@@ -1,5 +1,5 @@
--- What stands at the front of bytes, and the bytes after it; None where nothing does. The contracts of private functions
--- speak of these. The public ones speak of Spelling alone.
+-- Readers of the value at the front of bytes. They give it with the bytes after it, or None if no value stands there.
+-- The contracts of private functions use these readers; those of public functions use Spelling alone.
 use Rattle.std.specs.Prelude.{ℕ, zero, suc, Bool, true, false, ◌&&◌, ◌==◌, nat_lt, nat_le, if◌then◌else◌, List, [], ◌∷◌, ◌++◌, length, take, drop, Option, Some, None}
 use Rattle.std.specs.Int.{w64, w128, cast_signed}
 use Rattle.std.specs.Str.{is_utf8}
@@ -17,7 +17,7 @@ None >>= f = None
 abbrev pub Reader : Type 0 → Type 0
 Reader A = List ℕ → Option (A × List ℕ)
 
--- what is read, as another value
+-- the reader of A, with f applied to the value
 abbrev pub read_as : {A B : Type 0} → (A → B) → Reader A → Reader B
 read_as f at bs = at bs >>= λ x. Some (f x.0, x.1)
 
@@ -25,11 +25,11 @@ read_as f at bs = at bs >>= λ x. Some (f x.0, x.1)
 abbrev pub alone : {A : Type 0} → A → Reader A
 alone x bs = Some (x, bs)
 
--- A tag, and what reads what stands after it.
+-- A tag, and the reader of the bytes after it.
 abbrev pub Row : Type 0 → Type 0
 Row A = ℕ × Reader A
 
--- what stands after a tag, by the first row that has the tag, and otherwise by another reader
+-- the reader of the first row that has the tag, or the other reader
 abbrev pub by_tag : {A : Type 0} → List (Row A) → (ℕ → Reader A) → ℕ → Reader A
 by_tag [] other tag bs = other tag bs
 by_tag (row ∷ rows) other tag bs = if tag == row.0 then row.1 bs else by_tag rows other tag bs
@@ -38,12 +38,12 @@ by_tag (row ∷ rows) other tag bs = if tag == row.0 then row.1 bs else by_tag r
 abbrev pub unknown : {A : Type 0} → ℕ → Reader A
 unknown tag bs = None
 
--- the bytes after what is read
+-- the bytes after the value
 abbrev pub rest_of : {A : Type 0} → Option (A × List ℕ) → Option (List ℕ)
 rest_of None = None
 rest_of (Some x) = Some x.1
 
--- n more, each of which grow takes in
+-- n more values; grow adds each to the state
 abbrev pub more : {X S : Type 0} → Reader X → (S → X → S) → ℕ → S → Reader S
 more at grow zero s bs = Some (s, bs)
 more at grow (suc n) s bs = at bs >>= λ x. more at grow n (grow s x.0) x.1
@@ -88,7 +88,7 @@ datum_rows =
     ∷ (6, wide_at)
     ∷ []
 
--- the value behind a tag
+-- the value after a tag
 unfoldable pub datum_at : ℕ → Reader Datum
 datum_at tag bs = by_tag datum_rows unknown tag bs
 
@@ -103,16 +103,16 @@ formal_rows =
     ∷ (0x16, alone (formal kinds.Wide))
     ∷ []
 
--- the field behind a tag: where it is no formal's, that of a value
+-- the field after a tag: that of a formal, or else the actual field of a value
 unfoldable pub slot_at : ℕ → Reader Slot
 slot_at tag bs = by_tag formal_rows (λ tag. read_as actual (datum_at tag)) tag bs
 
--- the actual field behind a tag
+-- the actual field after a tag
 abbrev pub actual_at : ℕ → Reader (Item Slot)
 actual_at tag = read_as leaf (read_as actual (datum_at tag))
 
 module _ {L : Type 0} (leaf_at : ℕ → Reader L) where
-  -- an item, where inner_at reads what stands behind a 5
+  -- an item, in which inner_at reads the bytes after a tag 5
   unfoldable pub item_with : Reader (Item L) → Reader (Item L)
   item_with inner_at bs = byte_at bs >>= λ x. if x.0 == 5 then inner_at x.1 else read_as leaf (leaf_at x.0) x.1
 
@@ -124,7 +124,7 @@ unfoldable pub nothing : {L : Type 0} → Reader (Item L)
 nothing bs = None
 
 module _ {L : Type 0} (leaf_at : ℕ → Reader L) where
-  -- what stands behind a 5, with at most so many levels
+  -- the bytes after a tag 5, with at most so many levels
   unfoldable pub inner_at : ℕ → Reader (Item L)
   inner_at zero = nothing
   inner_at (suc levels) = read_as inner (items_with (item_with leaf_at (inner_at levels)))
@@ -137,7 +137,7 @@ module _ {L : Type 0} (leaf_at : ℕ → Reader L) where
   abbrev pub items_at : ℕ → Reader (Items L)
   items_at levels = items_with (item_at levels)
 
--- what stands within the first bytes, so many of them
+-- a value within the first limit bytes
 unfoldable pub framed : {A : Type 0} → ℕ → Reader A → Reader A
 framed limit at bs = at (take limit bs) >>= λ x. Some (x.0, x.1 ++ drop limit bs)
 
@@ -177,7 +177,7 @@ with_tuple ts t = ts ++ t ∷ []
 unfoldable pub tuples_at : Reader (List TupleTree)
 tuples_at bs = byte_at bs >>= λ n. if nat_lt 64 n.0 then None else more tuple_at with_tuple n.0 [] n.1
 
--- the answers that have something behind their tag
+-- the answers with a content after their tag
 abbrev pub found_at : Reader Outcome
 found_at = read_as found tuple_at
 

@@ -1,5 +1,5 @@
--- The bytes of tuples, templates, operations and outcomes. Each value has one spelling: a count and then the items of
--- a list, each item behind its tag. Numbers are big-endian.
+-- The bytes of tuples, templates, operations and outcomes. Each value has one spelling: that of a list is a count and
+-- then its items, each after its tag. Numbers are big-endian.
 use Rattle.std.specs.Prelude.{◌≡◌, ℕ, ◌≤◌, ℤ, Bool, true, false, List, [], ◌∷◌, ◌++◌, length, take}
 use Rattle.std.specs.Int.{w16, w64, w128, to_be_bytes, cast_unsigned}
 use Rattle.tuple_tree.specs.Items.{Item, leaf, inner, Items, none, item, how_many}
@@ -116,8 +116,7 @@ SpellsOperation bs o = Spells IsOperation operation_spelling bs o
 abbrev pub SpellsOutcome : List ℕ → Outcome → Type 0
 SpellsOutcome bs r = Spells IsOutcome outcome_spelling bs r
 
--- Some front of the bytes spells a value, within the limits: there are a value and a length, not beyond the bytes, so
--- that the first bytes, so many of them, spell the value.
+-- Some front of the bytes spells a value within the limits: the first so many bytes, at most all, spell it.
 abbrev pub FrontSpells : {V : Type 0} → (V → Type 0) → (V → List ℕ) → List ℕ → Type 0
 FrontSpells {V = V} IsValue spelling bs = (v : V) × (k : ℕ) × (k ≤ length bs) × Spells IsValue spelling (take k bs) v
 

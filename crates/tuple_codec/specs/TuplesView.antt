@@ -1,4 +1,4 @@
--- What tuples in memory stand for.
+-- The plain tuples that the Rust values stand for.
 use Rattle.std.specs.Prelude.{List}
 use Rattle.std.specs.Coded.{Coded, coded_list}
 use Rattle.tuple_tree.specs.Values.{TupleTree}

@@ -1,10 +1,10 @@
-//! Why bytes are not read.
+//! Why bytes can't be read.
 
 use std::alloc::{AllocError, AllocFailed};
 use terms::NoMemory;
 use thiserror::Error;
 
-/// Why bytes are not read.
+/// Why bytes can't be read.
 #[derive(Clone, Copy, Debug, PartialEq, Eq, Error)]
 pub enum Bad {
     /// No front of the bytes spells a value within the limits.

@@ -30,7 +30,7 @@ pub fn is_result(bytes: &[u8]) -> bool
     }
 }
 
-// Each of these gives the bytes behind what stands at the front.
+// Each of these gives the bytes after the spelling at the front.
 #[tactic(auto, unfolding(crate::specs::Reading::operation_at))]
 pub fn skip_op(bytes: &[u8]) -> Option<&[u8]>
     ensures { Yields (λ rest. rest.now) result (rest_of (operation_at bytes.now)) }

@@ -22,15 +22,15 @@ use tuple_tree::{Atom, Field, Kind, MAX_FIELDS, Refusal, Template, Tuple, Value}
 ///
 /// # Errors
 ///
-/// Malformed where no front of the bytes spells a tuple within the limits, and else NoMemory where memory runs out.
+/// Malformed if no front of the bytes spells a tuple within the limits. Otherwise NoMemory if memory runs out.
 pub fn decode_tuple<A: Allocator + Clone>(alloc: A, bytes: &[u8]) -> Result<(Tuple<A>, usize), Bad>
-    // What is read is spelled so.
+    // The bytes spell the given tuple.
     ensures found { DecodesSpelled (λ t. t) SpellsTuple bytes.now result }
 
-    // What is spelled so is read, unless memory runs out.
+    // If the bytes spell a tuple, it is given, unless memory runs out.
     ensures only { DecodesEach (λ t. t) SpellsTuple bytes.now result }
 
-    // Memory runs out only where some front of the bytes is spelled so.
+    // Memory runs out only if some front of the bytes spells a tuple.
     ensures memory { IfErr result (λ bad. bad ≡ Bad.NoMemory → FrontSpellsTuple bytes.now) }
 {
     let Some(_) = skip_tuple(bytes) else {
@@ -46,18 +46,18 @@ pub fn decode_tuple<A: Allocator + Clone>(alloc: A, bytes: &[u8]) -> Result<(Tup
 ///
 /// # Errors
 ///
-/// Malformed where no front of the bytes spells a template within the limits, and else NoMemory where memory runs out.
+/// Malformed if no front of the bytes spells a template within the limits. Otherwise NoMemory if memory runs out.
 pub fn decode_template<A: Allocator + Clone>(
     alloc: A,
     bytes: &[u8],
 ) -> Result<(Template<A>, usize), Bad>
-    // What is read is spelled so.
+    // The bytes spell the given template.
     ensures found { DecodesSpelled (λ p. p) SpellsTemplate bytes.now result }
 
-    // What is spelled so is read, unless memory runs out.
+    // If the bytes spell a template, it is given, unless memory runs out.
     ensures only { DecodesEach (λ p. p) SpellsTemplate bytes.now result }
 
-    // Memory runs out only where some front of the bytes is spelled so.
+    // Memory runs out only if some front of the bytes spells a template.
     ensures memory { IfErr result (λ bad. bad ≡ Bad.NoMemory → FrontSpellsTemplate bytes.now) }
 {
     let Some(_) = skip_template(bytes) else {
@@ -165,7 +165,7 @@ fn read_atom_value<'b, A: Allocator + Clone>(
     }
 }
 
-// The limits were tested before, so that only memory can be wanting.
+// The caller tested the limits, so only memory can run out.
 fn push_value<A: Allocator>(tuple: &mut Tuple<A>, value: Value<A>) -> Result<(), NoMemory>
     requires { IsTuple (with_last tuple.old (value_of value)) }
     ensures { OnOk result (tuple.new ≡ with_last tuple.old (value_of value)) }
@@ -260,7 +260,7 @@ fn read_actual<'b, A: Allocator + Clone>(
     }
 }
 
-// The limits were tested before, so that only memory can be wanting.
+// The caller tested the limits, so only memory can run out.
 fn push_field<A: Allocator>(template: &mut Template<A>, field: Field<A>) -> Result<(), NoMemory>
     requires { IsTemplate (with_last template.old (field_of field)) }
     ensures { OnOk result (template.new ≡ with_last template.old (field_of field)) }
@@ -274,7 +274,7 @@ fn push_field<A: Allocator>(template: &mut Template<A>, field: Field<A>) -> Resu
     }
 }
 
-// The value behind a tag. The bytes are few, so that little memory is asked for.
+// The value after a tag. The bytes are few, so it asks for little memory.
 #[tactic(auto, unfolding(crate::specs::Reading::datum_at))]
 fn read_atom<'b, A: Allocator + Clone>(
     alloc: &A,

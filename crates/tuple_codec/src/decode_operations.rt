@@ -20,16 +20,15 @@ use tuple_tree::{Template, Tuple};
 ///
 /// # Errors
 ///
-/// Malformed where no front of the bytes spells an operation within the limits, and else NoMemory where memory runs
-/// out.
+/// Malformed if no front of the bytes spells an operation within the limits. Otherwise NoMemory if memory runs out.
 pub fn decode_op<A: Allocator + Clone>(alloc: A, bytes: &[u8]) -> Result<(Op<A>, usize), Bad>
-    // What is read is spelled so.
+    // The bytes spell the given operation.
     ensures found { DecodesSpelled operation_of SpellsOperation bytes.now result }
 
-    // What is spelled so is read, unless memory runs out.
+    // If the bytes spell an operation, it is given, unless memory runs out.
     ensures only { DecodesEach operation_of SpellsOperation bytes.now result }
 
-    // Memory runs out only where some front of the bytes is spelled so.
+    // Memory runs out only if some front of the bytes spells an operation.
     ensures memory { IfErr result (λ bad. bad ≡ Bad.NoMemory → FrontSpellsOperation bytes.now) }
 {
     let Some(_) = skip_op(bytes) else {
@@ -45,18 +44,18 @@ pub fn decode_op<A: Allocator + Clone>(alloc: A, bytes: &[u8]) -> Result<(Op<A>,
 ///
 /// # Errors
 ///
-/// Malformed where no front of the bytes spells an answer within the limits, and else NoMemory where memory runs out.
+/// Malformed if no front of the bytes spells an answer within the limits. Otherwise NoMemory if memory runs out.
 pub fn decode_result<A: Allocator + Clone>(
     alloc: A,
     bytes: &[u8],
 ) -> Result<(Answer<A>, usize), Bad>
-    // What is read is spelled so.
+    // The bytes spell the given answer.
     ensures found { DecodesSpelled outcome_of SpellsOutcome bytes.now result }
 
-    // What is spelled so is read, unless memory runs out.
+    // If the bytes spell an answer, it is given, unless memory runs out.
     ensures only { DecodesEach outcome_of SpellsOutcome bytes.now result }
 
-    // Memory runs out only where some front of the bytes is spelled so.
+    // Memory runs out only if some front of the bytes spells an answer.
     ensures memory { IfErr result (λ bad. bad ≡ Bad.NoMemory → FrontSpellsOutcome bytes.now) }
 {
     let Some(_) = skip_answer(bytes) else {

@@ -17,8 +17,8 @@ use std::alloc::Allocator;
 use terms::NoMemory;
 use tuple_tree::{Atom, Field, Kind, Template, Tuple, Value};
 
-/// Appends the spelling of the tuple: a count, and then each value behind its tag. An `Err` leaves the bytes as they
-/// were.
+/// Appends the spelling of the tuple: a count, and then the tag and the content of each value. An `Err` leaves the
+/// bytes as they were.
 pub fn encode_tuple<A: Allocator, B: Allocator>(
     tuple: &Tuple<A>,
     out: &mut Vec<u8, B>,
@@ -36,7 +36,7 @@ pub fn encode_tuple<A: Allocator, B: Allocator>(
     }
 }
 
-/// Appends the spelling of the template, as of a tuple with more tags. An `Err` leaves the bytes as they were.
+/// Appends the spelling of the template: as of a tuple, with more tags. An `Err` leaves the bytes as they were.
 pub fn encode_template<A: Allocator, B: Allocator>(
     template: &Template<A>,
     out: &mut Vec<u8, B>,
@@ -54,8 +54,7 @@ pub fn encode_template<A: Allocator, B: Allocator>(
     }
 }
 
-/// Appends the spelling of the operation: a tag, and then what it holds. An `Err` leaves the bytes as they
-/// were.
+/// Appends the spelling of the operation: a tag, and then its arguments. An `Err` leaves the bytes as they were.
 pub fn encode_op<A: Allocator, B: Allocator>(
     op: &Op<A>,
     out: &mut Vec<u8, B>,
@@ -73,7 +72,7 @@ pub fn encode_op<A: Allocator, B: Allocator>(
     }
 }
 
-/// Appends the spelling of the answer: a tag, and then what it holds. An `Err` leaves the bytes as they were.
+/// Appends the spelling of the answer: a tag, and then its content. An `Err` leaves the bytes as they were.
 pub fn encode_result<A: Allocator, B: Allocator>(
     answer: &Answer<A>,
     out: &mut Vec<u8, B>,

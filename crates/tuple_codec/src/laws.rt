@@ -5,8 +5,8 @@ ghost use Rattle.tuple_codec.specs.Operations.{IsOperation, IsOutcome};
 ghost use Rattle.tuple_codec.specs.Spelling.{tuple_spelling, template_spelling, operation_spelling, outcome_spelling};
 ghost use Rattle.tuple_codec.specs.Laws.{HasOneSpelling};
 
-/// No spelling begins another one of its sort, and each stands for one value. So what follows a spelling never changes
-/// how it is read.
+/// No spelling begins another one of its sort, and each stands for one value. So the bytes after a spelling never
+/// change how it is read.
 pub fn one_spelling()
     ensures tuples { HasOneSpelling IsTuple tuple_spelling }
     ensures templates { HasOneSpelling IsTemplate template_spelling }

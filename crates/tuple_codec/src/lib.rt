@@ -2,13 +2,15 @@
 //!
 //! # What is proved
 //!
-//! `encode_*` append the one spelling, or leave the bytes as they were. `decode_*` give a value only where the bytes
-//! in front spell it, refuse only where no front does, want of memory aside, and want memory only where some front
-//! does: the bytes are judged before memory is taken. `is_op` and `is_result` hold exactly of a whole spelling and take
-//! no memory. Operations and answers are equal where `same` says so, `copy_in` gives equal ones, and `encoded_len` is
-//! the length of the spelling. `is_read` tells which operations leave each space as it is, and `is_version_2` which ones
-//! a space of version 1 refuses. `one_spelling` is the law that no spelling begins another and each stands for one
-//! value; by `note_valid` each operation and answer that the program holds is within the limits.
+//! `encode_*` append the one spelling, or leave the bytes as they were. `decode_*` give a value only if the bytes in
+//! front spell it, and call bytes malformed only if no front of them spells a value. They judge the bytes before they
+//! take memory, so memory runs out only if some front spells a value. `is_op` and `is_result` hold exactly of a whole
+//! spelling and take no memory.
+//!
+//! Operations and answers are equal if `same` says so, `copy_in` gives equal ones, and `encoded_len` is the length of
+//! the spelling. `is_read` tells which operations leave each space as it is, and `is_version_2` which ones a space of
+//! version 1 refuses. `one_spelling` is the law that no spelling begins another and each stands for one value. By
+//! `note_valid` each operation and answer that the program holds is within the limits.
 #![tactic(auto)]
 
 mod bad;

@@ -10,7 +10,7 @@ use std::marker::Model;
 use terms::NoMemory;
 use tuple_tree::{Template, Tuple};
 
-/// How many tuples one answer has at the most.
+/// Most tuples of one answer.
 pub const MAX_ANSWERS: usize = 64;
 
 /// How many tuples an `rdAll` asks for: 1 to 64.
@@ -21,7 +21,7 @@ pub struct Max {
 }
 
 impl Max {
-    /// The count where it is 1 to 64.
+    /// The count, if it is 1 to 64.
     pub fn new(count: u8) -> Option<Max>
         ensures some { IsSome result ↔ ((1 ≤ count) × (count ≤ 64)) }
         ensures value { IfSome result (λ max. max.count ≡ count) }
@@ -145,11 +145,11 @@ pub enum Op<A: Allocator> {
     Rdp(Template<A>),
     /// Takes the oldest match.
     Inp(Template<A>),
-    /// Puts the tuple into the space where nothing matches.
+    /// Puts the tuple into the space if nothing matches.
     Cas(Template<A>, Tuple<A>),
-    /// Reads the oldest matches, so many at the most.
+    /// Reads the oldest matches, at most so many.
     RdAll(Max, Template<A>),
-    /// Takes the oldest matches, so many at the most.
+    /// Takes the oldest matches, at most so many.
     InAll(Max, Template<A>),
     /// Makes the space one of version 2.
     Upgrade,
@@ -234,8 +234,8 @@ impl<A: Allocator> Op<A> {
         }
     }
 
-    /// Each operation that the program holds is within the limits. Does nothing, and takes no memory: it is called
-    /// where a proof needs the fact.
+    /// Each operation that the program holds is within the limits. Does nothing, and takes no memory: a caller calls
+    /// it if a proof needs the fact.
     pub fn note_valid(&self)
         ensures { IsOperation (operation_of self.now) }
     {
@@ -256,7 +256,7 @@ impl<A: Allocator> Op<A> {
     }
 }
 
-/// What an operation answers.
+/// The answer to an operation.
 #[derive(Drop)]
 pub enum Answer<A: Allocator> {
     Done,
@@ -320,8 +320,8 @@ impl<A: Allocator> Answer<A> {
         }
     }
 
-    /// Each answer that the program holds is within the limits. Does nothing, and takes no memory: it is called where
-    /// a proof needs the fact.
+    /// Each answer that the program holds is within the limits. Does nothing, and takes no memory: a caller calls it
+    /// if a proof needs the fact.
     pub fn note_valid(&self)
         ensures { IsOutcome (outcome_of self.now) }
     {

@@ -9,7 +9,7 @@ use byteorder::{BigEndian, ByteOrder};
 use std::str;
 use tuple_tree::MAX_LEN;
 
-/// The bytes in which a tuple or template ends: the first 1,024.
+/// The bytes within which a tuple or template ends: the first 1,024.
 pub fn frame(bytes: &[u8]) -> &[u8]
     ensures value { result.now ≡ take 1024 bytes.now }
     ensures bound { length result.now ≤ 1024 }
@@ -79,7 +79,7 @@ fn wide_of(bytes: &[u8]) -> i128
     BigEndian::read_i128(bytes)
 }
 
-/// Bytes behind their length.
+/// A length, and then so many bytes.
 #[tactic(auto, unfolding(crate::specs::Reading::string_at))]
 pub fn read_string(bytes: &[u8]) -> Option<(&[u8], &[u8])>
     ensures { Yields (λ x. (x.0.now, x.1.now)) result (string_at bytes.now) }
@@ -88,7 +88,7 @@ pub fn read_string(bytes: &[u8]) -> Option<(&[u8], &[u8])>
     read_bytes(rest, len as usize)
 }
 
-/// UTF-8 behind its length.
+/// A length, and then so many bytes of UTF-8.
 #[tactic(auto, unfolding(crate::specs::Reading::text_at))]
 pub fn read_text(bytes: &[u8]) -> Option<(&str, &[u8])>
     ensures { Yields (λ x. (x.0.now, x.1.now)) result (text_at bytes.now) }

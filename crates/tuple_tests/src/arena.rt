@@ -1,4 +1,4 @@
-//! What is read into an arena equals what is read into ordinary memory.
+//! A value read into an arena equals the one read into ordinary memory.
 
 use crate::items::{Item, Sort, are_same, read};
 use bumpalo::Bump;

@@ -6,7 +6,7 @@ use std::test::Fail;
 use test_bytes::read_op;
 use tuple_codec::Op;
 
-// The operation of these bytes is applied, at the second try where memory ran out at the first one.
+// The operation of these bytes is applied, at the second try if memory ran out at the first one.
 fn is_done(space: &mut Space, alloc: Global, op: &[u8]) -> bool {
     match read_op(alloc, op) {
         Some(op) => {
@@ -119,7 +119,7 @@ fn candidates_by_length_and_first_value(rt: HostRuntime) -> Result<(), Fail> {
     Ok(())
 }
 
-// The operation is applied, at the second try or a later one where memory ran out at the first one.
+// The operation is applied, at the second try or a later one if memory ran out at the first one.
 fn is_watched(watched: &mut Watched, op: &Op<Global>) -> bool {
     for _try in 0..8 {
         if !watched.space().births_left() {

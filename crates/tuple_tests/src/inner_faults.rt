@@ -1,5 +1,4 @@
-//! Bytes that are whole but for one inner fault. The answer is that they are malformed, with plenty of memory and with
-//! none.
+//! Bytes that are whole except for one inner fault. They are malformed, with plenty of memory and with none.
 
 use crate::items::{Sort, read};
 use linked_list_allocator::LocalHeap;
@@ -41,7 +40,7 @@ static FAULTS: [Row<'static>; 25] = [
     (Sort::Op, b"\x26\x01\x10"),
     // an answer of 65 tuples
     (Sort::Answer, TUPLES_65),
-    // a truth value of 02, behind a text and a number
+    // a truth value of 02, after a text and a number
     (Sort::Tuple, b"\x02\x02\x00\x01k\x04\x02"),
     (
         Sort::Template,
@@ -49,14 +48,14 @@ static FAULTS: [Row<'static>; 25] = [
     ),
     (Sort::Op, b"\x24\x01\x12\x02\x02\x00\x01k\x04\x02"),
     (Sort::Answer, b"\x34\x02"),
-    // a text that isn't UTF-8, behind a text that is
+    // a text that isn't UTF-8, after a text that is
     (Sort::Tuple, b"\x02\x02\x00\x01k\x02\x00\x02\xc3\x28"),
     (Sort::Op, b"\x23\x02\x02\x00\x01k\x02\x00\x01\xff"),
     (
         Sort::Answer,
         b"\x35\x02\x01\x02\x00\x01k\x01\x02\x00\x01\xff",
     ),
-    // a wide number of 15 bytes, behind a text
+    // a wide number of 15 bytes, after a text
     (
         Sort::Tuple,
         b"\x02\x02\x00\x01k\x06\x00\x00\x00\x00\x00\x00\x00\x00\x00\x00\x00\x00\x00\x00\x01",
@@ -110,7 +109,7 @@ static WHOLE: [Row<'static>; 7] = [
     (Sort::Answer, b"\x35\x02\x01\x02\x00\x01k\x01\x02\x00\x01l"),
 ];
 
-// Why the bytes aren't read; `None` where they are.
+// Why the bytes aren't read, or `None` if they are.
 fn refusal<A: Allocator>(alloc: &A, (sort, bytes): Row<'_>) -> Option<Bad> {
     match read(alloc, sort, bytes) {
         Ok((item, _len)) => {
@@ -121,7 +120,7 @@ fn refusal<A: Allocator>(alloc: &A, (sort, bytes): Row<'_>) -> Option<Bad> {
     }
 }
 
-// Why the first row isn't read that is not as expected. What is expected, where each row is.
+// Why the first row isn't read whose result is unexpected, or the expected refusal if no row differs.
 fn refusal_of_all<A: Allocator>(alloc: &A, rows: &[Row<'_>], expected: Option<Bad>) -> Option<Bad> {
     for &row in rows {
         let found = refusal(alloc, row);

@@ -28,8 +28,8 @@ fn meagre(alloc: Global, left: usize) -> Result<Bump, AllocError> {
     Ok(bump)
 }
 
-// The least number of bytes of an arena in which the turn succeeds, where with any less it says that memory ran out: so
-// each of its growths was refused once. An arena is reset only where each block came back.
+// The least number of bytes of an arena in which the turn succeeds. With any fewer the turn says that memory ran out,
+// so each of its growths was refused once. An arena is reset only if each block came back.
 fn least_arena(alloc: Global, turn: Turn) -> Result<Option<usize>, AllocError> {
     for left in 0..AMPLE {
         let mut bump = meagre(alloc, left)?;
@@ -46,7 +46,7 @@ fn least_arena(alloc: Global, turn: Turn) -> Result<Option<usize>, AllocError> {
     Ok(None)
 }
 
-// The same of a heap, in which what grows moves to a block of its own.
+// The same for a heap, in which a growing value moves to a block of its own.
 fn least_heap(alloc: Global, turn: Turn) -> Result<Option<usize>, AllocError> {
     for units in 0..AMPLE / UNIT {
         let heap = LocalHeap::new(alloc, units * UNIT)?;
@@ -81,8 +81,8 @@ fn growths_in_a_heap(rt: HostRuntime) -> Result<(), Fail> {
     Ok(())
 }
 
-// How many growths the turn has, where it says that memory ran out exactly where one of them is refused, and else
-// succeeds. An `Err` says that memory ran out where none of them was refused.
+// How many growths the turn has, if it says that memory ran out exactly if one of them is refused, and otherwise
+// succeeds. An `Err` says that memory ran out though none of them was refused.
 fn growths_of(alloc: Global, turn: Turn) -> Result<Option<u64>, NoMemory> {
     for number in 1..MANY {
         let memory = Refusing::new(alloc, number);
@@ -96,7 +96,7 @@ fn growths_of(alloc: Global, turn: Turn) -> Result<Option<u64>, NoMemory> {
     Ok(None)
 }
 
-// The same in an arena, which is reset only where each block came back.
+// The same in an arena, which is reset only if each block came back.
 fn growths_in(bump: &mut Bump, turn: Turn) -> Result<Option<u64>, NoMemory> {
     for number in 1..MANY {
         let (ended, has_refused) = ends_in(bump, turn, number);
@@ -138,7 +138,7 @@ fn each_growth_in_an_arena(rt: HostRuntime) -> Result<(), Fail> {
     Ok(())
 }
 
-// Whether the turn succeeds, at the second try where memory ran out at the first one.
+// Whether the turn succeeds, at the second try if memory ran out at the first one.
 fn succeeds(alloc: Global, turn: Turn) -> bool {
     match run(turn, alloc) {
         Err(Bad::NoMemory) => run(turn, alloc) == Ok(true),

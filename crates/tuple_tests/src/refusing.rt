@@ -3,7 +3,7 @@
 use std::alloc::{AllocError, Allocator};
 use std::cell::Cell;
 
-/// Memory that another allocator grants, but for one growth. All blocks are given back to that one.
+/// Memory that another allocator grants, except for one growth. All blocks are given back to that one.
 pub struct Refusing<B: Allocator> {
     inner: B,
     // How many growths come up to the one that is refused, this one counted. None once it was refused.

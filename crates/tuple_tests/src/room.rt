@@ -1,5 +1,5 @@
-//! How much memory calls take: what they give fills a heap, so they take no more beside it, not even for a while, and
-//! in a heap with one block less they say that memory ran out.
+//! How much memory calls take. Their results fill a heap, so they take no more beside them, not even for a while. In
+//! a heap with one block less they say that memory ran out.
 //!
 //! A heap hands out blocks of multiples of 16 bytes. So each list of four is one block, and each short string another.
 
@@ -64,7 +64,7 @@ static ROWS: [Row<'static>; 6] = [
     ),
 ];
 
-// Whether what is decoded fills the heap, where there is room for it.
+// Whether the decoded value fills the heap, if it has room for the value.
 fn decoded(heap: &LocalHeap, sort: Sort, bytes: &[u8]) -> Result<bool, Bad> {
     let (item, _len) = read(heap, sort, bytes)?;
     let is_full = heap.free() == 0;
@@ -98,7 +98,7 @@ fn fills_as_copy(heap: &LocalHeap, item: &Item<Global>) -> Result<bool, Bad> {
     Ok(is_full)
 }
 
-// Whether a copy of what ordinary memory holds fills the heap.
+// Whether a copy of a value in ordinary memory fills the heap.
 fn copy_of(alloc: Global, heap: &LocalHeap, sort: Sort, bytes: &[u8]) -> Result<bool, Bad> {
     let (item, _len) = read(alloc, sort, bytes)?;
     let is_full = fills_as_copy(heap, &item);
@@ -131,7 +131,7 @@ fn spells(heap: &LocalHeap, item: &Item<Global>, bytes: &[u8]) -> Result<bool, B
     Ok(is_right)
 }
 
-// Whether these bytes are written where there is room for them alone.
+// Whether these bytes are written if there is room only for them.
 fn encoded(alloc: Global, heap: &LocalHeap, sort: Sort, bytes: &[u8]) -> Result<bool, Bad> {
     let (item, _len) = read(alloc, sort, bytes)?;
     let is_right = spells(heap, &item, bytes);

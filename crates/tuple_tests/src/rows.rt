@@ -108,7 +108,7 @@ fn is_malformed(alloc: Global, bytes: &[u8]) -> bool {
 
 #[test]
 fn no_other_bytes_are_a_tuple(rt: HostRuntime) {
-    // (("x") true), and what comes near
+    // (("x") true), and similar tuples
     let nested = b"\x02\x05\x01\x02\x00\x01x\x04\x01".as_slice();
     for len in 0..nested.len() {
         assert!(rt; is_malformed(rt.alloc(), &nested[..len]));

@@ -11,7 +11,7 @@ use tuple_codec::{Answer, Op, encode_result};
 // An operation and its answer, in bytes.
 type Step<'a> = (&'a [u8], &'a [u8]);
 
-// Whether the operation of these bytes is answered by those. What memory is refused to is tried a second time.
+// Whether the operation of these bytes has this answer. If memory is refused, it is tried a second time.
 fn answers(space: &mut Space, alloc: Global, (op, expected): Step<'_>) -> bool {
     match read_op(alloc, op) {
         Some(op) => {
@@ -90,7 +90,7 @@ static OPERATIONS: [Step<'static>; 7] = [
     (b"\x22\x01\x12", b"\x33"),
 ];
 
-// A space of version 1 refuses what has a wide number or asks for one, and stays as it was.
+// A space of version 1 refuses an operation that has a wide number or asks for one, and stays as it was.
 static REFUSED: [Step<'static>; 9] = [
     // out (w1): refused
     (b"\x21\x01\x06\0\0\0\0\0\0\0\0\0\0\0\0\0\0\0\x01", b"\x37"),
@@ -209,7 +209,7 @@ const READ_ALL: &[u8] = b"\x25\x40\x01\x10";
 
 const BOTH: &[u8] = b"\x35\x02\x01\x01\0\0\0\0\0\0\0\x01\x01\x01\0\0\0\0\0\0\0\x02";
 
-// Whether a look at the space gives this answer, at the second try where memory ran out at the first one.
+// Whether a look at the space gives this answer, at the second try if memory ran out at the first one.
 fn peeks(space: &Space, alloc: Global, op: &[u8], expected: &[u8]) -> bool {
     match read_op(alloc, op) {
         Some(op) => {

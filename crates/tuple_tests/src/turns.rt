@@ -91,7 +91,7 @@ fn refused(refusal: Refusal, is_as_before: bool) -> Result<bool, Bad> {
     }
 }
 
-// What an encoder left behind a first byte: these bytes, or on a refusal nothing.
+// The bytes that an encoder appended to a first byte: these, or none after a refusal.
 fn spelled<A: Allocator>(
     encoded: Result<(), NoMemory>,
     out: &Vec<u8, A>,

@@ -1,4 +1,4 @@
--- A text with something behind it that can't go on with it is read as its value, or a limit is passed in it.
+-- The text of a value, with bytes after it that can't continue it, is read as that value, or passes a limit.
 use Rattle.std.proofs.Common.{◌≡◌, ℕ, zero, suc, ◌<◌, ◌≤◌, ◌==◌, Bool, true, false, cond, List, [], ◌∷◌, ◌++◌, length, codes, refl, ap, sym, subst, ◌∙◌, append_assoc, arith, ◌⊎◌, inl, inr, if◌then◌else◌, length-append}
 use Rattle.tuple_tree.specs.Items.{Item, leaf, inner, Items, none, item, with_last, item_levels}
 use Rattle.tuple_text.specs.Texts.{AreBlanks, ItemText, WholeText}
@@ -27,7 +27,7 @@ pub then_again : {V W : Type 0} → (D E : Stop → Type 0) (v : V) (t : List �
 then_again D E v t w u (got a rest) f k l h m = subst (λ r. AgainAs E w u (f a r)) (sym h.1) (subst (λ b. AgainAs E w u (f b t)) (sym h.0) m)
 then_again D E v t w u (stop s rest) f k l h m = (k s h.0, let p = h.1 in omega arith)
 
--- something said of what is read behind v, or where a limit is passed before
+-- P holds if it holds of reading after v, and if a limit is passed before
 pub then_into : {V W : Type 0} → (P : Read W → Type 0) (D : Stop → Type 0) (v : V) (t : List ℕ) (x : Read V) (f : V → Reading W) → ((s : Stop) (rest : List ℕ) → D s → length t < length rest → P (stop s rest)) → AgainAs D v t x → P (f v t) → P (x >>= f)
 then_into P D v t (got a rest) f k h m = subst (λ r. P (f a r)) (sym h.1) (subst (λ b. P (f b t)) (sym h.0) m)
 then_into P D v t (stop s rest) f k h m = k s rest h.0 h.1
@@ -67,7 +67,7 @@ module _ {L : Type 0} (leaf_text : L → List ℕ) where
   last_ends [] u h = inr refl
   last_ends (b ∷ w) u h = inl h.0
 
-  -- An item ends where a list goes on.
+  -- The rest of a list ends the item before it.
   pub rest_ends : (xs : Items L) (w u : List ℕ) → Ends leaf_text false xs w → EndsItem (w ++ 41 ∷ u)
   rest_ends none w u h = last_ends w u h
   rest_ends (item x xs) w u h = subst EndsItem (sym (ap (λ t. t ++ 41 ∷ u) h.3 ∙ append_assoc h.0 (h.1 ++ h.2) (41 ∷ u))) (gap_ends h.0 ((h.1 ++ h.2) ++ 41 ∷ u) h.4 h.5)
@@ -124,7 +124,7 @@ module _ {L : Type 0} (leaf_text : L → List ℕ) where
           (subst (λ v. AgainAs (Exceed n (suc room) (item x xs)) v (41 ∷ u) (items why with_last one room false (with_last t x) (h.2 ++ 41 ∷ u))) (join_last t x xs)
           (weaken (Exceed n room xs) (Exceed n (suc room) (item x xs)) (join (with_last t x) xs) (41 ∷ u) (items why with_last one room false (with_last t x) (h.2 ++ 41 ∷ u)) (rest_exceeds n room x xs) rest)))
 
-      -- a whole list, by what is read behind its items
+      -- a whole list, if P holds of reading after its items
       pub list_into : {V : Type 0} → (P : Read V → Type 0) (xs : Items L) (w u : List ℕ) (f : Items L → Reading V) → ((s : Stop) (rest : List ℕ) → Exceed n 32 xs s → length (41 ∷ u) < length rest → P (stop s rest)) → EachLeaf IsLeaf xs → WholeText leaf_text xs w
           → P (f xs (41 ∷ u)) → P (word (codes "(") (w ++ u) >>= λ _ rest. items why with_last one 32 true none rest >>= f)
       list_into P xs w u f k p h m =

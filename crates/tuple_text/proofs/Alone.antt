@@ -12,7 +12,7 @@ use Rattle.tuple_text.proofs.Local.{LocalAs, IsLocal, left, local_got, local_the
 use Rattle.tuple_text.proofs.Localities.{blanks_local, ending_local, template_local}
 use Rattle.tuple_text.proofs.Judging.{front, front_to, read_is_line, too_big, line_reads_only, line_no_stop, stopped_faults}
 
--- the line of which the text is the argument
+-- the line with this text as its argument
 abbrev pub as_line : List ℕ → List ℕ
 as_line bs = codes "rdp " ++ bs
 
@@ -82,7 +82,7 @@ read_line_of bs p rest e = ap line (line_front bs) ∙ line_seen (text_front bs)
 stop_line_of : (bs : List ℕ) (s : Stop) (rest : List ℕ) → lone_template (text_front bs) ≡ stop s rest → line (front (as_line bs)) ≡ stop s rest
 stop_line_of bs s rest e = ap line (line_front bs) ∙ line_seen (text_front bs) ∙ ap (λ y. y >>= λ p rest. got (rdp p) rest) e
 
--- What the program's reading of a text says of the line.
+-- A text that the program reads as a template is the argument of that template's rdp line.
 pub text_is_line : (bs : List ℕ) (p : TemplateTree) (rest : List ℕ) → length bs ≤ 65532 → lone_template (text_front bs) ≡ got p rest → IsLine (rdp p) (as_line bs)
 text_is_line bs p rest l e = read_is_line (as_line bs) (rdp p) rest (omega (arith, l)) (read_line_of bs p rest e)
 

@@ -10,19 +10,20 @@ use Rattle.tuple_text.proofs.Numbers.{ends_there}
 abbrev pub Begins : {V : Type 0} → (Limits → V → List ℕ → Type 0) → Limits → List ℕ → Type 0
 Begins {V} P c w = (v : V) × (u : List ℕ) × P c v (w ++ u)
 
--- something behind a gap
+-- a gap, and then a text with the property P
 abbrev pub Behind : (List ℕ → Type 0) → List ℕ → Type 0
 Behind P w = (space front : List ℕ) × (w ≡ space ++ front) × IsGap space × P front
 
--- an argument behind a gap, and what is left of the line behind it
+-- a gap and an argument, and the rest of the line
 abbrev pub Then : {V : Type 0} → (V → List ℕ → Type 0) → (V → Operation → List ℕ → Type 0) → Operation → List ℕ → Type 0
 Then {V} F G o w = (v : V) × (front rest : List ℕ) × (w ≡ front ++ rest) × Behind (F v) front × G v o rest
 
--- The argument is too long, or one behind it is.
+-- The argument is too long, or a later one is.
 abbrev pub LongThen : {V : Type 0} → (V → List ℕ → Type 0) → (List ℕ → Type 0) → (V → List ℕ → Type 0) → List ℕ → Type 0
 LongThen {V} F D E w = Behind D w ⊎ ((v : V) × (front rest : List ℕ) × (w ≡ front ++ rest) × Behind (F v) front × E v rest)
 
--- A gap and an argument: F of what is read, P c of a text within the limits c, D of one that is too long.
+-- A gap and an argument: F holds of the argument that is read, P c of a text within the limits c, D of one that is
+-- too long.
 module _ {V : Type 0} (F : V → List ℕ → Type 0) (P : Limits → V → List ℕ → Type 0) (D : List ℕ → Type 0) (some : (c : Limits) → (v : V) × (w : List ℕ) × P c v w) (weaker : (c : Limits) (v : V) (w : List ℕ) → F v w → P c v w) where
   longer_gap : (w : List ℕ) → AreBlanks w → IsGap (w ++ 32 ∷ [])
   longer_gap [] h = (omega arith, (refl, tt))
@@ -43,7 +44,7 @@ module _ {V : Type 0} (F : V → List ℕ → Type 0) (P : Limits → V → List
       (λ _ space g w d. (space, w, refl, g, d))
       (gap_right bs) (λ _ rest. h rest)
 
-  -- An argument, and what is left of the line behind it.
+  -- An argument, and the rest of the line.
   module _ (G : V → Operation → List ℕ → Type 0) (T : V → Limits → Operation → List ℕ → Type 0) (E : V → List ℕ → Type 0) where
     behind_weaker : (c : Limits) (v : V) (w : List ℕ) → Behind (F v) w → Behind (P c v) w
     behind_weaker c v w h = (h.0, h.1, h.2, h.3, weaker c v h.1 h.4)
@@ -63,7 +64,7 @@ module _ {V : Type 0} (F : V → List ℕ → Type 0) (P : Limits → V → List
         (λ v front k w d. inr (v, front, w, refl, k, d))
         (argument_right one bs h) t
 
--- What is left behind the last argument: blanks.
+-- The rest after the last argument: blanks.
 abbrev pub IsDone : Operation → Operation → List ℕ → Type 0
 IsDone o p w = (p ≡ o) × AreBlanks w
 
@@ -76,8 +77,7 @@ done_right o bs =
     (λ _ front h c w e. absurd e)
     (ending_right bs) (λ _ rest. record { passed = []; whole = refl; is = (refl, refl) })
 
--- A word behind what is passed of the line already, and what is left of the line behind it; G, M and N are of whole
--- lines.
+-- A word, and the rest of the line. pre are the bytes passed before the word; G, M and N speak of whole lines.
 module _ (G : Operation → List ℕ → Type 0) (M : Limits → Operation → List ℕ → Type 0) (N : List ℕ → Type 0) (pre cs : List ℕ) (F : Operation → List ℕ → Type 0) (P : Limits → Operation → List ℕ → Type 0) (D : List ℕ → Type 0)
     (good : (o : Operation) (w : List ℕ) → F o w → G o (pre ++ (cs ++ w))) (limited : (c : Limits) (o : Operation) (w : List ℕ) → P c o w → M c o (pre ++ (cs ++ w))) (long : (w : List ℕ) → D w → N (pre ++ (cs ++ w)))
     (some : (c : Limits) → (o : Operation) × (w : List ℕ) × P c o w) where

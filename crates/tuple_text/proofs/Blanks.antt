@@ -6,7 +6,7 @@ use Rattle.tuple_text.specs.Reading.{Read, got, stop, ◌>>=◌, blanks, word, g
 use Rattle.tuple_text.specs.declared.reader.Stop.TheVariants.{BadByte}
 use Rattle.tuple_text.proofs.Right.{Limits, RightAs, Never, right_on, then_right, nothing_passed}
 
--- blanks behind which an item may begin, if it may where free is so
+-- an item may begin after these blanks: free says so, or there is a blank
 abbrev pub Frees : Bool → List ℕ → Type 0
 Frees free w = (free ≡ true) ⊎ (0 < length w)
 
@@ -95,7 +95,7 @@ abbrev pub NoBlank : List ℕ → Type 0
 NoBlank [] = Unit {0}
 NoBlank (b ∷ bs) = (b == 32) ≡ false
 
--- what passing these blanks leaves of free
+-- whether an item may begin after these blanks
 abbrev pub freed : Bool → List ℕ → Bool
 freed free [] = free
 freed free (b ∷ bs) = true

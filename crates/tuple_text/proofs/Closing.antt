@@ -1,4 +1,4 @@
--- A line's last argument is read with what stands behind it, and then taken for the operation.
+-- A line's last argument is read with the blanks after it, and then taken for the operation.
 use Rattle.std.proofs.Common.{◌≡◌, ℕ, Bool, true, List, codes, refl, ap, ◌∙◌}
 use Rattle.tuple_tree.specs.Values.{TemplateTree}
 use Rattle.tuple_codec.specs.Operations.{Operation, out, cas}

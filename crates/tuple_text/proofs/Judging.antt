@@ -1,4 +1,4 @@
--- What reading the line means for its faults.
+-- The result of reading the line says which faults it has.
 use Rattle.std.proofs.Common.{◌≡◌, ℕ, zero, suc, ◌+◌, ◌-◌, ◌<◌, ◌≤◌, ◌==◌, min, Bool, true, false, cond, List, [], ◌∷◌, ◌++◌, length, take, drop, codes, refl, ap, sym, subst, ◌∙◌, append_assoc, append-nil, arith, ◌⊎◌, inl, inr, length-append}
 use Rattle.std.proofs.lemmas.List.{take_at, length-take, length-drop, take-append-drop}
 use Rattle.std.proofs.lemmas.Bool.{cases_lt}
@@ -78,14 +78,14 @@ short_to bs n x e h k p l =
 pub passes : (bs : List ℕ) (n : ℕ) (x : Read Operation) → line (front bs) ≡ x → At bs n (left x) → Begins LimitedLine both (take n bs) → Passes bs n
 passes bs n x e h b = record { within = h.within; limit = h.limit; begins = begins_line both (take n bs) b; short = short_to bs n x e h }
 
--- Where reading stops before b, the lines that go on with b pass the limit.
+-- If reading stops before b, each line that continues with b passes the limit.
 exceeds : (o : Operation) (s : Stop) (w : List ℕ) (b : ℕ) (t u : List ℕ) → ((v : List ℕ) → SameHead (b ∷ t) v → line (w ++ v) ≡ stop s v) → LineText o ((w ++ b ∷ []) ++ u) → Exceeds o s
 exceeds o s w b t u a h =
     let e : line ((w ++ b ∷ []) ++ u) ≡ stop s (b ∷ u) = ap line (append_assoc w (b ∷ []) u) ∙ a (b ∷ u) refl in
     let g = subst (AgainAs (Exceeds o) o []) e (line_again o ((w ++ b ∷ []) ++ u) h) in
     g.0
 
--- Where reading stops at the first n bytes, and what it reads of others that begin alike.
+-- Reading stops at the first n bytes, and also in each text that begins with them and the byte after them.
 pub record Halted (bs : List ℕ) (s : Stop) (n : ℕ) (rest : List ℕ) : Type 0 where
   pub read : line (front bs) ≡ stop s rest
   pub place : At bs n rest
@@ -175,7 +175,7 @@ module _ (bs : List ℕ) where
       let h = halts bs s rest e (subst (LocalAs line (front bs)) e (line_local (front bs))) (subst (RightTo GoodLine (Begins LimitedLine) EndsTooLong (front bs)) e (line_right (front bs))) in
       subst (λ n. Faults (fault_at n s) bs) h.1 (halted_faults s h.0 rest h.2)
 
--- Nothing is left behind an operation.
+-- No bytes are left after an operation.
 abbrev AtEnd : {V : Type 0} → Read V → Type 0
 AtEnd (got v rest) = rest ≡ []
 AtEnd (stop s rest) = Unit {0}
@@ -256,7 +256,7 @@ line_end : (bs : List ℕ) → AtEnd (line bs)
 unfolding line
 line_end bs = then_end (blanks true bs) (λ _ rest. operation rest) (λ _ rest. operation_end rest)
 
--- What is read as an operation is its line.
+-- A line that is read as an operation is that operation's line.
 read_whole : (bs : List ℕ) (o : Operation) (rest : List ℕ) → line bs ≡ got o rest → GoodLine o bs
 read_whole bs o rest e =
     let f = subst (RightTo GoodLine (Begins LimitedLine) EndsTooLong bs) e (line_right bs) in
@@ -338,7 +338,7 @@ no_length : (bs : List ℕ) → length bs ≡ 0 → bs ≡ []
 no_length [] h = refl
 no_length (b ∷ bs) h = absurd (omega arith)
 
--- The line is of blanks alone where passing blanks leaves nothing.
+-- If nothing is left after blanks are passed, the line is of blanks alone.
 pub blanks_left : (bs : List ℕ) (v : Bool) (rest : List ℕ) → blanks true bs ≡ got v rest → length rest ≡ 0 → AreBlanks bs
 blanks_left bs v rest e h =
     let f = subst (RightAs (ArePassed true) BeginsBlanks bs) e (blanks_right true bs) in

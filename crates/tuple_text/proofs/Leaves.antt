@@ -20,7 +20,7 @@ use Rattle.tuple_text.proofs.Right.{Limits, both, RightAs, Never, Found, then_ri
 use Rattle.tuple_text.proofs.Numbers.{IsSigned, BeginsSigned, most_64, most_128, signed_right, signed_again, signed_head, NoDigit, is_digit, digit_range, digit_is, ends_there}
 use Rattle.tuple_text.proofs.Blanks.{IsWord, BeginsWord, word_right}
 
--- what stands behind an item of a list
+-- the bytes after an item of a list begin with a blank or a closing parenthesis
 abbrev pub EndsItem : List ℕ → Type 0
 EndsItem [] = ⊥
 EndsItem (b ∷ bs) = (b ≡ 32) ⊎ (b ≡ 41)
@@ -38,7 +38,7 @@ Gives x v w = (v ≡ x) × (w ≡ [])
 given : {V : Type 0} → (x : V) (rest : List ℕ) → Found (Gives x) x rest rest
 given x rest = record { passed = []; whole = refl; is = (refl, refl) }
 
--- what is read as F, and then taken for another value
+-- a reading of F, whose value g then maps
 pub mapped_right : {V W : Type 0} → (FirstFound : V → List ℕ → Type 0) (FirstBegins : Limits → List ℕ → Type 0) (F : W → List ℕ → Type 0) (B : Limits → List ℕ → Type 0) (g : V → W) (bs : List ℕ) (x : Read V)
     → ((c : Limits) (w : List ℕ) → FirstBegins c w → B c w) → ((v : V) (w : List ℕ) → FirstFound v w → F (g v) w) → RightAs FirstFound FirstBegins bs x → RightAs F B bs (x >>= λ v rest. got (g v) rest)
 mapped_right FirstFound FirstBegins F B g bs x k f h =
@@ -202,7 +202,7 @@ datum_again (truth true) u h k = true_again u
 datum_again (truth false) u h k = false_again u
 datum_again (wide n) u h k = wide_again n u h (ends_no_digit u k)
 
--- The names of the kinds, behind what is passed of them already.
+-- The names of the kinds; pre are the bytes passed before.
 abbrev KindIs : List ℕ → Kind → List ℕ → Type 0
 KindIs pre k w = pre ++ w ≡ formal_text k
 

@@ -1,4 +1,4 @@
--- The levels of an item, and what a list's items say of it.
+-- The levels of an item, and the limits that a list's items keep or pass.
 use Rattle.std.proofs.Common.{ℕ, suc, ◌<◌, ◌≤◌, arith}
 use Rattle.tuple_tree.specs.Items.{Item, leaf, inner, Items, none, item, how_many, item_levels, levels_in, whole_length}
 use Rattle.tuple_tree.specs.Limits.{IsItem, AreItems}
@@ -21,7 +21,7 @@ module _ {L : Type 0} where
   abbrev pub Overflows : (L → ℕ) → Items L → Type 0
   Overflows length_of t = 1024 < whole_length length_of t
 
-  -- an item with so many levels at the most
+  -- an item with at most so many levels
   abbrev pub Within : ℕ → Limits → Item L → Type 0
   Within n both x = (item_levels x ≤ n) × Counted x
   Within n levels x = item_levels x ≤ n
@@ -56,7 +56,7 @@ module _ {L : Type 0} where
   rest_exceeds n room x xs TooLong h = h
   rest_exceeds n room x xs NoMemory h = h
 
-  -- what the items of a nested list pass, the list passes
+  -- a limit that the items of a nested list pass, the list passes as an item
   pub inner_exceeds : (n : ℕ) (xs : Items L) (s : Stop) → Exceed n 32 xs s → ItemExceeds (suc n) (inner xs) s
   inner_exceeds n xs BadByte h = h
   inner_exceeds n xs TooDeep h = omega (arith, h)

@@ -62,13 +62,13 @@ module _ {L : Type 0} (leaf_text : L → List ℕ) (IsLeaf : L → Type 0) (begi
       list_again leaf_text IsLeaf 7 (no_room begins 7) (plain_item begins leaf_at 7) (item_head leaf_text IsLeaf begins leaf_at leaf_head leaf_again no_blank no_open no_close 7) (item_again leaf_text IsLeaf begins leaf_at leaf_head leaf_again no_blank no_open no_close 7)
       (TreeExceeds length_of t) t t w u (λ t at. close length_of begins leaf_at (kept length_of t) at) (exceeds t) p h (close_again t u (nat_le (whole_length length_of t) 1024) refl)
 
-  -- Where a list of too many bytes is closed the reading has stopped before.
+  -- If a list has too many bytes, reading stops at the latest at its closing parenthesis.
   pub whole_stops : (t : Items L) (w u : List ℕ) → EachLeaf IsLeaf t → WholeText leaf_text t w → 1024 < whole_length length_of t → StopsBefore u (plain_whole length_of begins leaf_at (w ++ u))
   whole_stops t w u p h l =
       list_into leaf_text IsLeaf 7 (no_room begins 7) (plain_item begins leaf_at 7) (item_head leaf_text IsLeaf begins leaf_at leaf_head leaf_again no_blank no_open no_close 7) (item_again leaf_text IsLeaf begins leaf_at leaf_head leaf_again no_blank no_open no_close 7)
       (StopsBefore u) t w u (λ t at. close length_of begins leaf_at (kept length_of t) at) (λ s rest e m. omega (arith, m)) p h (close_stops t u (nat_le (whole_length length_of t) 1024) refl l)
 
--- An argument behind its gap, whatever follows it.
+-- A gap and an argument, whatever follows.
 gap_first : {V : Type 0} → (one : Reading V) (space front u : List ℕ) → IsGap space → NoBlank (front ++ u) → argument one (space ++ (front ++ u)) ≡ one (front ++ u)
 unfolding argument
 gap_first one space front u g h = ap (λ y. y >>= λ _ rest. one rest) (gap_again space (front ++ u) g h)
@@ -173,7 +173,7 @@ within_exceeds (rd_all n p) s w h = within_tree IsSlot slot_length p s w.2 h
 within_exceeds (in_all n p) s w h = within_tree IsSlot slot_length p s w.2 h
 within_exceeds upgrade s w h = h
 
--- what is read behind a name
+-- the reader after a name
 abbrev out_rest : Reading Operation
 out_rest bs = argument tuple bs >>= λ t rest. ended (out t) rest
 
@@ -260,7 +260,7 @@ rest_again upgrade w a = again_got (Exceeds upgrade) upgrade [] (ended upgrade w
 pub line_again : (o : Operation) (bs : List ℕ) → LineText o bs → AgainAs (Exceeds o) o [] (line bs)
 line_again o bs h = subst (AgainAs (Exceeds o) o []) (sym (ap line h.2 ∙ line_front o h.0 h.1 h.3)) (rest_again o h.1 h.4)
 
--- Behind the last closed argument stands u.
+-- After the last argument is closed, u is left.
 closed_one : (space front last rest u : List ℕ) → rest ≡ space ++ (front ++ last) → last ≡ [] → rest ++ u ≡ space ++ (front ++ u)
 closed_one space front last rest u e f =
     ap (λ s. s ++ u) (e ∙ ap (λ s. space ++ (front ++ s)) f ∙ ap (λ s. space ++ s) (append-nil front)) ∙ append_assoc space front u

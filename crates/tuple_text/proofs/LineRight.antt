@@ -27,7 +27,7 @@ KeepsTree both t = (levels_of t ≤ 8) × KeepsCount t
 KeepsTree levels t = levels_of t ≤ 8
 KeepsTree no_limits t = Unit {0}
 
--- What a list that is read says of its tree.
+-- The properties of a list that was read.
 module _ {L : Type 0} (leaf_text : L → List ℕ) (IsLeaf : L → Type 0) (length_of : L → ℕ) where
   abbrev pub TreeIs : Limits → Items L → List ℕ → Type 0
   TreeIs c t w = IsList leaf_text (OneIs IsLeaf 7) c t w
@@ -114,7 +114,7 @@ argued space l front r w e f = e ∙ ap (λ t. t ++ r) f ∙ append_assoc space 
 last_argued : (space l w : List ℕ) → w ≡ space ++ l → w ≡ space ++ (l ++ [])
 last_argued space l w e = e ∙ ap (λ t. space ++ t) (sym (append-nil l))
 
--- The text of one argument, and of two, from what reading says of them.
+-- The text of one argument, and of two, from the properties of the arguments read.
 one_text : {V : Type 0} → (P : V → List ℕ → Type 0) (A : V → List ℕ → Type 0) (k : V → Operation) → ((v : V) (w : List ℕ) → P v w → A v w) → (o : Operation) (w : List ℕ) → (h : Then P (λ v. IsDone (k v)) o w) → ArgumentsText (A h.0 ∷ []) w
 one_text P A k f o w h = let a = h.4 in (a.0, a.1, h.2, argued a.0 a.1 h.1 h.2 w h.3 a.2, a.3, f h.0 a.1 a.4, h.5.1)
 
@@ -182,7 +182,7 @@ out_right bs =
     named_to Good Limited TooLongBehind [] (codes "out") (OutIs KeptTuple) (λ c. OutIs (TupleIs c)) (LongThen KeptTuple LongTuple (λ t. Never)) out_good out_limited out_long some_out
     (λ behind. argument tuple behind >>= λ t rest. ended (out t) rest) (tuple_last out) bs
 
--- behind the letters of a verb: a template
+-- after the letters of a verb: a template
 abbrev TakesIs : (TemplateTree → Operation) → (TemplateTree → List ℕ → Type 0) → Operation → List ℕ → Type 0
 TakesIs k P = Then P (λ p. IsDone (k p))
 
@@ -237,7 +237,7 @@ one_right verb bs =
     named_to Good Limited TooLongBehind (letters verb) (codes "p") (TakesIs (one_of verb) KeptTemplate) (λ c. TakesIs (one_of verb) (TemplateIs c)) (LongThen KeptTemplate LongTemplate (λ p. Never)) (one_good verb) (one_limited verb) (one_long verb) (some_takes (one_of verb))
     (λ behind. argument template behind >>= λ p rest. ended (one_of verb p) rest) (template_last (one_of verb)) bs
 
--- behind the letters of a verb: a count and a template
+-- after the letters of a verb: a count and a template
 abbrev AllIs : Verb → (TemplateTree → List ℕ → Type 0) → Operation → List ℕ → Type 0
 AllIs verb P = Then (IsPositive 64) (λ n. Then P (λ p. IsDone (all_of verb n p)))
 

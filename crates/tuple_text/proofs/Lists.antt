@@ -26,7 +26,7 @@ unfolding follows
 follows_right free [] = nothing_passed IsEmpty Never [] refl
 follows_right free (b ∷ bs) = follows_case free b bs (b == 41) free refl
 
--- behind the blanks an item may begin, or the list is closed
+-- the blanks before an item, or before the end of the list
 abbrev pub IsTurn : Bool → Bool → List ℕ → Type 0
 IsTurn free true w = AreBlanks w × Frees free w
 IsTurn free false w = AreBlanks w
@@ -45,7 +45,7 @@ turn_right free bs =
     then_right (ArePassed free) BeginsBlanks Follows (λ v. IsEmpty) (IsTurn free) BeginsBlanks bs (blanks free bs) follows
     (λ c w h. h) (turn_is free) (λ v front h. turn_begins front h.0) (blanks_right free bs) follows_right
 
--- what is done at a closing parenthesis: Q holds of what is given, P where it is refused
+-- a closing parenthesis: Q holds of the list that it gives, P of one that it refuses
 abbrev pub ClosesTo : {L : Type 0} → (Items L → Type 0) → Items L → Items L → List ℕ → Type 0
 ClosesTo Q t v w = (v ≡ t) × (w ≡ 41 ∷ []) × Q v
 
@@ -70,7 +70,7 @@ module _ {L : Type 0} (leaf_text : L → List ℕ) (OneIs : Limits → Item L �
   abbrev pub BeginsItems : ℕ → Bool → Limits → List ℕ → Type 0
   BeginsItems room free c w = (xs : Items L) × (u : List ℕ) × Ends leaf_text free xs (w ++ u) × Each (OneIs c) xs × Counts c room xs
 
-  -- behind a turn: the end, or an item and more
+  -- after a turn: the end, or an item and more
   abbrev AtTurn : (Items L → List ℕ → Type 0) → Items L → Bool → Items L → List ℕ → Type 0
   AtTurn P t true v w = P v w
   AtTurn P t false v w = (v ≡ t) × (w ≡ [])
@@ -87,7 +87,7 @@ module _ {L : Type 0} (leaf_text : L → List ℕ) (OneIs : Limits → Item L �
   BeginsMore room c w =
       (x : Item L) × (xs : Items L) × (u front rest : List ℕ) × (w ++ u ≡ front ++ rest) × ItemText leaf_text x front × OneIs c x × Ends leaf_text false xs rest × Each (OneIs c) xs × Counts c room xs
 
-  -- where no item has room any more, one may begin
+  -- if no further item has room, one may still begin
   abbrev NoRoom : Limits → List ℕ → Type 0
   NoRoom both w = w ≡ []
   NoRoom levels w = BeginsOne levels w
@@ -139,7 +139,7 @@ module _ {L : Type 0} (leaf_text : L → List ℕ) (OneIs : Limits → Item L �
   abbrev pub BeginsList : Limits → List ℕ → Type 0
   BeginsList c w = (t : Items L) × (u : List ℕ) × IsList c t (w ++ u)
 
-  -- a list of which Q holds, and one of which P holds
+  -- a list that Q holds of, and one that P holds of
   abbrev pub IsKept : (Items L → Type 0) → Items L → List ℕ → Type 0
   IsKept Q t w = IsList both t w × Q t
 
@@ -200,7 +200,7 @@ module _ {L : Type 0} (leaf_text : L → List ℕ) (OneIs : Limits → Item L �
         (turn_begins_items (suc room) free) (items_are room free t) (items_begin room free) (turn_right free bs)
         (λ on rest. more_right room t on rest (λ x after. items_right room false (with_last t x) after))
 
-    -- The whole list, by what is done at its closing parenthesis: Q holds of what is given, P where it is refused.
+    -- The whole list with its closing parenthesis: Q holds of the list that it gives, P of one that it refuses.
     module _ (Q P : Items L → Type 0) where
       body_is : (t : Items L) (front w : List ℕ) → IsItems 32 true none t front → w ≡ 41 ∷ [] → IsList both t (40 ∷ front ++ w)
       body_is t front w h e =

@@ -96,7 +96,7 @@ unfolding bytes_literal
 bytes_right [] = stuck_first BeginsByteString [] ([], 120 ∷ [], (refl, no_bytes))
 bytes_right (b ∷ bs) = letter_case b bs (b == 120) refl
 
--- what a first byte begins
+-- a literal begins with this first byte
 pub bytes_starts : (c : Limits) → BeginsByteString c (120 ∷ [])
 bytes_starts c = ([], [], (refl, no_bytes))
 
@@ -134,7 +134,7 @@ pub bytes_again : (s u : List ℕ) → AreBytes s → NoHex u → bytes_literal 
 unfolding bytes_literal
 bytes_again s u h k = pairs_again s [] u h k
 
--- What it reads depends on the bytes that it passes and on the one that it stops before alone.
+-- The result depends on the bytes that are passed and on the byte that stops the reader, and on no others.
 pairs_local : (bs s : List ℕ) (high : Option ℕ) → LocalAs (pairs s high) bs (pairs s high bs)
 pairs_local [] s None = local_empty (pairs s None) refl
 pairs_local (b ∷ bs) s None = local_test (is_hex b) (pairs s None) (pairs s (Some (hex_value b))) (λ u. got s u) b (λ u. refl) bs (pairs_local bs s (Some (hex_value b))) (local_got s)

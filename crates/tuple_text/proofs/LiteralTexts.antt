@@ -18,7 +18,7 @@ use Rattle.tuple_text.proofs.Right.{Limits, both, RightAs, Stuck, right_on}
 use Rattle.tuple_text.proofs.Local.{LocalAs, IsLocal, local_got, local_stop, local_look, local_pass, local_empty, local_test}
 use Rattle.tuple_text.proofs.LiteralCharacters.{IsEncoded, encoded_one, encoded_two, encoded_three, encoded_four, Encoding, of_one, of_two, of_three, of_four, encoding, between_is, between_parts, above_between, hex_is, digit_hex, pair_of, escaped_plain, escaped_number, AreHigh, high_escaped}
 
--- where nothing can be passed
+-- nothing is passed
 pub stuck_first : (B : Limits → List ℕ → Type 0) (bs : List ℕ) → B both [] → Stuck B BadByte bs bs
 stuck_first B bs h = record { passed = []; whole = refl; begins = h; decides = tt }
 
@@ -32,7 +32,7 @@ low_spelled b t w p e f = (subst IsEncoded (sym e) (encoded_one b p), f ∙ sym 
 high_spelled : (t w : List ℕ) → IsEncoded t → AreHigh t → w ≡ t → IsSpelled t w
 high_spelled t w c h e = (c, e ∙ sym (high_escaped t h))
 
--- bytes of which the first lies in this range, and P holds of the others
+-- the first byte lies in this range, and P holds of the others
 abbrev InRange : ℕ → ℕ → (List ℕ → Type 0) → List ℕ → Type 0
 InRange low high P [] = ⊥
 InRange low high P (b ∷ t) = (low ≤ b) × (b ≤ high) × P t
@@ -50,11 +50,11 @@ Two low high = InRange low high (One 128 191)
 abbrev Three : ℕ → ℕ → List ℕ → Type 0
 Three low high = InRange low high (Two 128 191)
 
--- What is left of a character that is escaped, where front is passed.
+-- The rest of an escaped character, after front.
 abbrev LeftOfEscape : List ℕ → List ℕ → List ℕ → Type 0
 LeftOfEscape front t w = (b : ℕ) × (b < 128) × (t ≡ b ∷ []) × (escaped b ≡ front ++ w)
 
--- What may be left of a character where this is expected: bytes of the text, and how they are spelled.
+-- The possible rests of a character if this is expected: bytes of the text, and their spelling.
 abbrev LeftOf : Expected → List ℕ → List ℕ → Type 0
 LeftOf Character t w = (t ≡ []) × (w ≡ [])
 LeftOf Escape t w = LeftOfEscape (92 ∷ []) t w
@@ -69,7 +69,7 @@ LeftOf BytesBehindEd t w = (w ≡ t) × Two 128 159 t
 LeftOf BytesBehindF0 t w = (w ≡ t) × Three 144 191 t
 LeftOf BytesBehindF4 t w = (w ≡ t) × Three 128 143 t
 
--- the same, and a whole character where one is expected
+-- the same, but a whole character if one is expected
 abbrev More : Expected → List ℕ → List ℕ → Type 0
 More Character t w = IsSpelled t w
 More e t w = LeftOf e t w
@@ -78,7 +78,7 @@ abbrev Closes : Expected → ℕ → Type 0
 Closes Character b = b ≡ 34
 Closes e b = ⊥
 
--- what a step means
+-- the meaning of a step
 abbrev Means : Expected → ℕ → Step → Type 0
 Means e b Refused = Unit {0}
 Means e b Ends = Closes e b
@@ -183,7 +183,7 @@ step_means BytesBehindF0 b =
 step_means BytesBehindF4 b =
     cond_both (is_between 128 143 b) _ _ (Means BytesBehindF4 b) (λ h t w l. let r = between_parts 128 143 b h in (ap (λ y. b ∷ y) l.0, (r.0, r.1, l.1))) (λ _. tt)
 
--- The rest of a text where this is expected: its bytes, and how they are spelled.
+-- The rest of a text up to its quote: its characters, and their spelling.
 abbrev Body : List ℕ → List ℕ → Type 0
 Body cs w = (all_scalars cs ≡ true) × (w ≡ flat_map escaped (encode_utf8_all cs) ++ 34 ∷ [])
 
@@ -212,7 +212,7 @@ closed : (e : Expected) (b : ℕ) → Closes e b → Left e [] (b ∷ [])
 closed Character b h = ([], [], [], b ∷ [], (refl, refl), (refl, ap (λ y. y ∷ []) h), refl, refl)
 closed e b h = absurd h
 
--- Whatever is expected can come.
+-- Some bytes satisfy each expectation.
 some_left : (e : Expected) → (t front : List ℕ) × LeftOf e t front
 some_left Character = ([], [], (refl, refl))
 some_left Escape = (34 ∷ [], 34 ∷ [], (34, omega arith, refl, refl))
@@ -227,7 +227,7 @@ some_left BytesBehindEd = (128 ∷ 128 ∷ [], 128 ∷ 128 ∷ [], (refl, (omega
 some_left BytesBehindF0 = (144 ∷ 128 ∷ 128 ∷ [], 144 ∷ 128 ∷ 128 ∷ [], (refl, (omega arith, omega arith, (omega arith, omega arith, (omega arith, omega arith, tt)))))
 some_left BytesBehindF4 = (128 ∷ 128 ∷ 128 ∷ [], 128 ∷ 128 ∷ 128 ∷ [], (refl, (omega arith, omega arith, (omega arith, omega arith, (omega arith, omega arith, tt)))))
 
--- what is read from a place in a text, with s read before
+-- the text read from a place within it; s are the bytes read before
 abbrev IsFrom : Expected → List ℕ → List ℕ → List ℕ → Type 0
 IsFrom e s v w = (r : List ℕ) × (v ≡ s ++ r) × Left e r w
 
@@ -290,14 +290,14 @@ unfolding text_literal
 text_right [] = stuck_first BeginsTextLiteral [] ([], 34 ∷ 34 ∷ [], (refl, ([], (refl, refl))))
 text_right (b ∷ bs) = quoted b bs (b == 34) refl
 
--- what a first byte begins
+-- a literal begins with this first byte
 pub text_starts : (c : Limits) → BeginsTextLiteral c (34 ∷ [])
 text_starts c = ([], 34 ∷ [], (refl, ([], (refl, refl))))
 
 pub text_head : (s : List ℕ) → (t : List ℕ) × (datum_text (text s) ≡ 34 ∷ t)
 text_head s = (flat_map escaped s ++ 34 ∷ [], refl)
 
--- Again: the bytes w are read as t, wherever a character is expected.
+-- Wherever a character is expected, the bytes w are read as t.
 abbrev Reads : List ℕ → List ℕ → Type 0
 Reads w t = (s u : List ℕ) → text_from Character s (w ++ u) ≡ text_from Character (s ++ t) u
 
@@ -352,7 +352,7 @@ of_two_reads a b p q r t s u =
     let k : led a ≡ Adds a OneByte = rw (between_is 194 223 a p q) refl in
     then_reads Character OneByte a a (b ∷ []) (b ∷ u) s u (led_step a (omega arith) ∙ k) (one_reads b u r t)
 
--- what is expected behind the first byte of a character of three
+-- the bytes expected after the first byte of a character of three
 abbrev Behind3 : ℕ → Type 0
 Behind3 a = (f : Expected) × (low high : ℕ) × (led a ≡ Adds a f) × ((b : ℕ) → step f b ≡ continued low high OneByte b) × ((b : ℕ) → 128 ≤ b → b ≤ 191 → (a ≡ 224 → 160 ≤ b) → (a ≡ 237 → b ≤ 159) → (low ≤ b) × (b ≤ high))
 
@@ -398,7 +398,7 @@ of_four_reads a b d e p q r t v w x z low high s u =
     then_reads Character k.0 a a (b ∷ d ∷ e ∷ []) (b ∷ d ∷ e ∷ u) s u (led_step a (omega arith) ∙ k.3)
     (λ y. then_reads k.0 TwoBytes b b (d ∷ e ∷ []) (d ∷ e ∷ u) y u (k.4 b ∙ continues k.1 k.2 b TwoBytes g.0 g.1) (two_reads d e u v w x z))
 
--- what stands for itself in a text
+-- a character that stands for itself in a text
 high_reads : (c : ℕ) (t : List ℕ) → encode_utf8 c ≡ t → AreHigh t → Reads t t → Reads (flat_map escaped (encode_utf8 c)) (encode_utf8 c)
 high_reads c t e h r = subst (λ y. Reads (flat_map escaped y) y) (sym e) (subst (λ y. Reads y t) (sym (high_escaped t h)) r)
 
@@ -425,7 +425,7 @@ text_again s u h =
     let e : encode_utf8_all h.0 ≡ s = h.1.1 in
     ap (λ y. text_from Character [] ((flat_map escaped y ++ 34 ∷ []) ++ u)) (sym e) ∙ body_again h.0 [] u h.1.0 ∙ ap (λ y. got y u) e
 
--- What it reads depends on the bytes that it passes and on the one that it stops before alone.
+-- The result depends on the bytes that are passed and on the byte that stops the reader, and on no others.
 stepped_local : (e : Expected) (b : ℕ) (s bs : List ℕ) (x : Step) → step e b ≡ x → ((f : Expected) (t : List ℕ) → LocalAs (text_from f t) bs (text_from f t bs)) → LocalAs (text_from e s) (b ∷ bs) (text_from e s (b ∷ bs))
 stepped_local e b s bs Refused h k =
     local_look (text_from e s) (λ u. stop BadByte u) b (λ u. ap (λ y. stepped y s (stop BadByte (b ∷ u)) (got s u) (λ f t. text_from f t u)) h) (local_stop BadByte) bs
@@ -445,7 +445,7 @@ unfolding text_literal
 text_local [] = local_empty text_literal refl
 text_local (b ∷ bs) = local_test (b == 34) text_literal (text_from Character []) (λ u. stop BadByte u) b (λ u. refl) bs (text_from_local bs Character []) (local_stop BadByte)
 
--- What is read behind the first quote is a text.
+-- The bytes read after the first quote are UTF-8.
 pub read_utf8 : (bs s rest : List ℕ) → text_from Character [] bs ≡ got s rest → IsUtf8 s
 read_utf8 bs s rest e =
     let f = subst (RightAs (IsFrom Character []) (BeginsFrom Character) bs) e (text_from_right bs Character []) in

@@ -1,4 +1,4 @@
--- What a reading does depends on the bytes that it passes and on the one that it stops before alone.
+-- The result of a reader depends on the bytes that it passes and on the byte that stops it, and on no others.
 use Rattle.std.proofs.Common.{◌≡◌, ℕ, ◌==◌, Bool, true, false, cond, List, [], ◌∷◌, ◌++◌, refl, ap, sym, subst, ◌∙◌, append_assoc}
 use Rattle.tuple_text.specs.Reading.{Read, got, stop, Reading, ◌>>=◌, look}
 use Rattle.tuple_text.specs.declared.reader.Stop.TheVariants.{BadByte}
@@ -27,7 +27,7 @@ abbrev pub with_left : {V : Type 0} → Read V → List ℕ → Read V
 with_left (got v bs) u = got v u
 with_left (stop s bs) u = stop s u
 
--- x is what r reads of bs, and what it reads of each list that begins alike
+-- r reads x from bs, and the same from each list that begins with the passed bytes and the byte after them
 pub record LocalAs {V : Type 0} (r : Reading V) (bs : List ℕ) (x : Read V) : Type 0 where
   pub passed : List ℕ
   pub whole : bs ≡ passed ++ left x
@@ -66,7 +66,7 @@ pub local_pass : {V : Type 0} → (r f : Reading V) (b : ℕ) → ((u : List ℕ
 local_pass r f b e bs m =
     subst (λ x. LocalAs r (b ∷ bs) x) (sym (e bs)) (record { passed = b ∷ m.passed; whole = ap (λ t. b ∷ t) m.whole; alike = λ u h. e (m.passed ++ u) ∙ m.alike u h })
 
--- A reading that looks at the first byte: f where there is one.
+-- A reader that looks at the first byte, and is f if it is b.
 first_same : {V : Type 0} → (r f : Reading V) (b : ℕ) → ((u : List ℕ) → r (b ∷ u) ≡ f (b ∷ u)) → (bs passed rest u : List ℕ) → b ∷ bs ≡ passed ++ rest → SameHead rest u → r (passed ++ u) ≡ f (passed ++ u)
 first_same r f b e bs [] [] u p h = absurd (let g : ⊥ = cc in g)
 first_same r f b e bs [] (c ∷ rest) [] p h = absurd h

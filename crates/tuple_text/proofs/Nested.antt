@@ -47,7 +47,7 @@ module _ {L : Type 0} (leaf_text : L → List ℕ) (IsLeaf : L → Type 0) (begi
   refuses : (n b : ℕ) (bs : List ℕ) → DecidesAt (BeginsOneAt n) Never (no_room begins n b) [] (b ∷ bs)
   refuses n b bs = refuses_case n b bs (b == 40) (begins b) refl refl
 
-  -- what a list says of an item that holds it
+  -- the property of a nested list, as an item of the list around it
   pub inner_is : (n : ℕ) (c : Limits) (t : Items L) (w : List ℕ) → IsList leaf_text (OneIs IsLeaf n) c t w → OneIs IsLeaf (suc n) c (inner t)
   inner_is n both t w h = (each_leaf IsLeaf n both t h.each, (omega (arith, each_levels IsLeaf n t (each_weaker IsLeaf n levels t h.each)), (h.count, each_counted IsLeaf n t h.each)))
   inner_is n levels t w h = (each_leaf IsLeaf n levels t h.each, omega (arith, each_levels IsLeaf n t h.each))

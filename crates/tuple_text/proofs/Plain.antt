@@ -1,4 +1,4 @@
--- Reading lists whatever their length, and what of them is kept.
+-- Lists read without a limit of bytes, and the part of them that is kept.
 use Rattle.std.proofs.Common.{◌≡◌, ℕ, zero, suc, ◌<◌, ◌≤◌, ◌==◌, nat_le, Bool, true, false, cond, List, [], ◌∷◌, codes, Option, None, Some, option_map, refl, ap, sym, ◌∙◌, arith, if◌then◌else◌}
 use Rattle.std.proofs.lemmas.Bool.{le-leb, lt-leb, leb-false}
 use Rattle.tuple_tree.specs.Items.{Item, leaf, inner, Items, none, with_last, whole_length}
@@ -7,7 +7,7 @@ use Rattle.tuple_text.specs.Reading.{Read, got, stop, Reading, ◌>>=◌, look, 
 use Rattle.tuple_text.specs.declared.reader.Stop.{Stop}
 use Rattle.tuple_text.specs.declared.reader.Stop.TheVariants.{TooDeep}
 
--- Reading with other values: what the second reads is what the first reads, seen by h and k.
+-- Two readers of different values: the second gives the values of the first, mapped by h and k.
 module _ {T X U Y : Type 0} (why : ℕ → Stop) (add : T → X → T) (put : U → Y → U) (one : Reading X) (other : Reading Y) (h : T → U) (k : X → Y)
     (law : (t : T) (x : X) → put (h t) (k x) ≡ h (add t x)) (same : (bs : List ℕ) → other bs ≡ (one bs >>= λ x rest. got (k x) rest)) where
   full_seen : (bs : List ℕ) → full {V = U} why bs ≡ (full {V = T} why bs >>= λ t rest. got (h t) rest)
@@ -51,7 +51,7 @@ module _ {L : Type 0} (begins : ℕ → Bool) (leaf_at : Reading L) where
   plain_item (suc levels) bs = look 40 (λ u. plain_list (no_room begins levels) (plain_item levels) u >>= λ t rest. got (inner t) rest) plain_leaf bs
 
 module _ {L : Type 0} (length_of : L → ℕ) where
-  -- what is kept of an item
+  -- the item if it is kept
   abbrev pub kept_item : Item L → Option (Item L)
   kept_item (leaf x) = Some (leaf x)
   kept_item (inner t) = option_map inner (kept length_of t)

@@ -1,4 +1,5 @@
--- A reading keeps to the grammar: what it gives is a text, and where it stops it has passed the beginning of one.
+-- A reader keeps to the grammar: the bytes of each value that it gives are a text of the value. If it stops, the
+-- bytes that it passed begin a text.
 use Rattle.std.proofs.Common.{◌≡◌, ℕ, ◌==◌, Bool, true, false, cond, List, [], ◌∷◌, ◌++◌, refl, ap, sym, subst, ◌∙◌, append_assoc}
 use Rattle.std.proofs.lemmas.Bool.{eqb-true}
 use Rattle.tuple_text.specs.Reading.{Read, got, stop, Reading, ◌>>=◌, look, nothing}
@@ -11,8 +12,8 @@ pub data Limits : Type 0 where
   levels : Limits
   no_limits : Limits
 
--- What the byte at which a reading stops does: B c w is that w begins a text within the limits c, and D w that w ends
--- where one is closed that is too long.
+-- The byte that stops a reader decides: B c w means that w begins a text within the limits c, D w that w ends with
+-- the parenthesis that closes one that is too long.
 abbrev pub DecidesAt : (Limits → List ℕ → Type 0) → (List ℕ → Type 0) → Stop → List ℕ → List ℕ → Type 0
 DecidesAt B D BadByte w rest = Unit {0}
 DecidesAt B D TooDeep w rest = (b : ℕ) × (t : List ℕ) × (rest ≡ b ∷ t) × B no_limits (w ++ b ∷ [])
@@ -54,7 +55,7 @@ decides_on B C D E front k l TooLong w rest d =
     (d.0, d.1, d.2, subst (C both) (sym (append_assoc front w (d.0 ∷ []))) (k both _ d.3), subst E (sym (append_assoc front w (d.0 ∷ []))) (l _ d.4))
 decides_on B C D E front k l NoMemory w rest d = d
 
--- the same behind a front
+-- the same with a front before the bytes
 stuck_on : (B C : Limits → List ℕ → Type 0) (D E : List ℕ → Type 0) (s : Stop) (front bs rest : List ℕ) → ((c : Limits) (w : List ℕ) → B c w → C c (front ++ w)) → ((w : List ℕ) → D w → E (front ++ w))
     → StuckAt B D s bs rest → StuckAt C E s (front ++ bs) rest
 stuck_on B C D E s front bs rest k l h = record {
@@ -73,7 +74,7 @@ pub right_on : {W : Type 0} → (NextFound : W → List ℕ → Type 0) (NextBeg
     → ((w : W) (t : List ℕ) → NextFound w t → F w (front ++ t)) → ((c : Limits) (t : List ℕ) → NextBegins c t → B c (front ++ t)) → RightAs NextFound NextBegins bs y → RightAs F B (front ++ bs) y
 right_on NextFound NextBegins F B front bs y f k h = right_to NextFound NextBegins Never F B Never front bs y f k (λ t d. d) h
 
--- First r and then f v, of what r gives.
+-- First r, and then f v for the value v that r gives.
 pub then_to : {V W : Type 0} → (FirstFound : V → List ℕ → Type 0) (FirstBegins : Limits → List ℕ → Type 0) (FirstEnds : List ℕ → Type 0) (NextFound : V → W → List ℕ → Type 0) (NextBegins : V → Limits → List ℕ → Type 0) (NextEnds : V → List ℕ → Type 0) (F : W → List ℕ → Type 0) (B : Limits → List ℕ → Type 0) (D : List ℕ → Type 0)
     → (bs : List ℕ) (x : Read V) (f : V → Reading W)
     → ((c : Limits) (t : List ℕ) → FirstBegins c t → B c t)

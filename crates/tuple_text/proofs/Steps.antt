@@ -6,7 +6,7 @@ use Rattle.tuple_text.specs.Reading.{Read, got, stop, Reading, ◌>>=◌, Stops,
 use Rattle.tuple_text.specs.declared.reader.Stop.{Stop}
 use Rattle.tuple_text.specs.declared.reader.Stop.TheVariants.{BadByte, TooDeep, TooManyFields, TooLong, NoMemory}
 
--- Where a reading stops, what goes on with it stops too.
+-- If a reading stops, each reading that goes on from it stops too.
 pub stops_through : {V W : Type 0} → (s : Stop) (x : Read V) (f : V → Reading W) (rest : List ℕ) → Stops s x rest → Stops s (x >>= f) rest
 stops_through BadByte x f rest h = ap (λ y. y >>= f) h
 stops_through TooDeep x f rest h = ap (λ y. y >>= f) h
@@ -31,7 +31,7 @@ module _ {V W : Type 0} (why : ℕ → Stop) where
   full_as s (b ∷ bs) rest h = cc
 
 module _ (why : ℕ → Stop) where
-  -- whether an item follows, where it is known whether the list is full
+  -- whether an item follows, if it is known whether the list is full
   abbrev in_room : Bool → Bool → Reading Bool
   in_room is_full on rest = if on && is_full then full why rest else got on rest
 
@@ -67,7 +67,7 @@ module _ {T X : Type 0} (why : ℕ → Stop) (add : T → X → T) (one : Readin
   abbrev behind : ℕ → T → Bool → Reading T
   behind room t on rest = if on then (one rest >>= λ x after. items why add one room false (add t x) after) else got t rest
 
-  -- what is read of the whole behind n items, which are those of t
+  -- the reading of the whole, after n items, which t has
   pub record SoFar (n : ℕ) (free : Bool) (t : T) (bs : List ℕ) (whole : Read T) : Type 0 where
     pub count : n ≤ 32
     pub reads : items why add one (32 - n) free t bs ≡ whole

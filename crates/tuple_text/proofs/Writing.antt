@@ -1,4 +1,4 @@
--- What is written is a text, and what the writer keeps.
+-- The written text is a text of its value, and the old bytes stay.
 use Rattle.std.proofs.Common.{◌≡◌, ℕ, zero, suc, ◌+◌, ◌≤◌, ◌<◌, List, [], ◌∷◌, ◌++◌, length, take, drop, get_or, Result, Ok, Err, refl, ap, sym, ◌∙◌, append_assoc, append-nil, add-one, arith}
 use Rattle.std.specs.List.{flat_map}
 use Rattle.std.proofs.lemmas.List.{take_at}
@@ -24,7 +24,7 @@ module _ {L : Type 0} (leaf_text : L → List ℕ) where
     more_is_text (item x xs) =
         (32 ∷ [], item_written leaf_text x, more_written leaf_text xs, cc, (omega arith, (refl, tt)), item_is_text x, more_is_text xs)
 
--- What is written so far behind the old bytes, and what is left of the whole.
+-- The text written after the old bytes, and the rest of the whole.
 pub record SoFar (old new left whole : List ℕ) : Type 0 where
   pub done : List ℕ
   pub at : new ≡ old ++ done
@@ -44,7 +44,7 @@ one_more old mid left text next whole new s p e = record {
 pub nothing_left : (old new left whole : List ℕ) → SoFar old new left whole → left ≡ [] → new ≡ old ++ whole
 nothing_left old new left whole s p = s.at ∙ ap (λ t. old ++ t) (sym (append-nil s.done) ∙ ap (λ t. s.done ++ t) (sym p) ∙ s.is)
 
--- an error comes behind what is written
+-- an error after the text in front
 pub error_second : (old front mid new : List ℕ) → mid ≡ old ++ front → (more : List ℕ) × (new ≡ mid ++ more) → (more : List ℕ) × (new ≡ old ++ more)
 error_second old front mid new e h = (front ++ h.0, h.1 ∙ ap (λ t. t ++ h.0) e ∙ append_assoc old front h.0)
 
@@ -60,11 +60,11 @@ last_part (Err f) old mid left text whole new s p h = error_behind old mid left 
 pub second_part : {V E : Type 0} → (r : Result V E) (old mid front text new : List ℕ) → mid ≡ old ++ front → Appends r mid text new → Appends r old (front ++ text) new
 second_part r old mid front text new e h = last_part r old mid text text (front ++ text) new (so_far old front text mid e) refl h
 
--- What stood there before is a beginning of what an error leaves.
+-- The old bytes stand at the front of those that an error leaves.
 pub kept : (old new : List ℕ) (n : ℕ) → n ≡ length old → (more : List ℕ) × (new ≡ old ++ more) → take n new ≡ old
 kept old new n e h = ap (take n) h.1 ∙ take_at old h.0 n (sym e)
 
--- the first of what is left of a list, and nothing left
+-- the first item of a list's rest, and the end
 drop_first : {A : Type 0} → (xs : List A) (i : ℕ) (d : A) → i < length xs → drop i xs ≡ get_or xs i d ∷ drop (i + 1) xs
 drop_first xs i d h = drop-cons xs i d h ∙ ap (λ k. get_or xs i d ∷ drop k xs) (sym (add-one i))
 
@@ -80,7 +80,7 @@ flat_map_first f xs i h = ap (flat_map f) (drop_first xs i 0 h)
 pub tuples_first : (ts : List TupleTree) (i : ℕ) (t : TupleTree) → i < length ts → t ≡ get_or ts i t → tuples_written (drop i ts) ≡ 32 ∷ tuple_written t ++ tuples_written (drop (i + 1) ts)
 tuples_first ts i t h e = ap tuples_written (drop_first ts i t h) ∙ ap (λ x. 32 ∷ tuple_written x ++ tuples_written (drop (i + 1) ts)) (sym e)
 
--- the items, the first behind this gap
+-- the items, with this gap before the first
 abbrev pub behind : {L : Type 0} → (L → List ℕ) → List ℕ → Items L → List ℕ
 behind leaf_text gap none = []
 behind leaf_text gap (item x xs) = gap ++ item_written leaf_text x ++ more_written leaf_text xs

@@ -1,4 +1,4 @@
--- What is written fits into a line, and is the argument of one.
+-- A written text fits into a line, and is the argument of one.
 use Rattle.std.proofs.Common.{◌≡◌, ℕ, suc, ◌+◌, ◌*◌, ◌^◌, ◌<◌, ◌≤◌, ◌==◌, nat_lt, Bool, true, false, cond, List, [], ◌∷◌, ◌++◌, length, codes, pos, negsuc, FitsSigned, w64, refl, ap, sym, append-nil, arith, length-append}
 use Rattle.std.specs.Int.{w128}
 use Rattle.std.proofs.lemmas.Int.{ints}
@@ -108,7 +108,7 @@ slot_short (formal kinds.Truth) h = omega arith
 slot_short (formal kinds.Tuple) h = omega arith
 slot_short (formal kinds.Wide) h = omega arith
 
--- What is written of a tuple is the argument of an out, of a template that of an rdp.
+-- The written text of a tuple is the argument of an out, that of a template the argument of an rdp.
 pub tuple_line : (t : TupleTree) → IsTuple t → IsLine (out t) (codes "out " ++ tuple_written t)
 tuple_line t w =
     let k = whole_short datum_text IsDatum datum_length datum_short t w in

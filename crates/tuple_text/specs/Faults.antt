@@ -1,7 +1,7 @@
--- Why a line is refused. It is judged from left to right, and the first of these decides: a byte with which no
--- beginning of a line can go on, the line's end and the byte 65,536 among them; the parenthesis that opens a ninth
--- level; the first byte of a 33rd item of a list; the parenthesis that closes an argument whose encoding is over 1,024
--- bytes. At one byte they come in this order.
+-- Why a line is refused. It is judged from left to right, and the first of these decides: a byte that can't continue
+-- any valid line; the parenthesis that opens a ninth level; the first byte of a 33rd item of a list; the parenthesis
+-- that closes an argument whose encoding is over 1,024 bytes. The line's end and the byte 65,536 count among the
+-- first. At one byte the reasons have this order.
 use Rattle.std.specs.Prelude.{◌≡◌, ℕ, ◌+◌, ◌<◌, ◌≤◌, List, [], ◌∷◌, ◌++◌, length, take, slice_index}
 use Rattle.tuple_tree.specs.Items.{Items, how_many, levels_of, whole_length}
 use Rattle.tuple_tree.specs.Limits.{AreItems}
@@ -40,17 +40,17 @@ KeepsCounts upgrade = Unit {0}
 abbrev pub KeepsBoth : Operation → Type 0
 KeepsBoth o = KeepsLevels o × KeepsCounts o
 
--- Some line of an operation of which P holds begins so.
+-- Some line begins so, and P holds of its operation.
 abbrev pub Begins : (Operation → Type 0) → List ℕ → Type 0
 Begins P bs = (rest : List ℕ) × (o : Operation) × LineText o (bs ++ rest) × P o
 
--- each argument behind a gap, and nothing behind the last
+-- a gap before each argument, and nothing after the last
 abbrev pub ArgumentsClosed : List (List ℕ → Type 0) → List ℕ → Type 0
 ArgumentsClosed [] bs = bs ≡ []
 ArgumentsClosed (argument ∷ more) bs =
     (gap front rest : List ℕ) × (bs ≡ gap ++ (front ++ rest)) × IsGap gap × argument front × ArgumentsClosed more rest
 
--- how long the encodings of the arguments are, in order
+-- the lengths of the encodings of the arguments, in order
 abbrev pub argument_lengths : Operation → List ℕ
 argument_lengths (out t) = whole_length datum_length t ∷ []
 argument_lengths (rdp p) = whole_length slot_length p ∷ []
@@ -60,7 +60,8 @@ argument_lengths (rd_all n p) = 1 ∷ whole_length slot_length p ∷ []
 argument_lengths (in_all n p) = 1 ∷ whole_length slot_length p ∷ []
 argument_lengths upgrade = []
 
--- The text ends where an argument of more than 1,024 bytes is closed: the first k + 1 arguments of o stand there.
+-- An argument of more than 1,024 bytes is closed at the text's end: the text ends after the first k + 1 arguments of
+-- o.
 pub record EndsTooLong (bs : List ℕ) : Type 0 where
   pub o : Operation
   pub k : ℕ
@@ -79,7 +80,7 @@ pub record Passes (bs : List ℕ) (n : ℕ) : Type 0 where
   pub begins : Begins KeepsBoth (take n bs)
   pub short : (k : ℕ) → k ≤ n → EndsTooLong (take k bs) → ⊥
 
--- The first byte that decides is the one at n, and the line goes on to it.
+-- The byte at n is the first that decides, and the bytes before it begin a line.
 pub record StopsAt (bs : List ℕ) (n : ℕ) : Type 0 where
   pub passes : Passes bs n
   pub there : n < length bs
@@ -101,11 +102,11 @@ Faults TooLong bs =
     (n : ℕ) × StopsAt bs n × Begins KeepsBoth (take (n + 1) bs) × EndsTooLong (take (n + 1) bs)
 Faults NoMemory bs = Unit {0}
 
--- The line is not skipped, and is refused so.
+-- The line is not skipped, and this is its fault.
 abbrev pub Refuses : LineFault → List ℕ → Type 0
 Refuses fault bs = (IsSkipped bs → ⊥) × Faults fault bs
 
--- the same fault with n bytes in front
+-- the same fault with n more bytes in front
 abbrev pub behind : ℕ → LineFault → LineFault
 behind n (BadByte m) = BadByte (n + m)
 behind n TooDeep = TooDeep

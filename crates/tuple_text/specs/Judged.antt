@@ -1,4 +1,4 @@
--- What reading a line, or the text of a template, tells of it.
+-- The results of reading a line, or the text of a template.
 use Rattle.std.specs.Prelude.{◌≡◌, ℕ, List, ◌++◌, codes, Option, MatchOption, Result, MatchResult}
 use Rattle.tuple_tree.specs.Values.{TemplateTree}
 use Rattle.tuple_codec.specs.Operations.{Operation, rdp}
@@ -13,17 +13,17 @@ use Rattle.tuple_text.specs.declared.faults.LineFault.TheVariants.{NoMemory}
 abbrev pub IsRead : {A : Type 0} → List ℕ → Option (Op A) → Type 0
 IsRead line read = MatchOption read (IsSkipped line) (λ op. IsLine (operation_of op) line)
 
--- What is read stands there, and the fault is the first one.
+-- The operation is that of the line, and the fault is the first one.
 abbrev pub JudgesLine : {A : Type 0} → List ℕ → Result (Option (Op A)) LineFault → Type 0
 JudgesLine line result = MatchResult result (λ read. IsRead line read) (λ fault. Refuses fault line)
 
--- The line of an operation is read as that, unless memory ran out.
+-- The line of an operation is read as that operation, unless memory ran out.
 abbrev pub ReadsEachLine : {A : Type 0} → List ℕ → Result (Option (Op A)) LineFault → Type 0
 ReadsEachLine line result =
     (o : Operation) → IsLine o line
     → MatchResult result (λ read. MatchOption read ⊥ (λ op. operation_of op ≡ o)) (λ fault. fault ≡ NoMemory)
 
--- the line that asks for the template by its text
+-- the rdp line with this text as its argument
 abbrev pub rdp_line_of : List ℕ → List ℕ
 rdp_line_of text = codes "rdp " ++ text
 
@@ -32,7 +32,7 @@ abbrev pub JudgesText : List ℕ → Result TemplateTree LineFault → Type 0
 JudgesText text result =
     MatchResult result (λ p. IsLine (rdp p) (rdp_line_of text)) (λ fault. Faults (behind 4 fault) (rdp_line_of text))
 
--- The text of a template is read as that, unless memory ran out.
+-- The text of a template is read as that template, unless memory ran out.
 abbrev pub ReadsEachText : List ℕ → Result TemplateTree LineFault → Type 0
 ReadsEachText text result =
     (p : TemplateTree) → IsLine (rdp p) (rdp_line_of text)

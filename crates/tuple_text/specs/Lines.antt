@@ -7,7 +7,7 @@ use Rattle.tuple_tree.specs.Values.{IsDatum, IsSlot, TupleTree, TemplateTree}
 use Rattle.tuple_codec.specs.Operations.{Operation, out, rdp, inp, cas, rd_all, in_all, upgrade, IsOperation}
 use Rattle.tuple_text.specs.Texts.{AreBlanks, IsGap, TupleText, TemplateText}
 
--- each leaf is a right one
+-- IsLeaf holds of each leaf, at each level.
 module _ {L : Type 0} (IsLeaf : L → Type 0) where
   abbrev mutual
     pub EachLeaf : Items L → Type 0
@@ -36,7 +36,7 @@ name (rd_all n p) = codes "rdAll"
 name (in_all n p) = codes "inAll"
 name upgrade = codes "upgrade"
 
--- what the texts of the arguments have to be, in order
+-- the properties of the arguments' texts, in order
 abbrev pub arguments : Operation → List (List ℕ → Type 0)
 arguments (out t) = TupleArgument t ∷ []
 arguments (rdp p) = TemplateArgument p ∷ []
@@ -46,7 +46,7 @@ arguments (rd_all n p) = CountArgument n ∷ TemplateArgument p ∷ []
 arguments (in_all n p) = CountArgument n ∷ TemplateArgument p ∷ []
 arguments upgrade = []
 
--- each argument behind a gap
+-- a gap before each argument, and blanks after the last
 abbrev pub ArgumentsText : List (List ℕ → Type 0) → List ℕ → Type 0
 ArgumentsText [] bs = AreBlanks bs
 ArgumentsText (argument ∷ more) bs =

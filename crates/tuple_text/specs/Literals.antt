@@ -1,4 +1,4 @@
--- What a reader of the literals of texts and byte strings reads at the front of bytes.
+-- Readers of the literals of texts and byte strings at the front of bytes.
 use Rattle.std.specs.Prelude.{ℕ, ◌+◌, ◌-◌, ◌*◌, ◌==◌, nat_le, nat_lt, ◌≡◌, Bool, ◌&&◌, ◌||◌, if◌then◌else◌, List, [], ◌∷◌, ◌++◌, Option, None, Some, MatchOption}
 use Rattle.tuple_text.specs.Read.{got, stop, Reading}
 use Rattle.tuple_text.specs.declared.reader.Stop.TheVariants.{BadByte}
@@ -32,7 +32,7 @@ led b =
     else (if is_between 241 243 b then Adds b ThreeBytes
     else (if b == 244 then Adds b BytesBehindF4 else Refused))))))
 
--- what a byte does where this is expected
+-- the effect of a byte if this is expected
 abbrev pub step : Expected → ℕ → Step
 step Character b =
     if b == 34 then Ends
@@ -54,19 +54,19 @@ step BytesBehindEd b = continued 128 159 OneByte b
 step BytesBehindF0 b = continued 144 191 TwoBytes b
 step BytesBehindF4 b = continued 128 143 TwoBytes b
 
--- what reading gives behind a step, with s read so far
+-- the result of reading after a step; s are the bytes read before
 abbrev pub stepped : {V : Type 0} → Step → List ℕ → V → V → (Expected → List ℕ → V) → V
 stepped Refused s refused ended on = refused
 stepped Ends s refused ended on = ended
 stepped (Passes e) s refused ended on = on e s
 stepped (Adds v e) s refused ended on = on e (s ++ v ∷ [])
 
--- the rest of a text, with s read so far
+-- the rest of a text; s are the bytes read before
 abbrev pub text_from : Expected → List ℕ → Reading (List ℕ)
 text_from e s [] = stop BadByte []
 text_from e s (b ∷ bs) = stepped (step e b) s (stop BadByte (b ∷ bs)) (got s bs) (λ f t. text_from f t bs)
 
--- the rest of a text behind its first quote
+-- the rest of a text after its first quote
 abbrev pub text_rest : Reading (List ℕ)
 text_rest bs = text_from Character [] bs
 
@@ -79,11 +79,11 @@ abbrev pub hex_front : List ℕ → Option (ℕ × List ℕ)
 hex_front [] = None
 hex_front (b ∷ bs) = if is_hex b then Some (hex_value b, bs) else None
 
--- That digit is passed, and its value given; or there is none.
+-- A digit is passed and its value given, or there is none.
 abbrev pub PassesDigit : Option ℕ → List ℕ → List ℕ → Type 0
 PassesDigit given old new = MatchOption given (hex_front old ≡ None) (λ h. hex_front old ≡ Some (h, new))
 
--- the rest of a byte string, with s read so far, and perhaps the first digit of a pair
+-- the rest of a byte string; s are the bytes read before, and high perhaps the first digit of a pair
 abbrev pub pairs : List ℕ → Option ℕ → Reading (List ℕ)
 pairs s None [] = got s []
 pairs s None (b ∷ bs) = if is_hex b then pairs s (Some (hex_value b)) bs else got s (b ∷ bs)

@@ -1,4 +1,4 @@
--- What the private methods of the reader speak of: the parts of a tuple, and those of a template.
+-- Definitions for the private methods of the reader: the parts of a tuple, and those of a template.
 use Rattle.std.specs.Prelude.{◌≡◌, ℕ, Bool, codes, Result, Option, option_map}
 use Rattle.tuple_tree.specs.Items.{Item, inner, Items}
 use Rattle.tuple_tree.specs.Values.{Datum, Slot, TupleTree, TemplateTree, datum_length, slot_length}
@@ -6,7 +6,7 @@ use Rattle.tuple_text.specs.Reading.{stop, Reading, named, datum, slot, begins_d
 use Rattle.tuple_text.specs.declared.reader.Reader.{Reader}
 use Rattle.tuple_text.specs.declared.reader.Stop.{Stop}
 
--- The method reads so, unless memory ran out; behind it the reader stands at the bytes that are left.
+-- The method reads as the definition does, unless memory ran out. After it the reader has the bytes that are left.
 abbrev pub Reads : {X V : Type 0} → (X → V) → Result X Stop → Reading V → Reader → Reader → Type 0
 Reads view result reading old new = Gives view result (reading old.rest.now) new.rest.now
 
@@ -38,25 +38,25 @@ value_follows levels count free = further (no_room begins_datum levels) count fr
 abbrev pub field_follows : ℕ → ℕ → Bool → Reading Bool
 field_follows levels count free = further (no_room begins_slot levels) count free
 
--- a nested list as an item, behind its closing parenthesis
+-- the closing parenthesis of a nested list, which is then an item
 abbrev pub closed : {L : Type 0} → Option (Items L) → Reading (Option (Item L))
 closed t = named (codes ")") (option_map inner t)
 
--- the outermost list, behind its closing parenthesis
+-- the closing parenthesis of the outermost list
 abbrev pub close_tuple : Option TupleTree → Reading TupleTree
 close_tuple t = close datum_length begins_datum datum t
 
 abbrev pub close_template : Option TemplateTree → Reading TemplateTree
 close_template p = close slot_length begins_slot slot p
 
--- a list that may be too long with an item that may be too long behind it
+-- a list and an item at its end, either of which may be too long
 abbrev pub tuple_with : Option TupleTree → Option (Item Datum) → Option TupleTree
 tuple_with t v = kept_with datum_length t v
 
 abbrev pub template_with : Option TemplateTree → Option (Item Slot) → Option TemplateTree
 template_with p f = kept_with slot_length p f
 
--- No further item has room here for this reason.
+-- No further item has room here, for this reason.
 abbrev pub HasNoValueRoom : ℕ → Reader → Stop → Type 0
 HasNoValueRoom levels reader why =
     full {V = Option TupleTree} (no_room begins_datum levels) reader.rest.now ≡ stop why reader.rest.now

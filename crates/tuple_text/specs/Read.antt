@@ -1,4 +1,5 @@
--- What a reading of bytes gives: a value and the bytes left, or why it stops, and the bytes that it stops at.
+-- The result of reading bytes: a value and the bytes left, or the reason to stop and the bytes from the one that
+-- stopped it.
 use Rattle.std.specs.Prelude.{ℕ, List}
 use Rattle.tuple_text.specs.declared.reader.Stop.{Stop}
 

@@ -1,5 +1,5 @@
--- What a reader of the grammar reads at the front of bytes: a value and the bytes left, or why it stops, and the bytes
--- that it stops at.
+-- Readers of the grammar at the front of bytes. They give a value and the bytes left, or the reason to stop and the
+-- bytes from the one that stopped them.
 use Rattle.std.specs.Prelude.{◌≡◌, ℕ, zero, suc, ◌+◌, ◌-◌, ◌*◌, ◌/◌, ◌==◌, nat_le, ℤ, pos, negsuc, Bool, true, false, ◌&&◌, ◌||◌, if◌then◌else◌, List, [], ◌∷◌, codes, Result, Ok, Err, Option, None, Some, option_map}
 use Rattle.tuple_tree.specs.Items.{Item, leaf, inner, Items, none, with_last, whole_length}
 use Rattle.tuple_tree.specs.Values.{Datum, number, text, bytes, truth, wide, Slot, actual, any, formal, TupleTree, TemplateTree, datum_length, slot_length}
@@ -15,7 +15,7 @@ use Rattle.tuple_text.specs.declared.faults.LineFault.TheVariants as faults
 pub use Rattle.tuple_text.specs.Read.{Read, got, stop, Reading}
 use Rattle.tuple_text.specs.Literals.{text_literal, bytes_literal}
 
--- On with the bytes that are left.
+-- The next reader goes on with the bytes that are left.
 infixl 10 ◌>>=◌
 abbrev pub ◌>>=◌ : {V W : Type 0} → Read V → (V → Reading W) → Read W
 (got v bs) >>= f = f v bs
@@ -24,23 +24,23 @@ abbrev pub ◌>>=◌ : {V W : Type 0} → Read V → (V → Reading W) → Read 
 abbrev pub nothing : {V : Type 0} → Reading V
 nothing bs = stop BadByte bs
 
--- f before the byte c, g before another one
+-- f if the first byte is c, g if it is another one
 abbrev pub look : {V : Type 0} → ℕ → Reading V → Reading V → Reading V
 look c f g [] = stop BadByte []
 look c f g (b ∷ bs) = if b == c then f (b ∷ bs) else g (b ∷ bs)
 
--- Past blanks, and whether an item may begin there: it may where one may already, or behind a blank.
+-- Passes blanks. Gives whether an item may begin there: if one might before, or if a blank was passed.
 abbrev pub blanks : Bool → Reading Bool
 blanks free [] = got free []
 blanks free (b ∷ bs) = if b == 32 then blanks true bs else got free (b ∷ bs)
 
--- past these bytes
+-- passes these bytes
 abbrev pub word : List ℕ → Reading Bool
 word [] bs = got true bs
 word (c ∷ cs) [] = stop BadByte []
 word (c ∷ cs) (b ∷ bs) = if b == c then word cs bs else stop BadByte (b ∷ bs)
 
--- past these bytes, which stand for v
+-- passes these bytes, which stand for v
 abbrev pub named : {V : Type 0} → List ℕ → V → Reading V
 named cs v bs = word cs bs >>= λ _ rest. got v rest
 
@@ -51,7 +51,7 @@ abbrev pub finish : Reading Bool
 finish [] = got true []
 finish (b ∷ bs) = stop BadByte (b ∷ bs)
 
--- the digits of a number behind those of n, up to the limit
+-- the digits after those of n, up to the limit
 abbrev pub digits : ℕ → ℕ → Reading ℕ
 digits limit n [] = got n []
 digits limit n (b ∷ bs) =
@@ -104,7 +104,7 @@ behind_b = look 121 (named (codes "ytes") kinds.Bytes) (named (codes "ool") kind
 abbrev pub behind_t : Reading Kind
 behind_t = look 101 (named (codes "ext") kinds.Text) (named (codes "uple") kinds.Tuple)
 
--- these kinds with that letter
+-- the same kinds with that letter in front
 unfoldable pub kind_b : Reading Kind
 kind_b bs = word (codes "b") bs >>= λ _ rest. behind_b rest
 
@@ -137,12 +137,12 @@ begins_datum b =
 abbrev pub begins_slot : ℕ → Bool
 begins_slot b = b == 42 || (b == 63 || begins_datum b)
 
--- Where no further item has room: why the byte is refused.
+-- No further item has room: the reason to refuse the byte.
 unfoldable pub full : {V : Type 0} → (ℕ → Stop) → Reading V
 full why [] = stop BadByte []
 full why (b ∷ bs) = stop (why b) (b ∷ bs)
 
--- behind the blanks: whether an item follows, or the list is closed; the parenthesis is left
+-- after the blanks: whether an item follows, or the list is closed; the parenthesis is left
 unfoldable pub follows : Bool → Reading Bool
 follows free [] = stop BadByte []
 follows free (b ∷ bs) =
@@ -153,11 +153,11 @@ follows free (b ∷ bs) =
 unfoldable pub turn : Bool → Reading Bool
 turn free bs = blanks free bs >>= follows
 
--- whether an item follows n others, for which there has to be room
+-- whether an item follows n others; the list has room for 32
 unfoldable pub further : (ℕ → Stop) → ℕ → Bool → Reading Bool
 further why n free bs = turn free bs >>= λ on rest. if on && (n == 32) then full why rest else got on rest
 
--- What follows the items of t up to the closing parenthesis, with room for so many more.
+-- Adds items to t up to the closing parenthesis, with room for so many more.
 module _ {T X : Type 0} (why : ℕ → Stop) (add : T → X → T) (one : Reading X) where
   abbrev pub items : ℕ → Bool → T → Reading T
   items zero free t bs = turn free bs >>= λ on rest. if on then full why rest else got t rest
@@ -177,12 +177,12 @@ abbrev pub opens : List ℕ → Bool
 opens [] = false
 opens (b ∷ bs) = b == 40
 
--- A list is kept up to 1,024 bytes of encoding, and beyond them only judged.
+-- A list is kept if its encoding has at most 1,024 bytes. A longer one is only judged.
 module _ {L : Type 0} (length_of : L → ℕ) where
   abbrev pub kept : Items L → Option (Items L)
   kept t = if nat_le (whole_length length_of t) 1024 then Some t else None
 
-  -- a list that may be too long with an item that may be too long behind it
+  -- a list and an item at its end, either of which may be too long
   abbrev pub kept_with : Option (Items L) → Option (Item L) → Option (Items L)
   kept_with None x = None
   kept_with (Some t) None = None
@@ -192,7 +192,7 @@ module _ {L : Type 0} (length_of : L → ℕ) where
     abbrev pub leaf_item : Reading (Option (Item L))
     leaf_item bs = leaf_at bs >>= λ x rest. got (Some (leaf x)) rest
 
-    -- a list, by how its items are read and why there is no room
+    -- a list, given the reader of its items and the reason for a full list
     abbrev pub list : (ℕ → Stop) → Reading (Option (Item L)) → Reading (Option (Items L))
     list why one bs =
         word (codes "(") bs >>= λ _ rest. items why kept_with one 32 true (Some none) rest
@@ -208,7 +208,7 @@ module _ {L : Type 0} (length_of : L → ℕ) where
     unfoldable pub items_at : ℕ → Reading (Option (Items L))
     items_at levels bs = items (no_room begins levels) kept_with (item_at levels) 32 true (Some none) bs
 
-    -- The outermost list is refused at its closing parenthesis.
+    -- An outermost list that is too long is refused at its closing parenthesis.
     abbrev pub fitting : Option (Items L) → ℕ → Reading (Items L)
     fitting None b bs = stop TooLong (b ∷ bs)
     fitting (Some t) b bs = got t bs
@@ -232,7 +232,7 @@ argument one bs = gap bs >>= λ _ rest. one rest
 unfoldable pub ending : Reading Bool
 ending bs = blanks true bs >>= λ _ rest. finish rest
 
--- the last argument, and blanks alone behind it
+-- the last argument, and blanks alone up to the end
 abbrev pub last : {V : Type 0} → Reading V → Reading V
 last one bs = one bs >>= λ v after. ending after >>= λ _ rest. got v rest
 
@@ -251,7 +251,7 @@ cas_line bs =
 unfoldable pub upgrade_line : Reading Operation
 upgrade_line bs = word (codes "upgrade") bs >>= λ _ rest. ended upgrade rest
 
--- the letters of a verb, with which the names of its operations begin
+-- the letters of a verb, which begin the names of its operations
 abbrev pub letters : Verb → List ℕ
 letters Rd = codes "rd"
 letters In = codes "in"
@@ -265,7 +265,7 @@ abbrev pub all_of : Verb → ℕ → TemplateTree → Operation
 all_of Rd n p = rd_all n p
 all_of In n p = in_all n p
 
--- behind the letters of the verb
+-- the rest of the line after the letters of the verb
 unfoldable pub one_line : Verb → Reading Operation
 one_line verb bs =
     word (codes "p") bs >>= λ _ behind. argument template behind >>= λ p rest. ended (one_of verb p) rest
@@ -290,7 +290,7 @@ line bs = blanks true bs >>= λ _ rest. operation rest
 unfoldable pub lone_template : Reading TemplateTree
 lone_template bs = blanks true bs >>= λ _ rest. template rest >>= λ p after. ending after >>= λ _ last. got p last
 
--- That a method of the program reads so, unless memory ran out; behind it stands the reader at these bytes.
+-- The method reads as the definition does, unless memory ran out. Its reader has these bytes left.
 abbrev pub Stops : {V : Type 0} → Stop → Read V → List ℕ → Type 0
 Stops NoMemory read rest = Unit {0}
 Stops s read rest = read ≡ stop s rest

@@ -1,4 +1,4 @@
--- The text that is written: one blank between items and none at the parentheses.
+-- The text that the program writes: one blank between items and none at the parentheses.
 use Rattle.std.specs.Prelude.{◌≡◌, ℕ, List, [], ◌∷◌, ◌++◌, length, codes, Result, Ok, Err}
 use Rattle.std.specs.Fmt.{decimal}
 use Rattle.tuple_tree.specs.Items.{Item, leaf, inner, Items, none, item}
@@ -14,12 +14,12 @@ module _ {L : Type 0} (leaf_text : L → List ℕ) where
     item_written (leaf x) = leaf_text x
     item_written (inner xs) = 40 ∷ items_written xs ++ 41 ∷ []
 
-    -- what stands between the parentheses
+    -- the text between the parentheses
     pub items_written : Items L → List ℕ
     items_written none = []
     items_written (item x xs) = item_written x ++ more_written xs
 
-    -- each item behind a blank
+    -- a blank before each item
     pub more_written : Items L → List ℕ
     more_written none = []
     more_written (item x xs) = 32 ∷ item_written x ++ more_written xs
@@ -47,12 +47,12 @@ field_written x = item_written slot_text x
 abbrev pub fields_written : TemplateTree → List ℕ
 fields_written p = items_written slot_text p
 
--- each tuple behind a blank
+-- a blank before each tuple
 abbrev pub tuples_written : List TupleTree → List ℕ
 tuples_written [] = []
 tuples_written (t ∷ ts) = 32 ∷ tuple_written t ++ tuples_written ts
 
--- their count, and then they
+-- the count of the tuples, and then the tuples
 abbrev pub counted_written : List TupleTree → List ℕ
 counted_written ts = decimal (length ts) ++ tuples_written ts
 
@@ -66,7 +66,7 @@ outcome_text (all ts) = codes "all " ++ decimal (length ts) ++ tuples_written ts
 outcome_text full = codes "full"
 outcome_text refused = codes "refused"
 
--- An operation's name, and its arguments, each behind a blank.
+-- An operation's name, and a blank before each argument.
 abbrev pub operation_written : Operation → List ℕ
 operation_written (out t) = codes "out " ++ tuple_written t
 operation_written (rdp p) = codes "rdp " ++ template_written p
@@ -76,11 +76,11 @@ operation_written (rd_all n p) = codes "rdAll " ++ decimal n ++ 32 ∷ template_
 operation_written (in_all n p) = codes "inAll " ++ decimal n ++ 32 ∷ template_written p
 operation_written upgrade = codes "upgrade"
 
--- of an answer of the program
+-- the text of a Rust answer
 abbrev pub answer_text : {A : Type 0} → Answer A → List ℕ
 answer_text answer = outcome_text (outcome_of answer)
 
--- Behind the old bytes stands the text, or what an error left of it.
+-- The text follows the old bytes. After an error some other bytes may.
 abbrev pub Appends : {V E : Type 0} → Result V E → List ℕ → List ℕ → List ℕ → Type 0
 Appends (Ok v) old text new = new ≡ old ++ text
 Appends (Err e) old text new = (more : List ℕ) × (new ≡ old ++ more)

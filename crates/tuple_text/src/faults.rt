@@ -5,13 +5,14 @@ ghost use Rattle.std.specs.Prelude.{◌≡◌};
 use std::alloc::{AllocError, AllocFailed};
 use thiserror::Error;
 
-/// How many bytes a line has at the most.
+/// Most bytes of a line.
 pub const MAX_LINE: usize = 65536;
 
 /// Why a line is refused: the first of these from left to right.
 #[derive(Clone, Copy, Debug, PartialEq, Eq, Error)]
 pub enum LineFault {
-    /// No line goes on so: `offset` bytes from 0 are the longest beginning of the line that begins some line.
+    /// `offset`, from 0, is the first byte that can't continue any valid line. So the bytes before it are the longest
+    /// beginning of the line that begins some valid line.
     #[error("no line goes on with byte {offset}")]
     BadByte { offset: usize },
     /// A ninth level is opened.

@@ -10,7 +10,7 @@ use std::alloc::Global;
 use tuple_codec::Op;
 use tuple_tree::Template;
 
-// How many bytes the text of a template has at the most: as many as fit into a line behind `rdp `.
+// Most bytes of a template's text: as many as fit into a line after `rdp `.
 const MAX_TEXT: usize = MAX_LINE - 4;
 
 fn is_skipped(line: &[u8]) -> bool
@@ -22,18 +22,18 @@ fn is_skipped(line: &[u8]) -> bool
     Reader::new(line).is_blank()
 }
 
-/// The operation of a line, which comes without its line end; `None` where the line is empty, of blanks alone, or
-/// begins with a hash.
+/// The operation of a line, which comes without its line end. `None` if the line is empty, of blanks alone, or begins
+/// with a hash.
 ///
 /// # Errors
 ///
-/// The line is judged from left to right, and the first byte that ends a line's beginning, or passes a limit of tuples
-/// and templates, decides. The byte 65,536 counts as one with which no line goes on.
+/// The line is judged from left to right. The first byte that can't continue any valid line, or passes a limit of
+/// tuples and templates, decides. The byte 65,536 counts as one that can't continue any line.
 pub fn read_line(alloc: Global, line: &[u8]) -> Result<Option<Op<Global>>, LineFault>
-    // What is read stands there, and the fault is the first one.
+    // The operation is that of the line, and the fault is the first one.
     ensures answer { JudgesLine line.now result }
 
-    // The line of an operation is read so, unless memory runs out.
+    // The line of an operation is read as that operation, unless memory runs out.
     ensures only { ReadsEachLine line.now result }
     ensures skipped { IsSkipped line.now → result ≡ Ok None }
 {
@@ -53,16 +53,16 @@ pub fn read_line(alloc: Global, line: &[u8]) -> Result<Option<Op<Global>>, LineF
     }
 }
 
-/// The template whose text this is, with blanks at both ends: the one that an `rdp` before the text would ask for.
+/// The template of this text, which may have blanks at both ends: the one that the line `rdp TEXT` asks for.
 ///
 /// # Errors
 ///
-/// As of the line `rdp TEXT`; offsets count from the text's first byte. The byte 65,532 counts as one with which no
-/// text goes on.
+/// As of the line `rdp TEXT`; offsets count from the text's first byte. The byte 65,532 counts as one that can't
+/// continue any text.
 pub fn read_template(alloc: Global, text: &[u8]) -> Result<Template<Global>, LineFault>
     ensures answer { JudgesText text.now result }
 
-    // A template's text is read so, unless memory runs out.
+    // The text of a template is read as that template, unless memory runs out.
     ensures only { ReadsEachText text.now result }
 {
     let taken = &text[..text.len().min(MAX_TEXT)];

@@ -9,13 +9,13 @@ use crate::reader::{Reader, Stop};
 use std::alloc::Global;
 use std::string::String;
 
-/// What may stand next in a text literal. Of a character of several bytes it is what RFC 3629, section 4, allows behind
-/// those that are passed.
+/// The bytes that may stand next in a text literal. Within a character of several bytes these are the bytes that RFC
+/// 3629, section 4, allows next.
 #[derive(Clone, Copy)]
 pub(crate) enum Expected {
     /// A character, an escape, or the closing quote.
     Character,
-    /// What a backslash escapes.
+    /// The byte after a backslash.
     Escape,
     /// The first hexadecimal digit of an escape by number.
     FirstDigit,
@@ -30,15 +30,15 @@ pub(crate) enum Expected {
     BytesBehindF4,
 }
 
-/// What a byte does.
+/// The effect of a byte.
 pub(crate) enum Step {
-    /// No text goes on with it.
+    /// It can't continue any text.
     Refused,
     /// It closes the text.
     Ends,
-    /// It is passed, and this is expected behind it.
+    /// It is passed, and this is expected next.
     Passes(Expected),
-    /// The same, and this byte is added to the text.
+    /// It is passed, this byte is added to the text, and this is expected next.
     Adds(u8, Expected),
 }
 
@@ -117,7 +117,7 @@ fn push_byte(bytes: &mut Vec<u8>, byte: u8) -> Result<(), Stop>
 }
 
 impl<'a> Reader<'a> {
-    // The rest of a text behind its first quote.
+    // The rest of a text after its first quote.
     fn text_bytes(&mut self, alloc: Global) -> Result<Vec<u8>, Stop>
         ensures gives { Reads (λ v. v.items) result text_rest self.old self.new }
         ensures utf8 { IfOk result (λ v. IsUtf8 v.items) }
@@ -175,7 +175,7 @@ impl<'a> Reader<'a> {
         }
     }
 
-    // The rest of a byte string behind its first letter.
+    // The rest of a byte string after its first letter.
     fn pairs(&mut self, alloc: Global) -> Result<Vec<u8>, Stop>
         ensures { Reads (λ v. v.items) result (pairs [] None) self.old self.new }
     {

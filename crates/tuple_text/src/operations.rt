@@ -13,8 +13,8 @@ use terms::NoMemory;
 use tuple_codec::{Max, Op};
 use tuple_tree::{Field, Kind, Template};
 
-/// Appends the line of the operation: its name and its arguments, each behind a blank. An `Err` leaves the bytes as
-/// they were.
+/// Appends the line of the operation: its name, and a blank before each argument. An `Err` leaves the bytes as they
+/// were.
 pub fn write_op<A: Allocator, B: Allocator>(
     op: &Op<A>,
     out: &mut Vec<u8, B>,
@@ -66,7 +66,7 @@ fn put_op<A: Allocator, B: Allocator>(op: &Op<A>, out: &mut Vec<u8, B>) -> Resul
     }
 }
 
-// How many tuples, and the template behind a blank.
+// How many tuples, a blank, and the template.
 fn put_counted<A: Allocator, B: Allocator>(
     max: Max,
     template: &Template<A>,

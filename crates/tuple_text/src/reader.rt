@@ -26,7 +26,7 @@ const BELOW: usize = 7;
 /// Why a reader stops.
 #[derive(Clone, Copy)]
 pub(crate) enum Stop {
-    /// No text goes on with the next byte.
+    /// The next byte can't continue any text.
     BadByte,
     TooDeep,
     TooManyFields,
@@ -35,7 +35,7 @@ pub(crate) enum Stop {
 }
 
 impl Stop {
-    /// The fault of a line that is read up to `offset`.
+    /// The fault of a line that was read up to `offset`.
     pub(crate) fn fault(self, offset: usize) -> LineFault
         ensures { result ≡ fault_at offset self }
     {
@@ -88,7 +88,7 @@ impl Verb {
     }
 }
 
-/// A reader of a line. Where it stops it stands before the byte that it stops at.
+/// A reader of a line. If it stops, it stands before the byte that stopped it.
 #[derive(Drop)]
 pub(crate) struct Reader<'a> {
     pub(crate) rest: &'a [u8],
@@ -108,7 +108,7 @@ impl<'a> Reader<'a> {
         self.rest.len()
     }
 
-    /// Whether there are blanks alone.
+    /// Whether the rest is blanks alone.
     pub(crate) fn is_blank(mut self) -> bool
         ensures { IsTrue result ↔ AreBlanks self.entry.rest.now }
     {
@@ -116,7 +116,7 @@ impl<'a> Reader<'a> {
         self.rest.is_empty()
     }
 
-    // Passes blanks. Whether an item may begin here: it may if one might before, or behind a blank.
+    // Passes blanks. Gives whether an item may begin here: if one might before, or if a blank was passed.
     fn blanks(&mut self, mut free: bool) -> bool
         ensures { blanks free self.old.rest.now ≡ got result self.new.rest.now }
     {
@@ -164,7 +164,7 @@ impl<'a> Reader<'a> {
         }
     }
 
-    // The digits behind those of `first`.
+    // The digits after `first`, the number that the digits before them spell.
     fn digits(&mut self, limit: u128, first: u128) -> Result<u128, Stop>
         requires low { 9 ≤ limit }
         requires high { limit ≤ MOST_WIDE + 1 }
@@ -237,7 +237,7 @@ impl<'a> Reader<'a> {
         Ok(Atom::Number(number as i64))
     }
 
-    // A wide number, behind its `w`.
+    // A wide number, after its `w`.
     #[tactic(auto, unfolding(crate::specs::Reading::wide_numeral))]
     fn wide_numeral(&mut self) -> Result<Atom<Global>, Stop>
         ensures { Reads datum_of result wide_numeral self.old self.new }
@@ -285,7 +285,7 @@ impl<'a> Reader<'a> {
         Ok(kind)
     }
 
-    // The rest of a kind's name behind its `b`.
+    // The rest of a kind's name after its `b`.
     fn kind_b(&mut self) -> Result<Kind, Stop>
         ensures { Reads (λ k. k) result behind_b self.old self.new }
     {
@@ -296,7 +296,7 @@ impl<'a> Reader<'a> {
         }
     }
 
-    // The rest of a kind's name behind its `t`.
+    // The rest of a kind's name after its `t`.
     fn kind_t(&mut self) -> Result<Kind, Stop>
         ensures { Reads (λ k. k) result behind_t self.old self.new }
     {
@@ -363,7 +363,7 @@ impl<'a> Reader<'a> {
         }
     }
 
-    // Whether an item follows behind blanks, or the list is closed; the parenthesis is left.
+    // Passes blanks. Gives whether an item follows or the list is closed; the parenthesis is left.
     #[tactic(auto, unfolding(crate::specs::Reading::turn))]
     fn turn(&mut self, free: bool) -> Result<bool, Stop>
         ensures { Reads (λ on. on) result (turn free) self.old self.new }
@@ -372,7 +372,7 @@ impl<'a> Reader<'a> {
         self.follows(free)
     }
 
-    // Why no value has room here, with so many levels below.
+    // Why no further value has room here, with so many levels below.
     #[tactic(auto, unfolding(crate::specs::Reading::full))]
     fn full_tuple(&self, levels: usize) -> Stop
         ensures { HasNoValueRoom levels self.now result }
@@ -416,7 +416,7 @@ impl<'a> Reader<'a> {
         Ok(Some(Value::Atom(atom)))
     }
 
-    // The tuple as a value, behind its closing parenthesis.
+    // Passes the closing parenthesis, and gives the tuple as a value.
     fn closed_value(&mut self, tuple: Option<Tuple<Global>>) -> Result<Option<Value<Global>>, Stop>
         ensures { Reads (option_map value_of) result (closed tuple) self.old self.new }
     {
@@ -427,7 +427,7 @@ impl<'a> Reader<'a> {
         }
     }
 
-    // A value with at most so many levels; `None` where its encoding is too long.
+    // A value with at most so many levels. `None` if its encoding is too long.
     #[cycle(value)]
     fn value(&mut self, alloc: Global, levels: usize) -> Result<Option<Value<Global>>, Stop>
         ensures { Reads (option_map value_of) result (value_at levels) self.old self.new }
@@ -443,7 +443,7 @@ impl<'a> Reader<'a> {
         self.closed_value(tuple)
     }
 
-    // Whether a further value follows so many others, for which there has to be room.
+    // Whether a further value follows `count` others. If the list is full, a further value is refused.
     fn value_follows(&mut self, levels: usize, count: usize, free: bool) -> Result<bool, Stop>
         ensures { Reads (λ on. on) result (value_follows levels count free) self.old self.new }
     {
@@ -454,7 +454,8 @@ impl<'a> Reader<'a> {
         Ok(follows)
     }
 
-    // The values up to the closing parenthesis, which is left. Those of a tuple that is too long are judged on.
+    // The values up to the closing parenthesis, which is left. The values of a tuple that is too long are still
+    // judged.
     #[cycle(value)]
     fn values(&mut self, alloc: Global, levels: usize) -> Result<Option<Tuple<Global>>, Stop>
         ensures { Reads (λ t. t) result (values_at levels) self.old self.new }
@@ -504,7 +505,7 @@ impl<'a> Reader<'a> {
         Ok(Some(field))
     }
 
-    // The template as a field, behind its closing parenthesis.
+    // Passes the closing parenthesis, and gives the template as a field.
     fn closed_field(
         &mut self,
         template: Option<Template<Global>>,
@@ -518,7 +519,7 @@ impl<'a> Reader<'a> {
         }
     }
 
-    // A field with at most so many levels; `None` where its encoding is too long.
+    // A field with at most so many levels. `None` if its encoding is too long.
     #[cycle(field)]
     fn field(&mut self, alloc: Global, levels: usize) -> Result<Option<Field<Global>>, Stop>
         ensures { Reads (option_map field_of) result (field_at levels) self.old self.new }
@@ -534,7 +535,7 @@ impl<'a> Reader<'a> {
         self.closed_field(template)
     }
 
-    // Whether a further field follows so many others, for which there has to be room.
+    // Whether a further field follows `count` others. If the list is full, a further field is refused.
     fn field_follows(&mut self, levels: usize, count: usize, free: bool) -> Result<bool, Stop>
         ensures { Reads (λ on. on) result (field_follows levels count free) self.old self.new }
     {
@@ -545,7 +546,8 @@ impl<'a> Reader<'a> {
         Ok(follows)
     }
 
-    // The fields up to the closing parenthesis, which is left. Those of a template that is too long are judged on.
+    // The fields up to the closing parenthesis, which is left. The fields of a template that is too long are still
+    // judged.
     #[cycle(field)]
     fn fields(&mut self, alloc: Global, levels: usize) -> Result<Option<Template<Global>>, Stop>
         ensures { Reads (λ p. p) result (fields_at levels) self.old self.new }
@@ -606,7 +608,7 @@ impl<'a> Reader<'a> {
         self.template(alloc)
     }
 
-    // A tuple behind a gap, and blanks alone behind it.
+    // A gap, a tuple, and blanks alone up to the end.
     fn last_tuple(&mut self, alloc: Global) -> Result<Tuple<Global>, Stop>
         ensures { Reads (λ t. t) result (last (argument tuple)) self.old self.new }
     {
@@ -615,7 +617,7 @@ impl<'a> Reader<'a> {
         Ok(tuple)
     }
 
-    // A template, and blanks alone behind it.
+    // A template, and blanks alone up to the end.
     fn closing_template(&mut self, alloc: Global) -> Result<Template<Global>, Stop>
         ensures { Reads (λ p. p) result (last template) self.old self.new }
     {
@@ -624,7 +626,7 @@ impl<'a> Reader<'a> {
         Ok(template)
     }
 
-    // The same behind a gap.
+    // A gap, a template, and blanks alone up to the end.
     #[tactic(auto, unfolding(crate::specs::Reading::argument))]
     fn last_template(&mut self, alloc: Global) -> Result<Template<Global>, Stop>
         ensures { Reads (λ p. p) result (last (argument template)) self.old self.new }
@@ -682,7 +684,7 @@ impl<'a> Reader<'a> {
         Ok(Op::Upgrade)
     }
 
-    // The line of an `rdp` or `inp` behind its first two letters.
+    // The rest of an `rdp` or `inp` line, after its first two letters.
     #[tactic(auto, unfolding(crate::specs::Reading::one_line, crate::specs::Reading::ended))]
     fn one_line(&mut self, alloc: Global, verb: Verb) -> Result<Op<Global>, Stop>
         ensures { Reads operation_of result (one_line verb) self.old self.new }
@@ -692,7 +694,7 @@ impl<'a> Reader<'a> {
         Ok(verb.one_of(template))
     }
 
-    // The line of an `rdAll` or `inAll` behind its first two letters.
+    // The rest of an `rdAll` or `inAll` line, after its first two letters.
     #[tactic(auto, unfolding(crate::specs::Reading::all_line, crate::specs::Reading::ended))]
     fn all_line(&mut self, alloc: Global, verb: Verb) -> Result<Op<Global>, Stop>
         ensures { Reads operation_of result (all_line verb) self.old self.new }
@@ -729,7 +731,7 @@ impl<'a> Reader<'a> {
         }
     }
 
-    /// The template that stands alone, with blanks at both ends.
+    /// A template that stands alone, with blanks at both ends.
     #[tactic(auto, unfolding(crate::specs::Reading::lone_template))]
     pub(crate) fn lone_template(&mut self, alloc: Global) -> Result<Template<Global>, Stop>
         ensures { Reads (λ p. p) result lone_template self.old self.new }
@@ -748,8 +750,8 @@ impl<'a> Reader<'a> {
     }
 }
 
-// The tuple with the value behind it; `None` where one of them, or the whole, is too long. The reader keeps the other
-// limits itself.
+// The tuple with the value at its end. `None` if the tuple, the value or the whole is too long. The reader keeps the
+// other limits itself.
 fn with_value(
     tuple: Option<Tuple<Global>>,
     value: Option<Value<Global>>,
@@ -763,13 +765,13 @@ fn with_value(
     match tuple.push(value) {
         Ok(()) => Ok(Some(tuple)),
         Err(refused) => match refused.refusal {
-            Refusal::TooLong => Ok(None), // judged on, and not kept
+            Refusal::TooLong => Ok(None), // not kept, but its bytes are still judged
             Refusal::TooManyFields | Refusal::TooDeep | Refusal::NoMemory => Err(Stop::NoMemory),
         },
     }
 }
 
-// The template with the field behind it; `None` where one of them, or the whole, is too long.
+// The template with the field at its end. `None` if the template, the field or the whole is too long.
 fn with_field(
     template: Option<Template<Global>>,
     field: Option<Field<Global>>,

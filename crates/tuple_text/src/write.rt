@@ -38,8 +38,8 @@ pub fn write_tuple<A: Allocator, B: Allocator>(
     }
 }
 
-/// Appends the text of the answer: its name, and then what it holds, each behind a blank. An `Err` leaves the bytes as
-/// they were.
+/// Appends the text of the answer: its name, and a blank before each part of its content. An `Err` leaves the bytes
+/// as they were.
 pub fn write_answer<A: Allocator, B: Allocator>(
     answer: &Answer<A>,
     out: &mut Vec<u8, B>,
@@ -57,14 +57,14 @@ pub fn write_answer<A: Allocator, B: Allocator>(
     }
 }
 
-/// A law: what is written of a tuple or a template is a text of it.
+/// A law: the written text of a tuple or template is a text of that tuple or template.
 pub fn written_is_text()
     ensures tuples { (t : TupleTree) → TupleText t (tuple_written t) }
     ensures templates { (p : TemplateTree) → TemplateText p (template_written p) }
 {}
 
-/// A law: what is written of a tuple within the limits is read again as that tuple by [`read_line`](crate::read_line),
-/// behind `out `, and what is written of a template as that template, behind `rdp `. No line is that of two operations.
+/// A law: [`read_line`](crate::read_line) reads `out ` and the written text of a tuple within the limits as that
+/// tuple again, and `rdp ` and the written text of a template as that template. No line is that of two operations.
 pub fn written_is_read()
     ensures tuples { TuplesAreLines }
     ensures templates { TemplatesAreLines }

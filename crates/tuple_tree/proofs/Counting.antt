@@ -1,4 +1,4 @@
--- The counts of what lists of values and fields stand for.
+-- The lengths of lists of values and fields, and of the lists that they stand for.
 use Rattle.std.proofs.Common.{◌≡◌, List, length}
 use Rattle.tuple_tree.specs.Items.{how_many}
 use Rattle.tuple_tree.specs.TupleView.{value_of, tuple_of}

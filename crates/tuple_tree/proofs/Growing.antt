@@ -37,7 +37,7 @@ module _ {L : Type 0} (IsLeaf : L → Type 0) where
   AreItems-with_last none x h p = (p, tt)
   AreItems-with_last (item y t) x h p = (h.0, AreItems-with_last t x h.1 p)
 
--- What the fields of a tuple or template say of its value t: within the limits, so many items, levels and bytes.
+-- The tuple or template t is within the limits, and has n items, d levels and e bytes.
 pub record Holds {L : Type 0} (IsLeaf : L → Type 0) (length_of : L → ℕ) (t : Items L) (n d e : ℕ) : Type 0 where
   pub within : IsWithin IsLeaf length_of t
   pub items : n ≡ how_many t

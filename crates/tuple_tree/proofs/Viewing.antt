@@ -15,7 +15,7 @@ module _ {X L : Type 0} (view : X → Item L) where
   items_of-push [] x = refl
   items_of-push (y ∷ xs) x = ap (item (view y)) (items_of-push xs x)
 
-  -- the items after a value was put behind the others
+  -- the items after a value was added at the end
   pub pushed : (xs ys : List X) (x : X) (t : Items L) → ys ≡ xs ++ x ∷ [] → items_of view xs ≡ t → items_of view ys ≡ with_last t (view x)
   pushed xs ys x t p q = ap (items_of view) p ∙ items_of-push xs x ∙ ap (λ u. with_last u (view x)) q
 

@@ -1,4 +1,4 @@
--- What a value of the program that is no tuple stands for.
+-- The plain value that a Rust value without tuples stands for.
 use Rattle.std.specs.Prelude.{string_bytes}
 use Rattle.tuple_tree.specs.Values.{Datum, number, text, bytes, truth, wide}
 use Rattle.tuple_tree.specs.declared.atoms.Atom.{Atom}

@@ -1,4 +1,4 @@
--- What the private fields and functions that keep levels and bytes beside items speak of.
+-- Definitions for the private fields and functions that keep levels and bytes beside the items.
 use Rattle.std.specs.Prelude.{◌≡◌, ◌≢◌, ℕ, ◌+◌, ◌<◌, ◌≤◌, max, Bool, ◌||◌, Result, MatchResult}
 use Rattle.tuple_tree.specs.Items.{Items, levels_of, whole_length, has_leaf}
 use Rattle.tuple_tree.specs.Limits.{IsWithin, RefusesSize}
@@ -12,19 +12,19 @@ IsMeasured IsLeaf length_of is_wide t extent =
     IsWithin IsLeaf length_of t × (extent.depth ≡ levels_of t) × (extent.encoded_len ≡ whole_length length_of t)
     × (extent.has_wide ≡ has_leaf is_wide t)
 
--- a list of so many items has room for one more, by which it gets this extent
+-- A list of len items has room for one more item, and the longer list has the extent new.
 abbrev pub IsLonger : Extent → ℕ → ℕ → ℕ → Bool → Extent → Type 0
 IsLonger old len item_depth item_len item_wide new =
     (len < 32) × (new.depth ≤ 8) × (new.encoded_len ≤ 1024) × (new.depth ≡ max old.depth (1 + item_depth))
     × (new.encoded_len ≡ old.encoded_len + item_len) × (new.has_wide ≡ (old.has_wide || item_wide))
 
--- an item of so many levels and bytes is refused behind them
+-- The list with one more item, of so many levels and bytes, passes a limit, and the refusal names the first one.
 abbrev pub RefusesItem : Extent → ℕ → ℕ → ℕ → Refusal → Type 0
 RefusesItem old len item_depth item_len refusal =
     (refusal ≢ NoMemory)
     × RefusesSize refusal (len + 1) (max old.depth (1 + item_depth)) (old.encoded_len + item_len)
 
--- The extent of a list with one more item, or the first limit that it passes.
+-- The result is the extent of the list with one more item, or the first limit that it passes.
 abbrev pub Extends : Extent → ℕ → ℕ → ℕ → Bool → Result Extent Refusal → Type 0
 Extends old len item_depth item_len item_wide result =
     MatchResult result (IsLonger old len item_depth item_len item_wide) (RefusesItem old len item_depth item_len)

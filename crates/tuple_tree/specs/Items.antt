@@ -67,7 +67,7 @@ module _ {L : Type 0} (test : L → Bool) where
     has_leaf none = false
     has_leaf (item x xs) = item_has x || has_leaf xs
 
--- The items that a list of the program's values stands for, by what each of them stands for.
+-- The items that a list of Rust values stands for; view tells the item of each value.
 module _ {X L : Type 0} (view : X → Item L) where
   abbrev pub items_of : List X → Items L
   items_of [] = none

@@ -22,8 +22,8 @@ pub record IsWithin {L : Type 0} (IsLeaf : L → Type 0) (length_of : L → ℕ)
   pub length : whole_length length_of t ≤ 1024
   pub each : AreItems IsLeaf t
 
--- Why so many items of so many levels and bytes are refused: the first limit that they pass, in this order, or,
--- within all of them, memory.
+-- Why a list of so many items, levels and bytes is refused: the first limit that it passes, in this order. If it
+-- passes none, memory ran out.
 abbrev pub RefusesSize : Refusal → ℕ → ℕ → ℕ → Type 0
 RefusesSize TooManyFields items levels bytes = 32 < items
 RefusesSize TooDeep items levels bytes = (items ≤ 32) × (8 < levels)

@@ -1,11 +1,11 @@
--- What adding an item says of the longer list.
+-- What the result of adding an item says of the longer list.
 use Rattle.std.specs.Prelude.{Result, MatchResult}
 use Rattle.tuple_tree.specs.Limits.{Refuses}
 use Rattle.tuple_tree.specs.Values.{TupleTree, TemplateTree, datum_length, slot_length, IsTuple, IsTemplate}
 use Rattle.tuple_tree.specs.declared.limits.Refused.{Refused}
 
--- Where it was made it is within the limits; else it is refused for the first one that it would pass, or, within all,
--- for want of memory.
+-- If the item was added, the list is within the limits. Otherwise the refusal names the first limit that the longer
+-- list would pass, or memory if it would pass none.
 abbrev pub JudgesTuple : {U T : Type 0} → Result U (Refused T) → TupleTree → TupleTree → Type 0
 JudgesTuple result new longer = MatchResult result (λ _. IsTuple new) (λ e. Refuses datum_length e.refusal longer)
 

@@ -1,4 +1,4 @@
--- What the fields of the program stand for.
+-- The plain fields that the Rust values stand for.
 use Rattle.std.specs.Prelude.{List}
 use Rattle.tuple_tree.specs.Items.{Item, leaf, inner, items_of}
 use Rattle.tuple_tree.specs.Values.{Slot, actual, any, formal, TemplateTree}

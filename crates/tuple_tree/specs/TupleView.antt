@@ -1,4 +1,4 @@
--- What the values of the program stand for.
+-- The plain values that the Rust values stand for.
 use Rattle.std.specs.Prelude.{List}
 use Rattle.tuple_tree.specs.Items.{Item, leaf, inner, items_of}
 use Rattle.tuple_tree.specs.Values.{Datum, TupleTree}

@@ -17,7 +17,7 @@ pub data Datum : Type 0 where
   truth : Bool → Datum
   wide : ℤ → Datum
 
--- a field of a template that is no template: an actual value, any value, or any value of a kind
+-- a field that is no template: an actual value, any value, or any value of a kind
 pub data Slot : Type 0 where
   actual : Datum → Slot
   any : Slot
@@ -72,7 +72,7 @@ IsSlot (actual x) = IsDatum x
 IsSlot any = Unit {0}
 IsSlot (formal k) = Unit {0}
 
--- a wide number, and a field that asks for one or for each
+-- whether a value is a wide number, and whether a field asks for one or for each
 abbrev pub is_wide : Datum → Bool
 is_wide (wide n) = true
 is_wide _ = false
@@ -82,10 +82,10 @@ is_wide_slot (actual x) = is_wide x
 is_wide_slot (formal kinds.Wide) = true
 is_wide_slot _ = false
 
--- what the space may hold
+-- a tuple within the limits, as the space may hold it
 abbrev pub IsTuple : TupleTree → Type 0
 IsTuple t = IsWithin IsDatum datum_length t
 
--- what may be asked for
+-- a template within the limits, as an operation may ask for it
 abbrev pub IsTemplate : TemplateTree → Type 0
 IsTemplate p = IsWithin IsSlot slot_length p

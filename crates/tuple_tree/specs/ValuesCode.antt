@@ -1,4 +1,4 @@
--- Codes of tuples and templates, by which a proof tells them apart.
+-- Codes of tuples and templates. A proof tells them apart by these.
 use Rattle.std.specs.Prelude.{◌≡◌, ◌⊎◌, ℕ, zero, suc, ℤ, Bool, List, refl}
 use Rattle.std.specs.Coded.{Coded, code_by, coded_list, coded⊎, coded_ℤ, coded_ℕ, coded_bool}
 use Rattle.std.proofs.Common.{inl, inr}

@@ -8,11 +8,11 @@
 //!
 //! # What is proved
 //!
-//! A `Tuple` is seen as the list of its values, a `Template` as that of its fields; both keep the limits (32 items, 8
-//! levels, 1,024 bytes) by their types. `push` adds last, or hands the value back with the first limit that would be
-//! passed and nothing changed; `copy_in` gives an equal tree under another allocator; `same` holds exactly of equal
-//! trees, under two allocators; `len`, `get`, `depth`, `encoded_len`, `values`, `into_value` are exact. `has_wide` tells
-//! exactly whether a wide number, or in a template its formal, is at some level.
+//! A `Tuple` is seen as the list of its values, a `Template` as that of its fields. Both keep the limits (32 items, 8
+//! levels, 1,024 bytes) by their types. `push` adds an item at the end, or hands it back with the first limit that it
+//! would pass and changes nothing. `copy_in` gives an equal tree under another allocator; `same` holds exactly of
+//! equal trees, under two allocators. `len`, `get`, `depth`, `encoded_len`, `values`, `into_value` are exact.
+//! `has_wide` tells exactly whether a wide number, or in a template its formal, is at some level.
 #![tactic(auto)]
 
 mod atoms;

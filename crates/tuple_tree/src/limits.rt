@@ -5,13 +5,13 @@ ghost use Rattle.tuple_tree.specs.Extents.{Extends};
 
 use thiserror::Error;
 
-/// How many items a list has at the most, at each level.
+/// Most items of a list, at each level.
 pub const MAX_FIELDS: usize = 32;
 
-/// How many levels there are at the most. A flat list has one.
+/// Most levels. A flat list has one.
 pub const MAX_DEPTH: u8 = 8;
 
-/// How many bytes an encoding has at the most.
+/// Most bytes of an encoding.
 pub const MAX_LEN: usize = 1024;
 
 /// Why an item was not added.
@@ -27,7 +27,7 @@ pub enum Refusal {
     NoMemory,
 }
 
-/// What was refused, and why.
+/// A refused item, and why it was refused.
 #[derive(Drop)]
 pub struct Refused<T> {
     pub refusal: Refusal,
@@ -51,7 +51,7 @@ impl Extent {
         has_wide: false,
     };
 
-    /// The extent of a list of `len` items with one more behind them, or the first limit that it passes.
+    /// The extent of a list of `len` items with one more at its end, or the first limit that the longer list passes.
     pub fn with_item(
         self,
         len: usize,

@@ -23,7 +23,7 @@ pub enum Field<A: Allocator> {
     Any,
     /// A formal: each value of the kind matches.
     Formal(Kind),
-    /// A nested tuple matches that this template matches.
+    /// A nested template: a nested tuple matches if this template matches it.
     Nested(Template<A>),
 }
 
@@ -252,8 +252,8 @@ impl<A: Allocator> Template<A> {
         })
     }
 
-    /// Adds a field at the end. A refusal hands the field back and leaves the template as it was; where several limits
-    /// would be passed, the first in the order of [`Refusal`] is given.
+    /// Adds a field at the end. A refusal hands the field back and leaves the template as it was. If the field would
+    /// pass several limits, the refusal names the first in the order of [`Refusal`].
     pub fn push(&mut self, field: Field<A>) -> Result<(), PushedField<A>>
         ensures ok { OnOk result (self.new ≡ with_last self.old (field_of field)) }
         ensures err { OnErr result (self.new ≡ self.old) }

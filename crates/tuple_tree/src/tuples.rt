@@ -250,8 +250,8 @@ impl<A: Allocator> Tuple<A> {
         })
     }
 
-    /// Adds a value at the end. A refusal hands the value back and leaves the tuple as it was; where several limits
-    /// would be passed, the first in the order of [`Refusal`] is given.
+    /// Adds a value at the end. A refusal hands the value back and leaves the tuple as it was. If the value would
+    /// pass several limits, the refusal names the first in the order of [`Refusal`].
     pub fn push(&mut self, value: Value<A>) -> Result<(), Pushed<A>>
         ensures ok { OnOk result (self.new ≡ with_last self.old (value_of value)) }
         ensures err { OnErr result (self.new ≡ self.old) }

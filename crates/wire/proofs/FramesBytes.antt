@@ -97,7 +97,7 @@ plain_bytes (meta number level index digests) h =
     (indexed index (each_spelling (λ d. d) digests) (each_bytes IsDigest (λ d. d) (λ d h. h.bytes) digests h.4)))
 plain_bytes (page number index text) h = numbered number (to_be_bytes w16 index ++ text) (indexed index text h.2)
 
--- ---- frames, by what their messages may be
+-- ---- frames, given their sorts of messages
 
 mac_bytes : (m : MacData) → IsMac m → AreBytes (mac_spelling m)
 mac_bytes m h = indexed m.receiver m.mac h.1.bytes
@@ -114,7 +114,7 @@ frame_bytes IsSaid fields f h =
     (indexed f.body.sender (fields_spelling f.body.message) (fields f.body.message h.message))))
     (authenticator_bytes f.authenticator h.authenticator)
 
--- ---- what is carried
+-- ---- messages that other messages carry
 
 carried_bytes : (sort : MessageData → Bool) (bs : List ℕ) → IsCarried sort bs → AreBytes bs
 carried_bytes sort bs c = subst AreBytes (sym c.spelled.spelled) (frame_bytes IsPlain plain_bytes c.frame c.spelled.valid)
@@ -147,6 +147,6 @@ message_bytes (fetch number level index) h = plain_bytes (fetch number level ind
 message_bytes (meta number level index digests) h = plain_bytes (meta number level index digests) h
 message_bytes (page number index text) h = plain_bytes (page number index text) h
 
--- what spells a frame is of bytes
+-- a list that spells a frame is a list of bytes
 pub spelled_bytes : (bs : List ℕ) (f : FrameData) → SpellsFrame bs f → AreBytes bs
 spelled_bytes bs f s = subst AreBytes (sym s.spelled) (frame_bytes IsMessage message_bytes f s.valid)

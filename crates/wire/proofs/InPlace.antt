@@ -24,7 +24,7 @@ use Rattle.wire.proofs.Carriers.{body_of_found}
 use Rattle.wire.proofs.Whole.{no_piece, body_fails, authenticator_fails, all_there}
 use Rattle.tuple_codec.specs.declared.bad.Bad.TheVariants as bad
 
--- ---- what ends
+-- ---- readers that end at the end of the bytes
 
 at_end : {A : Type 0} (x : A) (rest : List ℕ) → eqb (length rest) 0 ≡ is_some (all_of (Some (x, rest)))
 at_end x [] = refl
@@ -37,12 +37,12 @@ whole at bs = cases (at bs)
     cases None = refl
     cases (Some x) = at_end x.0 x.1
 
--- what yields a thing is the thing
+-- the value that Yields speaks of
 pub yielded : {X Y : Type 0} (view : X → Y) (r : Option X) (o : Option Y) → Yields view r o → option_map view r ≡ o
 yielded view None o e = sym e
 yielded view (Some x) o e = sym e
 
--- another value of what is read
+-- the same test if f is applied to the value
 pub as_whole : {A B : Type 0} (f : A → B) (at : Reader A) (bs : List ℕ) → is_some (all_of (at bs)) ≡ is_some (all_of (read_as f at bs))
 as_whole f at bs = cases f (at bs)
   where
@@ -56,7 +56,7 @@ as_whole f at bs = cases f (at bs)
 
 -- ---- requests, replies and pages
 
--- what is read behind something is read with it
+-- the value x, read before, and the value that is read after it
 abbrev behind : {A B : Type 0} → A → Option (B × List ℕ) → Option ((A × B) × List ℕ)
 behind x o = o >>= λ y. Some ((x, y.0), y.1)
 
@@ -144,7 +144,7 @@ page_whole fs rest n i text e f = sym (rw (e, f) (cases (leb i 1023)))
     cases true = refl
     cases false = refl
 
--- ---- lists, whatever was read of them
+-- ---- lists, whatever values were read before
 
 module _ {A : Type 0} (at : Reader A) where
   pub skip_stops : (n i : ℕ) (bs : List ℕ) → i < n → at bs ≡ None → rest_of (more_at at anyhow (n - i) [] bs) ≡ None
@@ -165,7 +165,7 @@ pub batches_many : (bs front : List ℕ) (n : ℕ) → byte_at bs ≡ Some (n, f
 unfolding batches_at
 batches_many bs front n e p = let l : leb n 32 ≡ false = lt-leb n 32 p in rw (e, l) refl
 
--- ---- view changes that are too long, of which only the last is known
+-- ---- view changes that are too long, if only the last one before is known
 
 follows_end : {A : Type 0} (before : A → A → Bool) (xs : List A) (x y : A) → follows before (xs ++ x ∷ []) y ≡ before x y
 follows_end before [] x y = refl

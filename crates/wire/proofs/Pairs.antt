@@ -1,4 +1,4 @@
--- A text with what stands beside it.
+-- A text with a value beside it.
 use Rattle.std.proofs.Common.{◌≡◌, Some, None, Option, ℕ, List, [], ap}
 
 front : {A : Type 0} → Option (List ℕ × A) → List ℕ

@@ -12,7 +12,7 @@ use Rattle.wire.specs.Words.{requests_of}
 use Rattle.wire.proofs.Framing.{limit_bound}
 use Rattle.wire.proofs.Forms.{passed_on}
 
--- ---- what is read
+-- ---- reading
 
 pub no_batch : (text : List ℕ) → requests_at 0 text ≡ None → requests_of text ≡ []
 unfolding requests_of
@@ -66,7 +66,7 @@ at_most_16 text = cases (requests_at 0 text) refl
         let none : requests_of text ≡ [] = spare_byte text rest frames b e in
         omega (arith, ap length none)
 
--- ---- what is written
+-- ---- writing
 
 pub are_short : (frames : List (List ℕ)) → Each (IsCarried is_ordered_request) frames → Each (λ frame. length frame < 2 ^ 32) frames
 are_short [] h = tt

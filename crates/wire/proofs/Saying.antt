@@ -1,4 +1,4 @@
--- The words on frames say what the grammar spells, of any list.
+-- The definitions on frames give exactly the values that the grammar spells, of any list.
 use Rattle.std.proofs.Common.{◌≡◌, ℕ, zero, suc, true, cond, List, [], ◌∷◌, Some, None, ap, refl, ◌∙◌, arith}
 use Rattle.std.specs.Prelude.{nat_lt}
 use Rattle.std.specs.List.{list_all}

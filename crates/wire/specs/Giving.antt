@@ -1,11 +1,11 @@
--- What the functions give that read bytes. Bytes behind what is read are given as they lie.
+-- The results of functions that read bytes. They give the bytes that follow without a copy.
 use Rattle.std.specs.Prelude.{ℕ, List, Option, Result}
 use Rattle.std.specs.Borrow.{Bor}
 use Rattle.tuple_codec.specs.declared.bad.Bad.{Bad}
 use Rattle.tuple_codec.specs.Gives.{Gives, Yields}
 use Rattle.tuple_codec.specs.Reading.{rest_of}
 
--- what stands at the front, and the bytes behind it
+-- the value at the front, and the bytes after it
 abbrev pub YieldsFront : {X Y : Type 0} → (X → Y) → Option (X × Bor (List ℕ))
     → Option (Y × List ℕ) → Type 0
 YieldsFront view result read = Yields (λ x. (view x.0, x.1.now)) result read
@@ -15,6 +15,6 @@ abbrev pub GivesFront : {X Y : Type 0} → (X → Y) → Result (X × Bor (List 
     → Option (Y × List ℕ) → Type 0
 GivesFront view result read = Gives (λ x. (view x.0, x.1.now)) result read
 
--- the bytes behind it alone
+-- only the bytes after the value
 abbrev pub YieldsRest : {Y : Type 0} → Option (Bor (List ℕ)) → Option (Y × List ℕ) → Type 0
 YieldsRest result read = Yields (λ rest. rest.now) result (rest_of read)

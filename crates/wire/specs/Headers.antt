@@ -1,4 +1,4 @@
--- What a frame says of itself before it is read into memory: who sent it, and what proves which text.
+-- The header of a frame: who sent it, and which authenticator proves which text.
 use Rattle.std.specs.Prelude.{◌≡◌, ℕ, Bool, true, false, List}
 use Rattle.terms.specs.Parties.{party_number}
 use Rattle.wire.specs.declared.headers.Header.{Header}
@@ -32,11 +32,11 @@ header_of f =
 abbrev pub IsFrame : List ℕ → Type 0
 IsFrame bytes = (frame : FrameData) × SpellsFrame bytes frame
 
--- They spell one with this header.
+-- The bytes spell a frame with this header.
 abbrev pub HasHeader : List ℕ → HeaderData → Type 0
 HasHeader bytes header = (frame : FrameData) × SpellsFrame bytes frame × (header ≡ header_of frame)
 
--- ---- of the program
+-- ---- of Rust values
 
 abbrev pub authenticator_bytes_data : AuthenticatorBytes → AuthenticatorData
 authenticator_bytes_data (authenticator_bytes.Macs ms) = macs_of ms.items

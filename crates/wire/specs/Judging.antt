@@ -1,4 +1,4 @@
--- What judging bytes comes to. The contracts of private functions speak of these.
+-- The results of judging bytes, for the contracts of private functions.
 use Rattle.std.specs.Prelude.{◌≡◌, ℕ, Bool, true, false, ◌==◌, List, length, Option, Some, None, option_map, Result, Ok, Err}
 use Rattle.wire.specs.declared.fault.NoFrame.{NoFrame}
 use Rattle.wire.specs.declared.fault.NoFrame.TheVariants as faults
@@ -6,7 +6,7 @@ use Rattle.wire.specs.declared.headers.Header.{Header}
 use Rattle.wire.specs.Messages.{FrameData}
 use Rattle.wire.specs.Headers.{header_data, header_of}
 
--- what is read ends where the bytes end
+-- the value was read up to the end of the bytes
 abbrev pub ends : Option (List ℕ) → Bool
 ends None = false
 ends (Some rest) = length rest == 0
@@ -15,7 +15,8 @@ abbrev pub FailsJudged : NoFrame → Option FrameData → Bool → Type 0
 FailsJudged faults.Malformed read over = (read ≡ None) × (over ≡ false)
 FailsJudged faults.TooLarge read over = over ≡ true
 
--- the header of what is read, and too large where the bytes or a view change in them are over their limit
+-- The header is that of the frame that was read. The fault is TooLarge if the bytes or a view change in them are too
+-- long.
 abbrev pub Judges : Result Header NoFrame → Option FrameData → Bool → Type 0
 Judges (Ok header) read over = option_map header_of read ≡ Some (header_data header)
 Judges (Err fault) read over = FailsJudged fault read over

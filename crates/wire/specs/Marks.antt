@@ -1,5 +1,6 @@
--- The marks of read-only requests and of replies to them: two bytes of a frame, which tell these before anything is
--- decoded (Castro and Liskov, TOCS 2002, on read-only operations). Bytes that spell no frame may have them too.
+-- The marks of read-only requests and of replies to them: two bytes of a frame. They tell these frames from others
+-- before anything is decoded (Castro and Liskov, TOCS 2002, on read-only operations). Bytes that spell no frame may
+-- have them too.
 use Rattle.std.specs.Prelude.{ℕ, Bool, ◌&&◌, ◌==◌, List, slice_index}
 
 -- Of a request: byte 4 is the type of requests, and byte 15 the read-only mode.

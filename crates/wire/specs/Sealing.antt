@@ -6,25 +6,25 @@ use Rattle.wire.specs.Views.{message_data}
 use Rattle.wire.specs.Spelling.{piece, frame_limit}
 use Rattle.wire.specs.Texts.{body_text, frame_text}
 
--- A frame of the body, with an authenticator of so many bytes, has at most as many as it may.
+-- A frame of the body, with an authenticator of so many bytes, is not longer than it may be.
 abbrev pub BodyFits : Body → ℕ → Type 0
 BodyFits body authenticator_len =
     length (piece (body_text body)) + authenticator_len ≤ frame_limit (message_data body.message)
 
--- It has more.
+-- Such a frame is longer than it may be.
 abbrev pub BodyExceeds : Body → ℕ → Type 0
 BodyExceeds body authenticator_len =
     frame_limit (message_data body.message) < length (piece (body_text body)) + authenticator_len
 
--- The frame has at most as many bytes as it may.
+-- The frame is not longer than it may be.
 abbrev pub FrameFits : Frame → Type 0
 FrameFits frame = length (frame_text frame) ≤ frame_limit (message_data frame.body.message)
 
--- It has more.
+-- The frame is longer than it may be.
 abbrev pub FrameExceeds : Frame → Type 0
 FrameExceeds frame = frame_limit (message_data frame.body.message) < length (frame_text frame)
 
--- Where the bytes begin with a length and so many bytes, it is these.
+-- If the bytes begin with a length and so many bytes, front are those.
 abbrev pub IsFrontPiece : List ℕ → List ℕ → Type 0
 IsFrontPiece bytes front =
     (text rest : List ℕ) → length text < 2 ^ 32 → bytes ≡ piece text ++ rest → front ≡ text

@@ -1,4 +1,4 @@
--- The bytes of the program's messages and their parts: the spelling of what each stands for.
+-- The bytes of Rust's messages and their parts: the spellings of the plain values that they stand for.
 use Rattle.std.specs.Prelude.{ℕ, ◌-◌, ◌^◌, List, length, map, min}
 use Rattle.wire.specs.declared.messages.CheckpointEntry.{CheckpointEntry}
 use Rattle.wire.specs.declared.messages.BatchEntry.{BatchEntry}
@@ -30,7 +30,7 @@ view_change_text change = view_change_spelling (view_change_data change)
 abbrev pub new_view_text : NewView → List ℕ
 new_view_text new_view = new_view_spelling (new_view_data new_view)
 
--- the fields behind type and sender
+-- the fields after the type and the sender
 abbrev pub fields_text : Message → List ℕ
 fields_text message = fields_spelling (message_data message)
 
@@ -43,6 +43,6 @@ authenticator_text authenticator = authenticator_spelling (authenticator_data au
 abbrev pub frame_text : Frame → List ℕ
 frame_text frame = frame_spelling (frame_data frame)
 
--- The length, or the greatest number of 64 bits where it is more.
+-- The length, or the greatest number of 64 bits if the length is greater.
 abbrev pub capped_length : List ℕ → ℕ
 capped_length bytes = min (length bytes) (2 ^ 64 - 1)

@@ -1,4 +1,4 @@
-//! Authenticators behind the body of a frame.
+//! Authenticators after the body of a frame.
 
 ghost use Rattle.std.specs.Prelude.{◌≡◌, ◌+◌, ◌≤◌, length, map, [], true, false};
 ghost use Rattle.tuple_codec.specs.Gives.{Yields};
@@ -22,7 +22,7 @@ fn read_mac(bytes: &[u8]) -> Option<(ReceiverMac, &[u8])>
     Some((ReceiverMac { receiver, mac }, rest))
 }
 
-// Whether the MAC's receiver comes after those of the others.
+// Whether the MAC's receiver comes after the receivers of the others.
 fn is_next(macs: &[ReceiverMac], mac: &ReceiverMac) -> bool
     ensures { result ≡ follows mac_before (map mac_data macs.now) (mac_data mac.now) }
 {
@@ -54,7 +54,7 @@ fn read_macs(bytes: &[u8]) -> Option<(ArrayVec<ReceiverMac, MAX_RECEIVERS>, &[u8
     Some((macs, rest))
 }
 
-/// The MACs that the bytes, whole, are.
+/// The MACs that the bytes, whole, spell.
 pub fn read_mac_authenticator(bytes: &[u8]) -> Option<ArrayVec<ReceiverMac, MAX_RECEIVERS>>
     ensures { Yields (λ ms. macs_of ms.items) result (authenticator_of false bytes.now) }
 {
@@ -69,7 +69,7 @@ pub fn read_mac_authenticator(bytes: &[u8]) -> Option<ArrayVec<ReceiverMac, MAX_
     Some(macs)
 }
 
-/// The signature that the bytes, whole, are.
+/// The signature that the bytes, whole, spell.
 pub fn read_signature_authenticator(bytes: &[u8]) -> Option<&[u8]>
     ensures { Yields (λ s. signature s.now) result (authenticator_of true bytes.now) }
 {

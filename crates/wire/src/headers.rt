@@ -1,21 +1,21 @@
-//! What a frame says of itself before it is read into memory.
+//! The sender and the proof of a frame, before the frame is read into memory.
 
 use crate::frames::{MAX_RECEIVERS, ReceiverMac};
 use arrayvec::ArrayVec;
 use terms::Party;
 
-/// Who sent a frame, and what proves it, as they stand in its bytes.
+/// The sender and the proof of a frame, as they stand in its bytes.
 #[derive(Drop)]
 pub struct Header<'b> {
     pub sender: Party,
-    /// Whether the message is a request, which clients send; replicas send all else.
+    /// Whether the message is a request. Clients send requests, replicas all other messages.
     pub is_request: bool,
-    /// The bytes of the body, on which MACs and signatures stand.
+    /// The bytes of the body, which MACs and signatures authenticate.
     pub text: &'b [u8],
     pub authenticator: AuthenticatorBytes<'b>,
 }
 
-/// What proves a body: MACs, or the 16,577 bytes of a signature.
+/// The proof of a body: MACs, or the 16,577 bytes of a signature.
 #[derive(Drop)]
 pub enum AuthenticatorBytes<'b> {
     /// For 1 to 10 receivers, ascending by their numbers.

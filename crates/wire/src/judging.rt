@@ -1,4 +1,4 @@
-//! Whether bytes spell a frame. They are judged where they lie: nothing here takes memory.
+//! Whether bytes spell a frame. Nothing here copies them or takes memory.
 
 ghost use Rattle.std.specs.Prelude.{◌≡◌, ◌≢◌, ◌≤◌, ◌&&◌, ◌<◌, is_some, length, option_map, IfOk, IfErr, IsOk, [], nat_le, ◌==◌, ◌||◌};
 ghost use Rattle.tuple_codec.specs.Gives.{Yields};
@@ -27,8 +27,8 @@ use tuple_codec::{is_op, is_result};
 ///
 /// # Errors
 ///
-/// TooLarge where the bytes are more than 4,194,304, more than 262,144 of a view change, or where they are a new view
-/// as far as the length of a view change that is more. Malformed where else they spell no frame.
+/// TooLarge if there are more than 4,194,304 bytes, more than 262,144 of a view change, or if they are a new view up
+/// to the length of a view change that is longer than that. Malformed if they spell no frame otherwise.
 pub fn judge(bytes: &[u8]) -> Result<Header<'_>, NoFrame>
     ensures found { IfOk result (λ header. HasHeader bytes.now (header_data header)) }
     ensures only { (f : FrameData) → SpellsFrame bytes.now f → IsOk result }
@@ -174,7 +174,7 @@ fn is_page(fields: &[u8]) -> bool
     }
 }
 
-// Each of these gives the bytes behind what stands at the front.
+// Each of these gives the bytes after the fields at the front.
 #[tactic(auto, unfolding(crate::specs::Reading::pre_prepare_at))]
 fn skip_pre_prepare(bytes: &[u8]) -> Option<&[u8]>
     ensures { YieldsRest result (pre_prepare_at bytes.now) }

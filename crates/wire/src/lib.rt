@@ -3,12 +3,13 @@
 //! # What is proved
 //!
 //! `judge` tells in place, without memory, whether the bytes spell a frame, are too long or are none, and gives the
-//! frame's `Header`; `decode` gives the frame itself, exactly where the bytes spell one, and wants memory only there;
-//! `decode_judged` is the second half, for bytes that were judged. `encode`, `begin_frame`, `put_authenticator` and
-//! `encode_frame` write the spelling; `body_bytes` is the slice that a MAC or a signature stands on. `requests` gives
-//! the frames of a batch's text, and `Batch::of` the text of frames. Laws: `one_spelling` (no frame begins another),
-//! `reads_what_is_spelled`, `carries_frames` (what a message carries are frames, and nothing is left out). Signatures
-//! are only carried here.
+//! frame's `Header`. `decode` gives the frame itself, exactly if the bytes spell one, and memory runs out only then.
+//! `decode_judged` is its second half, for bytes that were judged. `encode`, `begin_frame`, `put_authenticator` and
+//! `encode_frame` write the spelling; `body_bytes` is the slice that a MAC or a signature authenticates.
+//!
+//! `requests` gives the frames of a batch's text, and `Batch::of` the text of frames. Laws: `one_spelling` (no frame
+//! begins another), `reads_what_is_spelled`, `carries_frames` (a message carries whole frames, and none is left out).
+//! This crate only carries signatures.
 #![tactic(auto)]
 
 mod authenticators;

@@ -8,7 +8,7 @@ use crate::carried::{MAX_CHANGES, change_comes_next, read_change};
 use crate::frames::MAX_VIEW_CHANGE;
 use crate::reading::{read_byte, read_piece, read_u16, read_u32, read_u64};
 
-/// Whether the bytes are a new view as far as the length of a view change that is over its limit.
+/// Whether the bytes are a new view up to the length of a view change that is over its limit.
 #[tactic(auto, unfolding(crate::specs::Reading::frame_over))]
 pub fn carries_too_large(bytes: &[u8]) -> bool
     ensures { result ≡ frame_over bytes.now }
@@ -52,7 +52,7 @@ fn are_changes_over(bytes: &[u8]) -> bool
     }
 }
 
-// Whether one of so many view changes has a length over the limit, and all before it is read.
+// Whether one of so many view changes has a length over the limit, while those before it can be read.
 fn is_one_over(count: u8, bytes: &[u8]) -> bool
     ensures { result ≡ over_in count [] bytes.now }
 {

@@ -73,7 +73,7 @@ pub fn put_new_view(new_view: &NewView, out: &mut Vec<u8>) -> Result<(), NoMemor
     put_batches(&new_view.batches, out)
 }
 
-/// Appends frames, each behind its length, behind their count.
+/// Appends the count of the frames, and then the length and the bytes of each.
 pub fn put_frames(frames: &[Vec<u8>], out: &mut Vec<u8>) -> Result<(), NoMemory>
     requires few { length (texts_of frames.now) < 2 ^ 8 }
     requires short { Each (λ frame. length frame < 2 ^ 32) (texts_of frames.now) }

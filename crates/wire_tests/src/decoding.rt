@@ -1,4 +1,4 @@
-//! Worked rows of frames that are read, and where none is.
+//! Worked rows of bytes that are frames, and of bytes that are none.
 
 ghost use Rattle.std.specs.Prelude.{◌≤◌, length};
 ghost use Rattle.wire.specs.Counts.{CountsFit};
@@ -37,8 +37,8 @@ fn is_written(alloc: Global, frame: &Frame, bytes: &[u8]) -> Result<bool, WireFa
     Ok(is_body(alloc, &frame.body, body_bytes(bytes))? && is_frame(alloc, frame, bytes)?)
 }
 
-// Whether the bytes are a frame whose body and which itself are written as these bytes. A frame is dropped by a call:
-// at the end of a function all kinds of messages are told apart.
+// Whether the bytes are a frame that is written as these bytes again, and so is its body. A frame is dropped by a
+// call: a drop at the function's end has a case for each kind of message.
 pub fn comes_back(alloc: Global, bytes: &[u8]) -> Result<bool, WireFault> {
     let frame = decode(alloc, bytes)?;
     let is_back = is_written(alloc, &frame, bytes);
@@ -82,7 +82,7 @@ fn needs_macs(alloc: Global, body: &[u8]) -> Result<bool, AllocError> {
     Ok(is_malformed(alloc, &frame))
 }
 
-// Whether the body's frame stands with MACs and is none where it is cut.
+// Whether the body's frame with MACs is one, and is none if it is cut.
 fn stands_whole(alloc: Global, body: &[u8]) -> Result<bool, WireFault> {
     let frame = with_macs(alloc, body)?;
     Ok(stands(alloc, &frame)? && fronts_are_refused(alloc, &frame, 0, frame.len()))
@@ -143,7 +143,7 @@ fn no_page_past_the_last(rt: HostRuntime) -> Result<(), Fail> {
     Ok(())
 }
 
-// What stands in a pre-prepare before its batch.
+// The fields of a pre-prepare before its batch.
 const HEAD: &[u8] = b"\x42\x00\x00\x00\x00\x00\x00\x00\x00\x00\x01\x00\x00\x00\x00\x00\x00\x00\x02";
 
 // Whether a batch of the same request twice stands.
@@ -233,7 +233,7 @@ fn no_new_view_of_macs(rt: HostRuntime) -> Result<(), Fail> {
     Ok(())
 }
 
-// Whether the frame of a new view is none where it is cut in such a part of its 33,600 bytes. The body ends before
+// Whether the frame of a new view is none if it is cut within this part of its 33,600 bytes. The body ends before
 // byte 17,022.
 fn cut_new_view(alloc: Global, from: usize, to: usize) -> Result<bool, AllocError> {
     let body = new_view(alloc)?;
@@ -247,7 +247,7 @@ fn a_new_view_cut_in_its_body(rt: HostRuntime) -> Result<(), Fail> {
     Ok(())
 }
 
-// The body is read again at each cut behind it, so these take longer.
+// The body is read again at each cut after it, so these take longer.
 #[test]
 fn a_new_view_cut_in_its_authenticator(rt: HostRuntime) -> Result<(), Fail> {
     assert!(rt; cut_new_view(rt.alloc(), 17_022, 21_200)?);

@@ -66,7 +66,7 @@ pub fn signed_by(alloc: Global, body: &[u8], key: u8) -> Result<Vec<u8>, AllocEr
     Ok(frame)
 }
 
-// The worked request's frame behind its length, as others carry it.
+// The length of the worked request's frame, and the frame, as others carry it.
 pub fn carried_request(alloc: Global) -> Result<Vec<u8>, AllocError> {
     let frame = with_macs(alloc, REQUEST)?;
     piece(alloc, &frame)

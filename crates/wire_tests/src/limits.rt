@@ -89,7 +89,7 @@ fn comes_back_carried(alloc: Global, change: &[u8]) -> Result<bool, WireFault> {
     comes_back(alloc, &frame)
 }
 
-// Whether the view change comes back by itself, and where it is carried.
+// Whether the view change comes back by itself, and as one that a new view carries.
 fn comes_back_both(alloc: Global, change: &[u8]) -> Result<bool, WireFault> {
     Ok(comes_back(alloc, change)? && comes_back_carried(alloc, change)?)
 }
@@ -123,13 +123,13 @@ fn a_view_change_too_long(rt: HostRuntime) -> Result<(), Fail> {
     Ok(())
 }
 
-// What begins as a view change and has so many bytes.
+// Bytes that begin as a view change, so many of them.
 fn filled(alloc: Global, len: usize) -> Result<Vec<u8>, AllocError> {
     let rest = Vec::from_elem(alloc, 0u8, len.saturating_sub(5))?;
     joined(alloc, &[b"\x00\x00\x00\x09\x46", &rest])
 }
 
-// At the limit itself no bytes are a view change, but they are told from bytes that are too long.
+// At the limit itself the bytes are no view change, but they are not too long either.
 #[test]
 fn the_limit_of_view_changes(rt: HostRuntime) -> Result<(), Fail> {
     let at_limit = filled(rt.alloc(), MAX_VIEW_CHANGE)?;
@@ -154,7 +154,7 @@ fn the_limit_of_carried_view_changes(rt: HostRuntime) -> Result<(), Fail> {
     Ok(())
 }
 
-// Whether the frame comes back, at the second try where memory ran out at the first one.
+// Whether the frame comes back, at the second try if memory ran out at the first one.
 fn comes_again(alloc: Global, bytes: &[u8]) -> Result<bool, WireFault> {
     match comes_back(alloc, bytes) {
         Err(WireFault::NoMemory) => comes_back(alloc, bytes),

@@ -12,7 +12,7 @@ use wire::{MAX_FRAME, MAX_VIEW_CHANGE};
 // Of ten replicas, the most that there are.
 const REPLICAS: u8 = 10;
 
-// Of numbers within the marks, where K = 16.
+// Of numbers within the marks, for K = 16.
 const NUMBERS: usize = 32;
 
 // Of requests in a batch.
@@ -47,7 +47,7 @@ fn longest_sealed(alloc: Global) -> Result<Vec<u8>, AllocError> {
     Ok(frame)
 }
 
-// Behind its length.
+// With its length in front.
 fn longest_request(alloc: Global) -> Result<Vec<u8>, AllocError> {
     let frame = longest_sealed(alloc)?;
     piece(alloc, &frame)
@@ -61,14 +61,14 @@ fn repeated(alloc: Global, bytes: &[u8], times: usize) -> Result<Vec<u8>, AllocE
     Ok(all)
 }
 
-// A batch of as many requests as it may have: their count in a byte, and each behind its length.
+// A batch of as many requests as it may have: their count in a byte, and each after its length.
 fn longest_batch(alloc: Global) -> Result<Vec<u8>, AllocError> {
     let request = longest_request(alloc)?;
     let requests = repeated(alloc, &request, REQUESTS)?;
     joined(alloc, &[&[16], &requests])
 }
 
-// A view change of each replica, each behind its length.
+// A view change of each replica, each after its length.
 fn longest_changes(alloc: Global) -> Result<Vec<u8>, AllocError> {
     let mut changes = Vec::new(alloc);
     for sender in 0..REPLICAS {

@@ -8,10 +8,11 @@ use crate::worlds::{ONE_CLIENT, TWENTY_CLIENTS, TWO_CLIENTS};
 // order in which they were made. A backup commits with a second prepare beside its own, the primary with two, and each
 // executes with two commits beside its own. The third of equal replies ends the call.
 //
-// A read has 15: the call, its request, which is got 4 times and each time answered at once, 4 replies that are got,
-// and the acceptance behind the third of them.
+// A read has 15: the call, its request, 4 receipts of that, 4 replies that are sent at once, 4 replies that are
+// received, and the acceptance after the third of these.
 //
-// A write acts where a third replica executes it, and a read of what is executed everywhere where it is called.
+// A write acts when a third replica executes it. A read acts when it is called if all replicas have executed the state
+// that it reads.
 static WRITE_AND_READ: Run<'static> = Run {
     world: ONE_CLIENT,
     parts: &[Part::Lines(&["invoke 0 out (1)", "flush", "invoke 0 rdp (*)", "flush"])],
@@ -175,7 +176,7 @@ const BACKWARDS: Part<'static> = Part::Twice(&[
     (10, &[256]),
 ]);
 
-// What comes behind that call, whose tuple is there once.
+// The steps after that call, whose tuple is there once.
 static BEHIND: [Run<'static>; 3] = [
     Run {
         world: ONE_CLIENT,

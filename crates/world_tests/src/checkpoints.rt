@@ -60,8 +60,8 @@ fn three_requests_and_two_numbers(rt: HostRuntime) {
 // take its batch, and lags.
 const FOR_THREE: Part<'static> = Part::Made(Made::Request((1, 1, ORDERED, OUT_5), &[0, 1, 2]));
 
-// What differs are the root, and in three inner parts the pages of the tuple, of client 1 and of the header. Each place
-// is the number of the state, the level and the index.
+// The root differs, and in three inner parts the pages of the tuple, of client 1 and of the header. Each place is the
+// number of the state, the level and the index.
 const OF_ONE: Check<'static> = Check::Texts(
     (3, FETCH, NUMBER_ASKED),
     OF_THREE_RECEIVERS,

@@ -9,8 +9,7 @@ use schedule_world::{Report, run};
 use std::alloc::Global;
 use terms::{NoMemory, Party};
 
-// Where the MAC for the party ends in a frame, at whose end there are up to ten receivers, each in front of its MAC: 34
-// bytes each.
+// The place after the MAC for the party. A frame ends with up to ten receivers, each before its MAC: 34 bytes each.
 fn mac_end(frame: &[u8], party: Party) -> Option<usize> {
     let [high, low] = party.number().to_be_bytes();
     let mut end = frame.len();
@@ -109,7 +108,7 @@ fn put_entry(
     }
 }
 
-// The calls of a run and its deliveries, in its order, with each frame forged in front of it.
+// The calls of a run and its deliveries, in its order, with a forgery of each frame before it.
 fn put_forged(alloc: Global, report: &Report, steps: &mut Vec<Step>) -> Result<bool, NoMemory> {
     for entry in report.trace.as_slice() {
         if !put_entry(alloc, report, entry, steps)? {

@@ -1,5 +1,5 @@
-//! Frames that faulty parties make, written by docs/formats.md without what reads them. Each function writes into what
-//! it is lent.
+//! Frames that faulty parties make, written by docs/formats.md without the code that reads them. Each function writes
+//! into the bytes that it is lent.
 
 use schedule_text::Step;
 use sha2::{Digest, Sha256};
@@ -28,8 +28,9 @@ pub enum Made<'a> {
     Batch(&'a [Request<'a>], &'a [u16]),
     /// A reply of replica 3 to the client.
     Reply(u8, Reply<'a>),
-    /// A view change of replica 3 for view 1, from the opening state. It claims to have prepared for number 1 in view 0
-    /// what nobody numbered, and to have logged that alone, or also the batch of `out (1)` of client 0.
+    /// A view change of replica 3 for view 1, from the opening state. For number 1 in view 0 it claims to have
+    /// prepared a batch that nobody numbered. It claims to have logged that alone, or also the batch of `out (1)` of
+    /// client 0.
     Change { logged_both: bool },
     /// Nothing, by replica 3 for nobody.
     Empty,
@@ -54,7 +55,7 @@ fn parties(alloc: Global, numbers: &[u16]) -> Result<Vec<Party>, NoMemory> {
     Ok(parties)
 }
 
-// The pieces behind each other.
+// The pieces, one after another.
 fn put_all(pieces: &[&[u8]], out: &mut Vec<u8>) -> Result<(), NoMemory> {
     for piece in pieces {
         out.extend_from_slice(piece)?;
@@ -116,7 +117,7 @@ fn request_frame(
     Ok(sealed(alloc, client_party(client), &[0, 1, 2, 3], &body)?)
 }
 
-// The frame of a request behind its length.
+// The length of a request's frame, and the frame.
 fn put_frame(alloc: Global, request: Request<'_>, out: &mut Vec<u8>) -> Result<(), NoMemory> {
     let frame = request_frame(alloc, request)?;
     let len = (frame.len() & 0xff_ffff) as u32;
@@ -167,7 +168,7 @@ fn part_digest(first: &[u8], digests: &mut Vec<u8>) -> Result<[u8; 32], NoMemory
     Ok(Sha256::digest(digests.as_slice()))
 }
 
-// The root of the state of number 0: all its pages are empty but for the header, the first one of inner part 16.
+// The root of the state of number 0: all its pages are empty except the header, the first one of inner part 16.
 fn opening_root(digests: &mut Vec<u8>) -> Result<[u8; 32], NoMemory> {
     let mut header = [0; 17];
     header[0] = 1;
@@ -180,7 +181,7 @@ fn opening_root(digests: &mut Vec<u8>) -> Result<[u8; 32], NoMemory> {
     Ok(Sha256::digest(digests.as_slice()))
 }
 
-// Claims on number 1 of batches of these digests in view 0, behind their count.
+// The count of claims on number 1 of batches of these digests in view 0, and the claims.
 fn put_claims(digests: &[[u8; 32]], out: &mut Vec<u8>) -> Result<(), NoMemory> {
     out.extend_from_slice(&[0, (digests.len() & 0xff) as u8])?;
     for digest in digests {

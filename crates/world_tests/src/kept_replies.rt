@@ -10,8 +10,8 @@ use crate::worlds::TWO_CLIENTS_OF_PERIOD_2;
 // checkpoint of number 2: all have it then. Time goes by for client 0, and its frame 30 makes each replica send its
 // reply again. The sender of a frame, and who it isn't for, drop it.
 //
-// The calls' numbers are 1 and 2, and the read is answered from the state of number 2. What is accepted late acted
-// early, and once. The positions come from an implementation in Python.
+// The calls' numbers are 1 and 2, and the read is answered from the state of number 2. The late answer acted early,
+// and once. The positions come from an implementation in Python.
 static ASKING_AGAIN: Run<'static> = Run {
     world: TWO_CLIENTS_OF_PERIOD_2,
     parts: &[

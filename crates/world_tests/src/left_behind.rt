@@ -19,11 +19,11 @@ const CATCHING_UP: Part<'static> = Part::Walk(&[
     Leg::Ask("invoke 0 rdAll 64 (*)"),
 ]);
 
-// What comes last is replica 3's reply to the read, which is the seventh call, from the state of number 6.
+// The last frame is replica 3's reply to the read, which is the seventh call, from the state of number 6.
 const AT_SIX: &[u8] = b"\x48\0\x03\x01\0\0\0\0\0\0\0\0\x07\x01\0\0\0\0\0\0\0\x06";
 
-// What differs from the opening state: the root, and in three inner parts the pages of six tuples, of client 0 and of
-// the header. Each place is the number of the state, the level and the index.
+// The parts that differ from the opening state: the root, and in three inner parts the pages of six tuples, of client
+// 0 and of the header. Each place is the number of the state, the level and the index.
 const OF_SIX: Check<'static> = Check::Texts(
     (3, FETCH, NUMBER_ASKED),
     OF_THREE_RECEIVERS,
@@ -50,8 +50,8 @@ static SIX: [Run<'static>; 2] = [
         refused: None,
         checks: &[Check::Last(3, 4, AT_SIX)],
     },
-    // Then all three others' frames come, and the next call. Of what it was cut off from it executes nothing, and
-    // number 7 it executes.
+    // Then all frames of the other three come, and the next call. Replica 3 executes none of the batches that it was
+    // cut off from, and it executes number 7.
     Run {
         world: ONE_CLIENT_OF_PERIOD_2,
         parts: &[
@@ -101,8 +101,9 @@ const OVERTAKEN: Part<'static> = Part::Walk(&[
     Leg::Fetch(8),
 ]);
 
-// Twenty parts are asked for in all. What then differs from number 8, where the tuples of numbers 1 to 6 were fetched:
-// behind the root the pages of two more tuples, and those of client 0 and of the header, which have changed.
+// The replica asks for twenty parts in all. The tuples of numbers 1 to 6 were fetched before. Then these parts differ
+// from number 8, after the root: the pages of two more tuples, and those of client 0 and of the header, which have
+// changed.
 const OF_SIX_AND_EIGHT: Check<'static> = Check::Texts(
     (3, FETCH, NUMBER_ASKED),
     OF_THREE_RECEIVERS,

@@ -1,8 +1,8 @@
-//! Tests of the world of schedules (`schedule_world`): worked runs of correct parties and of faulty ones, reads beside
-//! writes that are under way, replies that are kept, checkpoints, states that are fetched, a space that is upgraded
-//! meanwhile, frames that are forged or that faulty replicas sign, views that change, steps that may not come, and
-//! memory that runs out. Most stand in tables (`runs`): the proof of a function that makes a run and looks at it takes
-//! long, and a table is read by one.
+//! Tests of the world of schedules (`schedule_world`). They have worked runs of correct parties and of faulty ones;
+//! reads beside writes that are under way, and replies that are kept; checkpoints and states that are fetched; a
+//! space that is upgraded meanwhile; frames that are forged or that faulty replicas sign; views that change; steps
+//! that may not come; and memory that runs out. Most runs stand in tables (`runs`), and one function reads a table:
+//! the proof of a function that makes a run and looks at it takes long.
 #![tactic(auto)]
 
 #[cfg(test)]

@@ -1,5 +1,5 @@
-//! Memory refused in a run. In a plain run nothing is refused here; `tools/growths` refuses each growth in turn:
-//! a party that lacks memory stops, and what the others accept is right.
+//! Memory refused in a run. In a plain run nothing is refused here. `tools/growths` refuses each growth in turn: a
+//! party that lacks memory stops, and the answers that the others accept are right.
 
 use crate::worlds::{World, config_of, put_steps};
 use events::{Config, EntryKind};
@@ -43,7 +43,7 @@ fn config(alloc: Global) -> Option<Config> {
     }
 }
 
-// The steps of these lines, at the second try where memory ran out at the first one.
+// The steps of these lines, at the second try if memory ran out at the first one.
 fn are_put(alloc: Global, lines: &[&str], steps: &mut Vec<Step>) -> bool {
     if put_steps(alloc, lines, steps) == Ok(true) {
         return true;
@@ -73,7 +73,7 @@ fn is_first(alloc: Global, acceptance: &Acceptance, client: u16, wanted: &str) -
         && is_answer(alloc, &acceptance.answer, wanted)
 }
 
-// Client 0 put the tuple and client 1 found it, or some of that didn't come about. Where client 0 got no answer, client
+// Client 0 put the tuple and client 1 found it, or some of that didn't come about. If client 0 got no answer, client
 // 1 may also have found nothing.
 fn are_right(alloc: Global, report: &Report) -> bool {
     match report.accepted.as_slice() {

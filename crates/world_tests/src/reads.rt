@@ -22,7 +22,7 @@ const AT_ONE: Part<'static> = Part::Lines(&[
     "deliver 6 r0",
 ]);
 
-// Replica 3, which is faulty, replies the like.
+// Replica 3, which is faulty, sends an equal reply.
 const LIKE: Part<'static> = Part::Made(Made::Reply(0, (1, ORDERED, 1, DONE)));
 
 const BOTH_REPLIES: Part<'static> = Part::Lines(&["deliver 7 c0", "deliver 8 c0"]);
@@ -42,8 +42,8 @@ const THREE_REPLIES: Part<'static> = Part::Lines(&[
     "deliver 12 c1",
 ]);
 
-// Two equal replies don't end a call. So the read may be answered from the state in front of the write, and its point
-// is in front of the write's; a later read finds the tuple.
+// Two equal replies don't end a call. So the read may be answered from the state before the write, and its point is
+// before the write's; a later read finds the tuple.
 static UNFINISHED: [Run<'static>; 3] = [
     Run {
         world: BACKUP_AND_TWO_CLIENTS,
@@ -98,7 +98,7 @@ fn a_read_beside_a_write(rt: HostRuntime) {
 // Replica 1 executes the tuple too, and client 1 reads.
 const AT_TWO: Part<'static> = Part::Lines(&["deliver 4 r1", "deliver 5 r1", "invoke 1 rdp (*)"]);
 
-// All replicas answer, two of them from number 1 and two from number 0, and three of the replies are got.
+// All replicas answer, two of them from number 1 and two from number 0, and three of the replies are received.
 const TWO_AND_TWO: Part<'static> = Part::Lines(&[
     "deliver 9 r0",
     "deliver 9 r1",
@@ -109,8 +109,7 @@ const TWO_AND_TWO: Part<'static> = Part::Lines(&[
     "deliver 12 c1",
 ]);
 
-// At the fourth reply client 1 asks in the order. What it accepts then is the answer of number 2, and the read is there
-// once.
+// At the fourth reply client 1 asks in the order. Then it accepts the answer of number 2, and the read is there once.
 static FALLBACKS: [Run<'static>; 3] = [
     Run {
         world: TWO_CLIENTS,
@@ -214,7 +213,7 @@ fn a_read_that_is_asked_for_twice(rt: HostRuntime) {
     assert!(rt; comes_out(rt.alloc(), &IN_TIME));
 }
 
-// The operation `out (1)`, and a byte behind it.
+// The operation `out (1)`, and a byte after it.
 const SPARE: &[u8] = b"\x21\x01\x01\0\0\0\0\0\0\0\x01\0";
 
 // All get the request of client 1, which is faulty, twice.

@@ -82,7 +82,7 @@ static TAKEN: [&[&str]; 7] = [
     ],
 ];
 
-// The run of these lines, where client 1 and replica 3 are faulty. No party has stopped before the step that may not
+// The run of these lines, if client 1 and replica 3 are faulty. No party has stopped before the step that may not
 // come.
 fn is_refused_at(alloc: Global, lines: &[&str], step: Option<usize>) -> bool {
     comes_out(

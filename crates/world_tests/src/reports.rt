@@ -1,4 +1,4 @@
-//! What is looked up in reports.
+//! Look-ups in reports.
 
 use events::{Entry, EntryKind};
 use hex::FromHex;
@@ -26,22 +26,22 @@ pub const FETCH: u8 = 0x49;
 
 pub const PAGE: u8 = 0x4b;
 
-/// Where the mode of a request stands, behind its type, its sender and its timestamp.
+/// Where the mode of a request stands, after its type, its sender and its timestamp.
 pub const MODE: usize = 15;
 
-/// Where the lowest bytes of a reply's timestamp and number stand. In front of the one are the reply's type, its sender
-/// and its client, and between the two its mode.
+/// Where the lowest bytes of a reply's timestamp and number stand. Before the timestamp are the reply's type, its
+/// sender and its client, and between the two its mode.
 pub const TIMESTAMP: usize = 16;
 
 pub const NUMBER: usize = 25;
 
-/// Where the lowest byte of the number of the state stands in what asks for a part, and in what answers with one the
-/// part's index. Behind the number are the level, and the index in two bytes.
+/// Where the lowest byte of the state's number stands in a fetch, and in an answer with a part the part's index.
+/// After the number are the level, and the index in two bytes.
 pub const NUMBER_ASKED: usize = 14;
 
 pub const INDEX: usize = 15;
 
-/// How many bytes stand behind a body: the count of receivers, and each receiver's number and MAC.
+/// How many bytes stand after a body: the count of receivers, and each receiver's number and MAC.
 pub const OF_ONE_RECEIVER: usize = 2 + 34;
 
 pub const OF_THREE_RECEIVERS: usize = 2 + 3 * 34;
@@ -58,7 +58,7 @@ pub type Batch = (u64, u8);
 /// The number of a party, the type byte of frames that it sends, and a place in these.
 pub type Cut = (u16, u8, usize);
 
-/// The number of a party, and the digest of what it got.
+/// The number of a party, and the digest of a frame that it got.
 pub type Got<'a> = (u16, &'a str);
 
 fn is_text(alloc: Global, answer: &Answer<Global>, text: &str) -> bool {
@@ -147,7 +147,7 @@ pub fn has_points(alloc: Global, report: &Report, rows: &[PointRow<'_>]) -> bool
     points.len() == rows.len()
 }
 
-// The replica and the batch, where the entry is of one that was executed.
+// The replica and the batch, if the entry is an execution.
 fn execution(entry: &Entry) -> Option<(u8, Batch)> {
     match entry.kind() {
         EntryKind::Executed(replica, number, batch) => {
@@ -211,7 +211,7 @@ pub fn installs(report: &Report, wanted: u64) -> bool {
     count == 1
 }
 
-/// The number of the party that sent a frame, and the frame, where the entry is of one.
+/// The number of the party that sent a frame, and the frame, if the entry is a sending.
 pub fn sent(entry: &Entry) -> Option<(u16, &[u8])> {
     match entry.kind() {
         EntryKind::Sent(party, frame) => Some((party.number(), frame.as_slice())),
@@ -237,7 +237,7 @@ pub fn senders_are(report: &Report, senders: &[u16]) -> bool {
     left.next().is_none()
 }
 
-/// How many frames of this type are sent, where a party is named by that party.
+/// How many frames of this type are sent; by this party, if one is named.
 pub fn count_of(report: &Report, party: Option<u16>, kind: u8) -> usize {
     let mut count = 0usize;
     for entry in report.trace.as_slice() {
@@ -265,7 +265,7 @@ pub fn bytes_are(report: &Report, (party, kind, place): Cut, bytes: &[u8]) -> bo
 }
 
 /// Whether all frames of the type are the party's, and have these texts from the place on, in this order, and so many
-/// bytes behind.
+/// bytes after them.
 pub fn texts_are(
     report: &Report,
     (party, kind, place): Cut,
@@ -316,7 +316,7 @@ fn is_got(entry: &Entry, (number, digits): Got<'_>) -> bool {
     }
 }
 
-/// Whether these parties got what has these digests, in this order, and there is no other entry.
+/// Whether these parties got frames with these digests, in this order, and there is no other entry.
 pub fn are_got(report: &Report, rows: &[Got<'_>]) -> bool {
     let trace = report.trace.as_slice();
     for (entry, row) in trace.iter().zip(rows) {

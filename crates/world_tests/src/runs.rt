@@ -1,5 +1,5 @@
-//! Runs in tables: in which world, of which steps, and what holds of the report then. One function makes a run and
-//! looks at it, so that a test owns nothing.
+//! Runs in tables: the world, the steps, and the properties of the report. One function makes a run and looks at it,
+//! so a test owns nothing.
 
 use crate::frames::{Made, party_of, put_made};
 use crate::reports::{
@@ -34,7 +34,7 @@ pub enum Part<'a> {
     Walk(&'a [Leg<'a>]),
 }
 
-/// What holds of a report.
+/// A property of a report.
 pub enum Check<'a> {
     /// There are so many entries.
     Entries(usize),
@@ -47,7 +47,7 @@ pub enum Check<'a> {
     /// The party's frames of a type have these bytes at a place, in this order.
     Bytes(Cut, &'a [u8]),
     /// All frames of the type are the party's, and have these texts from that place on, in this order, and so many
-    /// bytes behind.
+    /// bytes after them.
     Texts(Cut, usize, &'a [&'a [u8]]),
     /// The last entry is a frame of this party, which has these bytes from this place on.
     Last(u16, usize, &'a [u8]),
@@ -69,12 +69,12 @@ pub enum Check<'a> {
     Points(&'a [PointRow<'a>]),
     /// There are so many.
     PointCount(usize),
-    /// These parties get what has these digests, and there is no other entry.
+    /// These parties get frames with these digests, and there is no other entry.
     Got(&'a [Got<'a>]),
     NobodyStops,
 }
 
-/// A run, and what holds of its report: of the whole one, or, where a step may not come, of that before it.
+/// A run, and the properties of its report: of the whole one, or of that before a step that may not come.
 #[derive(Clone, Copy)]
 pub struct Run<'a> {
     pub world: World<'a>,

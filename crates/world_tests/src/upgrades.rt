@@ -1,11 +1,11 @@
-//! An upgrade of the space that three replicas carry while replica 3 is cut off, and what it fetches of theirs.
+//! An upgrade of the space that three replicas carry while replica 3 is cut off, and the parts that it then fetches.
 
 use crate::reports::{FETCH, INDEX, NUMBER_ASKED, OF_ONE_RECEIVER, OF_THREE_RECEIVERS, PAGE};
 use crate::runs::{Check, Part, Run, first_wrong};
 use crate::walks::Leg;
 use crate::worlds::ONE_CLIENT_OF_PERIOD_2;
 
-// All four replicas execute two calls, which come to 13 frames each and four checkpoints. Replica 3 is the first that
+// All four replicas execute two calls, which make 13 frames each, and four checkpoints. Replica 3 is the first that
 // gets a read.
 const UPGRADED: Part<'static> = Part::Walk(&[
     Leg::Lines(
@@ -37,8 +37,8 @@ const OF_FOUR: Check<'static> = Check::Texts(
     ],
 );
 
-// Their pages, with which replica 0 answers, each behind its index: the tuples with their births and lengths, client
-// 0's last reply, and the header.
+// The pages with which replica 0 answers, each after its index: the tuples with their births and lengths, client 0's
+// last reply, and the header.
 const PAGES: Check<'static> = Check::Texts(
     (0, PAGE, INDEX),
     OF_ONE_RECEIVER,
@@ -51,8 +51,8 @@ const PAGES: Check<'static> = Check::Texts(
     ],
 );
 
-// A reply in front of its MAC: the length, the type, replica 3 and client 0, whose fifth call it is; that it answers a
-// read at number 4, and what was found, `(w7)`.
+// A reply before its MAC: the length, the type, replica 3 and client 0, whose fifth call it is; that it answers a
+// read at number 4, and the tuple found, `(w7)`.
 const FOUND_AT_FOUR: &[u8] =
     b"\0\0\0\x29\x48\0\x03\x01\0\0\0\0\0\0\0\0\x05\x01\0\0\0\0\0\0\0\x04\x32\x01\x06\0\0\0\0\0\0\0\0\0\0\0\0\0\0\0\x07";
 

@@ -6,8 +6,8 @@ use crate::runs::{Check, Part, Run, comes_out, first_wrong};
 use crate::worlds::{BACKUP_AND_TWO_CLIENTS, ONE_CLIENT, PRIMARY_AND_TWO_CLIENTS, SEVEN};
 use test_bytes::ORDERED;
 
-// Time goes by 65 times at replica 1, where a request waits. Each time but the last, for which it has no key, it moves
-// to the next view: the call, its request and its delivery, 65 ticks and 64 view changes.
+// Time goes by 65 times at replica 1, while a request waits. Each time except the last, for which it has no key, it
+// moves to the next view: the call, its request and its delivery, 65 ticks and 64 view changes.
 static SPENDING_KEYS: Run<'static> = Run {
     world: ONE_CLIENT,
     parts: &[
@@ -61,7 +61,7 @@ static TWO_FACES: [Run<'static>; 3] = [
         ],
     },
     // Replica 2 has the batch, and makes the new view of view 2. The second request has number 1 there, and so the
-    // first has number 2. Each acts where a second of the three executes it, and the read where it is called. The
+    // first has number 2. Each acts when a second of the three executes it, and the read when it is called. The
     // positions come from an implementation in Python.
     Run {
         world: PRIMARY_AND_TWO_CLIENTS,
@@ -194,9 +194,9 @@ fn a_claim_on_what_was_never_prepared(rt: HostRuntime) {
 // The correct ones of seven.
 const FIVE: &[u16] = &[0, 3, 4, 5, 6];
 
-// Everybody gets the request and its batch, and the prepares of four backups: each commits, which nobody gets. So the
-// batch is prepared in view 0. The primaries of views 1 and 2 say nothing. In view 3, which replica 3 begins, the same
-// comes of it. Each of the five moves three times, and commits in views 0 and 3, but nobody executes.
+// All replicas get the request and its batch, and the prepares of four backups: each commits, and nobody gets the
+// commits. So the batch is prepared in view 0. The primaries of views 1 and 2 send nothing. In view 3, which replica
+// 3 begins, the same happens. Each of the five moves three times, and commits in views 0 and 3, but nobody executes.
 static PREPARED_TWICE: Run<'static> = Run {
     world: SEVEN,
     parts: &[
@@ -218,7 +218,7 @@ static PREPARED_TWICE: Run<'static> = Run {
     ],
 };
 
-// The new view of view 4 goes by what was prepared in view 3, which went by what was prepared in view 0.
+// The new view of view 4 follows the batch prepared in view 3, which followed the one prepared in view 0.
 static EXECUTED_IN_VIEW_4: Run<'static> = Run {
     world: SEVEN,
     parts: &[

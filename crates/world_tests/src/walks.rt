@@ -7,8 +7,9 @@ use schedule_text::Step;
 use std::alloc::Global;
 use terms::NoMemory;
 
-// What comes of a call that replicas 0, 1 and 2 carry: how many frames were made behind the request, and which replica
-// gets the frame. These are the request, the pre-prepare, the prepares of 1 and 2, and the commits of 2, 0 and 1.
+// The deliveries of a call that replicas 0, 1 and 2 carry: how many frames were made after the request, and which
+// replica gets the frame. These are the request, the pre-prepare, the prepares of 1 and 2, and the commits of 2, 0
+// and 1.
 static CARRIED: [(u64, u16); 13] = [
     (0, 0),
     (1, 1),
@@ -25,8 +26,8 @@ static CARRIED: [(u64, u16); 13] = [
     (6, 2),
 ];
 
-// The number of client 0, which gets the replies of 1, 0 and 2: of a number without a checkpoint, and of one with it,
-// where each reply is followed by one.
+// The number of client 0, which gets the replies of 1, 0 and 2: for a number without a checkpoint, and for one with
+// it, in which a checkpoint follows each reply.
 static REPLIES: [(u64, u16); 3] = [(7, 256), (8, 256), (9, 256)];
 
 static REPLIES_BEFORE: [(u64, u16); 3] = [(7, 256), (9, 256), (11, 256)];
@@ -35,17 +36,17 @@ static CARRIED_CHECKPOINTS: [(u64, u16); 6] = [(8, 0), (8, 2), (10, 1), (10, 2),
 
 static CHECKPOINTS: [(u64, u16); 3] = [(8, 3), (10, 3), (12, 3)];
 
-/// What comes next in a walk.
+/// The next part of a walk.
 pub enum Leg<'a> {
     /// The steps of these lines, which make so many frames.
     Lines(&'a [&'a str], u64),
-    /// The call of this line, which replicas 0, 1 and 2 carry, where its number has no checkpoint.
+    /// The call of this line, which replicas 0, 1 and 2 carry, if its number has no checkpoint.
     Carry(&'a str),
-    /// The same where it has one.
+    /// The same if it has one.
     CarryToCheckpoint(&'a str),
     /// Replica 3 gets the checkpoints that the last call came to, and asks for the root's digests.
     TellCheckpoints,
-    /// So often replica 0 gets what replica 3 asks for, and replica 3 gets the answer.
+    /// So often replica 0 gets replica 3's fetch, and replica 3 gets the answer.
     Fetch(usize),
     /// Replica 0 answers once more, and the answer is held back.
     HoldBack,
@@ -55,8 +56,8 @@ pub enum Leg<'a> {
     Ask(&'a str),
 }
 
-// How many frames were made, how many of these the last request has in front of it, and the number of the one that is
-// held back.
+// How many frames were made, how many of these came before the last request, and the number of the frame that is held
+// back.
 #[derive(Clone, Copy)]
 struct Counts {
     made: u64,
@@ -70,7 +71,7 @@ fn put(frame: u64, party: u16, steps: &mut Vec<Step>) -> Result<bool, NoMemory> 
     Ok(true)
 }
 
-// The frames that were made so far behind this one.
+// The frames that were made after this one.
 fn put_behind(called: u64, rows: &[(u64, u16)], steps: &mut Vec<Step>) -> Result<bool, NoMemory> {
     for (behind, party) in rows {
         put(called.saturating_add(*behind), *party, steps)?;
@@ -78,7 +79,7 @@ fn put_behind(called: u64, rows: &[(u64, u16)], steps: &mut Vec<Step>) -> Result
     Ok(true)
 }
 
-// The call of this line, which makes so many frames, and all phases of it up to the replies.
+// The call of this line, which makes so many frames, and all its phases up to the replies.
 fn carry(
     alloc: Global,
     line: &str,
@@ -119,7 +120,7 @@ fn carry_to_checkpoint(
     put_behind(counts.called, &CARRIED_CHECKPOINTS, steps)
 }
 
-// Replica 0 gets what replica 3 asks for, and answers.
+// Replica 0 gets replica 3's fetch, and answers.
 fn answer(counts: &mut Counts, steps: &mut Vec<Step>) -> Result<bool, NoMemory> {
     let asked = counts.made;
     counts.made = asked.saturating_add(2);

@@ -6,8 +6,7 @@ use std::alloc::Global;
 use terms::NoMemory;
 use test_bytes::FRAME_SEED;
 
-/// How many replicas may be faulty, how many clients there are, at multiples of which period there is a checkpoint, and
-/// who is faulty.
+/// How many replicas may be faulty, how many clients there are, the checkpoint period, and who is faulty.
 #[derive(Clone, Copy)]
 pub struct World<'a> {
     pub faults: u8,
@@ -17,8 +16,8 @@ pub struct World<'a> {
     pub faulty_clients: &'a [u16],
 }
 
-// The worlds of the tables, of four replicas where nothing else is said. They are constants since one static can't name
-// another one; no function names them.
+// The worlds of the tables, of four replicas unless they say otherwise. They are constants because one static can't
+// name another one; no function names them.
 
 /// All are correct.
 pub const ONE_CLIENT: World<'static> = World {
@@ -179,7 +178,7 @@ pub fn config_of(alloc: Global, world: &World<'_>) -> Option<Config> {
     .ok()
 }
 
-/// Puts the steps of these lines behind the others, and answers whether each line is one.
+/// Appends the steps of these lines to the others, and tells whether each line is one.
 pub fn put_steps(alloc: Global, lines: &[&str], steps: &mut Vec<Step>) -> Result<bool, NoMemory> {
     for line in lines {
         match read_step(alloc, line.as_bytes()) {

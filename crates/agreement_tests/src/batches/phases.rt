@@ -116,7 +116,7 @@ fn a_batch_is_committed(rt: HostRuntime) -> Result<(), Fail> {
     Ok(())
 }
 
-// Where the replica has left its view nothing is due.
+// After the replica left its view nothing is due.
 fn owes_nothing(log: &mut Log) -> bool {
     log.leave();
     !log.is_active() && log.due_prepare(FIRST).is_none() && log.due_commit(FIRST).is_none()
@@ -203,7 +203,7 @@ fn a_stable_checkpoint_cuts(rt: HostRuntime) -> Result<(), Fail> {
     Ok(())
 }
 
-// Where a log can't be made it can be at the next try: `tools/growths` refuses each growth in turn.
+// If a log can't be made, it can be at the next try: `tools/growths` refuses each growth in turn.
 #[test]
 fn refused_memory(rt: HostRuntime) -> Result<(), Fail> {
     let log = match new_log(rt.alloc()) {

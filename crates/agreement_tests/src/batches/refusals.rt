@@ -1,4 +1,4 @@
-//! Refusals, each told where it is the first that applies.
+//! Refusals, each in a case in which it is the first that applies.
 
 use crate::batches::phases::new_log;
 use ordering::{Dropped, Log};
@@ -10,8 +10,8 @@ const ONE: Digest = [1; 32];
 
 const OTHER: Digest = [2; 32];
 
-// Sender, view, number and digest of a vote, and why it is dropped at replica 1 of four in view 0, with marks of four
-// numbers, where replica 2 has voted for the first digest at number 1.
+// Sender, view, number and digest of a vote, and why replica 1 of four drops it in view 0. The marks span four
+// numbers, and replica 2 has voted for the first digest at number 1.
 type Row = (u8, u64, u64, Digest, Option<Dropped>);
 
 static PREPARES: [Row; 7] = [

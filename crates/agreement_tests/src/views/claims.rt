@@ -90,7 +90,7 @@ fn has_room(change: &ViewChange) -> bool
         && change.pre_prepared.len() < 65_536
 }
 
-// How long its frame is with a signature, or none where it may not be so long.
+// The length of its frame with a signature, or `None` if that is too long.
 fn frame_len(alloc: Global, change: ViewChange) -> Result<Option<usize>, Fail>
     requires { ViewChangeFits (view_change_data change) }
 {
@@ -98,7 +98,7 @@ fn frame_len(alloc: Global, change: ViewChange) -> Result<Option<usize>, Fail>
         sender: Party::Replica(ReplicaId(3)),
         message: Message::ViewChange(change),
     };
-    // By a call: at the end of a function all kinds of messages are told apart.
+    // Dropped by a call: a drop at the function's end has a case for each kind of message.
     let frame = begin_frame(alloc, &body, 1 + SIGNATURE_LEN);
     drop(body);
     match frame {
@@ -115,7 +115,7 @@ fn len_of(alloc: Global, count: u64) -> Result<Option<usize>, Fail> {
     }
 }
 
-// 28 bytes and 48 for each claim, and a signature behind a byte: 262,144 bytes have room for 5,115 claims.
+// 28 bytes and 48 for each claim, and a byte and a signature: 262,144 bytes have room for 5,115 claims.
 #[test]
 fn a_full_list_of_claims(rt: HostRuntime) -> Result<(), Fail> {
     let len = len_of(rt.alloc(), 5_115)?;

@@ -1,5 +1,5 @@
 //! Frames of signed view changes, spelled byte by byte from their format: type 46, sender, view, low mark, and three
-//! lists behind their counts.
+//! lists, each after its count.
 
 use authenticator::signing_seed;
 use ordering::HashedBatch;
@@ -55,7 +55,7 @@ fn body(alloc: Global, sender: u8, said: Said) -> Result<Vec<u8>, Fail> {
     Ok(body)
 }
 
-// At the second try where memory ran out at the first one. That spends no leaf.
+// At the second try if memory ran out at the first one. That spends no leaf.
 fn signature_of(alloc: Global, signer: &mut Signer, body: &[u8]) -> Result<Signature, SignFault> {
     match signer.sign(alloc, body) {
         Err(SignFault::NoMemory) => signer.sign(alloc, body),

@@ -1,5 +1,5 @@
-//! The view changes that a replica keeps: each refusal, told where it is the first that applies, which of them it
-//! joins, and the new view that is made of them: four replicas, a checkpoint each 16 batches.
+//! The view changes that a replica keeps: each refusal, in a case in which it is the first that applies; which view
+//! it joins, and the new view that it makes of them. Four replicas, a checkpoint each 16 batches.
 
 use crate::views::frames::{ROOT, SEED, Said, changes};
 use signing::PublicKeys;
@@ -20,7 +20,7 @@ static SAID: [(u8, Said); 8] = [
     (0, (2, 0, 0)),
     (1, (1, 0, 0)),
     (2, (1, 0, 0)),
-    // What it prepared is not above its low mark.
+    // Its prepared batch is not above its low mark.
     (2, (1, 16, 1)),
     (2, (3, 0, 0)),
     (1, (3, 0, 0)),
@@ -49,7 +49,7 @@ static ROWS: [(usize, u64, Option<ChangeFault>); 12] = [
     // A signature is wrong, whatever else.
     (BROKEN, 9, Some(ChangeFault::BadSignature)),
     (BROKEN, 0, Some(ChangeFault::BadSignature)),
-    // It is not above the last active view, whatever its bounds.
+    // It is not above the last active view, whatever its bounds are.
     (OUT_OF_BOUNDS, 1, Some(ChangeFault::WrongView)),
     (FIRST, 1, Some(ChangeFault::WrongView)),
     // It is out of its bounds, though new.
@@ -66,7 +66,7 @@ static ROWS: [(usize, u64, Option<ChangeFault>); 12] = [
     (THIRD, 0, None),
 ];
 
-// At the second try where memory ran out at the first one.
+// At the second try if memory ran out at the first one.
 fn fault_at(
     alloc: Global,
     received: &mut Received,
@@ -147,7 +147,7 @@ fn keeps_latest(alloc: Global, received: &mut Received, frames: &[Vec<u8>]) -> R
     )
 }
 
-// Each replica's latest is held; of those for a view the senders ascend, whatever the order in which they came.
+// The latest of each replica is held. The senders for a view ascend, whatever the order in which they came.
 #[test]
 fn the_latest_is_kept(rt: HostRuntime) -> Result<(), Fail> {
     let mut received = none_received(rt.alloc())?;
@@ -182,7 +182,7 @@ fn others_are_joined(rt: HostRuntime) -> Result<(), Fail> {
     Ok(())
 }
 
-// The new view of view 1, where nothing was prepared.
+// The new view of view 1, if nothing was prepared.
 fn made(alloc: Global, received: &Received) -> Result<Option<NewView>, Fail> {
     let set = received.changes_for(alloc, View(1))?;
     match select(alloc, &set, received.sizes(), View(1), &[])? {
@@ -222,7 +222,7 @@ fn makes_of_three(
     )
 }
 
-// What the primary makes of three view changes is taken, of two it makes nothing.
+// The new view that the primary makes of three view changes is taken; of two it makes none.
 #[test]
 fn what_is_made_is_taken(rt: HostRuntime) -> Result<(), Fail> {
     let mut received = none_received(rt.alloc())?;

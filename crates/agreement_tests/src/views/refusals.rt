@@ -1,4 +1,5 @@
-//! Each refusal of a new view, told where it is the first that applies: four replicas, a checkpoint each 16 batches.
+//! Each refusal of a new view, in a case in which it is the first that applies: four replicas, a checkpoint each 16
+//! batches.
 
 use crate::views::frames::{Said, changes};
 use crate::views::received::none_received;
@@ -15,7 +16,7 @@ static SAID: [(u8, Said); 6] = [
     (2, (1, 0, 1)),
     // It is for another view.
     (2, (2, 0, 1)),
-    // What it prepared is not above its low mark.
+    // Its prepared batch is not above its low mark.
     (2, (1, 16, 1)),
     // Its signature is broken below.
     (2, (1, 0, 1)),
@@ -27,25 +28,25 @@ const OUT_OF_BOUNDS: usize = 4;
 
 const BROKEN: usize = 5;
 
-// The sender of a new view of view 1, and the view and the target of who hears it.
+// The sender of a new view of view 1, and the view and the target of the replica that hears it.
 type Heard = (u8, (u64, u64));
 
 // From its primary, for who sent a view change for its view.
 const WELL: Heard = (1, (0, 1));
 
-// How a new view is heard that carries a frame which is none, and why it is refused.
+// How a replica hears a new view that carries a frame which is none, and why it refuses the new view.
 static UNREAD: [(Heard, NewViewFault); 5] = [
-    // It is not from its primary, whatever else.
+    // It is not from its primary, whatever else is wrong.
     ((2, (1, 2)), NewViewFault::UnknownSender),
     ((0, (0, 0)), NewViewFault::UnknownSender),
     // It is of the own view, or below a view change that was sent, whatever it carries.
     ((1, (1, 1)), NewViewFault::WrongView),
     ((1, (0, 2)), NewViewFault::WrongView),
-    // It carries what is no view change.
+    // It carries a frame that is no view change.
     (WELL, NewViewFault::BadSignature),
 ];
 
-// Which view changes a new view carries, its root's bytes, and the bytes of its batches, behind number 0.
+// The view changes that a new view carries, the bytes of its root, and those of its batches after number 0.
 type Carried = (&'static [usize], u8, &'static [u8]);
 
 static ROWS: [(Heard, Carried, Option<NewViewFault>); 15] = [
@@ -84,7 +85,7 @@ static ROWS: [(Heard, Carried, Option<NewViewFault>); 15] = [
     (WELL, (&[1, 0, 2], 7, &[1]), Some(NewViewFault::NotSelected)),
     // No one lists its start.
     (WELL, (&[0, 1, 2], 8, &[1]), Some(NewViewFault::NotSelected)),
-    // The null batch stands where another one was prepared.
+    // The null batch stands at a number for which another one was prepared.
     (WELL, (&[0, 1, 2], 7, &[0]), Some(NewViewFault::NotSelected)),
     // Nothing stands there, or one batch more.
     (WELL, (&[0, 1, 2], 7, &[]), Some(NewViewFault::NotSelected)),
@@ -134,7 +135,7 @@ fn new_view(
     })
 }
 
-// At the second try where memory ran out at the first one.
+// At the second try if memory ran out at the first one.
 fn refusal(
     alloc: Global,
     received: &Received,
@@ -150,7 +151,7 @@ fn refusal(
     }
 }
 
-// A new view that carries what is no frame.
+// A new view that carries bytes that are no frame.
 fn unread(alloc: Global) -> Result<NewView, AllocError> {
     let mut none = Vec::new(alloc);
     none.push(b"no frame".to_vec(alloc)?)?;

@@ -84,7 +84,7 @@ fn batches(alloc: Global) -> Result<Vec<Arc<HashedBatch>>, Fail> {
     Ok(held)
 }
 
-// What is selected of these view changes with those batches.
+// The selection from these view changes with those batches.
 fn selected_of(alloc: Global, sizes: Sizes, set: &[Change]) -> Result<Option<Selection>, Fail> {
     if !is_set(set, sizes, View(3)) {
         return Ok(None);
@@ -118,12 +118,12 @@ const LIE: Said<'static> = (&[0], &[(1, 9, 0)], &[(1, 9, 0)]);
 
 const LATER: Said<'static> = (&[0], &[], &[(1, 1, 0), (1, 2, 1)]);
 
-// The null batch was prepared in view 1, behind another batch that was logged in view 0.
+// The null batch was prepared in view 1, after another batch was logged in view 0.
 const NULLED: Said<'static> = (&[0], &[(1, 0, 1)], &[(1, 0, 1), (1, 1, 0)]);
 
 const HIGHER: Said<'static> = (&[0, 16], &[], &[]);
 
-// A start, and the bytes of the batches behind it.
+// A start, and the bytes of the batches after it.
 type Start = (u64, &'static [u8]);
 
 static ROWS: [(&[Said<'static>], Option<Start>); 6] = [
@@ -131,7 +131,7 @@ static ROWS: [(&[Said<'static>], Option<Start>); 6] = [
     (&[ONE, ONE, LIE], None),
     // With a third true one the batch is that was prepared.
     (&[ONE, ONE, ONE, LIE], Some((0, &[1]))),
-    // Where nothing was prepared there are no batches.
+    // If nothing was prepared there are no batches.
     (&[NOTHING, NOTHING, NOTHING], Some((0, &[]))),
     // A gap below a prepared number has the null batch.
     (
@@ -164,8 +164,8 @@ static ROWS_OF_SEVEN: [(&[Said<'static>], Option<Start>); 7] = [
     // Two can't make a start, a third one can.
     (&[HIGHER, HIGHER, NOTHING, NOTHING, NOTHING], Some((0, &[]))),
     (&[HIGHER, HIGHER, HIGHER, NOTHING, NOTHING], Some((16, &[]))),
-    // The new view of view 1 proposed the null batch, over view changes that had nothing prepared: what two lies say of
-    // view 0 doesn't count against it.
+    // The new view of view 1 proposed the null batch, over view changes that had nothing prepared. The claims of two
+    // lies about view 0 don't count against it.
     (
         &[NULLED, NULLED, NULLED, NULLED, NULLED, LIE, LIE],
         Some((0, &[0])),

@@ -6,7 +6,7 @@ use std::test::Fail;
 use terms::{NoMemory, Party};
 use tuple_codec::{Op, encode_op};
 
-// Lines, with what they give: the number of the step's kind, its numbers and parties, and its bytes.
+// Lines, and their steps: the number of the step's kind, its numbers and parties, and its bytes.
 static STEPS: [(&[u8], u8, &[u64], &[u8]); 19] = [
     (b"invoke 0 out ()", 0, &[0], b"\x21\0"),
     (b"  invoke  255   rdp  ( * )  ", 0, &[255], b"\x22\x01\x10"),
@@ -205,7 +205,7 @@ fn gives(
     let Some(step) = read_step(alloc, line)? else {
         return Ok(false);
     };
-    // Dropped by a call: at the end of a function all kinds of steps are told apart.
+    // Dropped by a call: a drop at the function's end has a case for each kind of step.
     let is_right = is_step(alloc, &step, kind, numbers, bytes);
     drop(step);
     is_right
@@ -285,8 +285,8 @@ fn refuses_half_a_byte(alloc: Global) -> bool {
     read_again(alloc, b"seal c1 r0,r1,c0 414").err() == Some(StepFault::Refused)
 }
 
-// Passes whichever growth is refused, as by `tools/growths`: a second try gives what the first one
-// gives where nothing is refused.
+// Passes whichever growth is refused, as by `tools/growths`: a second try gives the same as the first one gives if
+// nothing is refused.
 #[test]
 fn refused_memory(rt: HostRuntime) {
     assert!(rt; reads_call(rt.alloc()));

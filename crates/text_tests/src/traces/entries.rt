@@ -10,7 +10,7 @@ use tuple_text::read_line;
 
 fn is_shown(alloc: Global, kind: EntryKind, text: &[u8]) -> Result<bool, NoMemory> {
     let mut out = Vec::new(alloc);
-    // Dropped by a call: at the end of a function all kinds of entries are told apart.
+    // Dropped by a call: a drop at the function's end has a case for each kind of entry.
     let entry = Entry::new(kind);
     let written = write_entry(alloc, &entry, &mut out);
     drop(entry);

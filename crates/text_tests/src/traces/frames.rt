@@ -11,7 +11,7 @@ const DIGEST: &str = "a1b2c3d400000000000000000000000000000000000000000000000000
 
 const ZEROS: &str = "0000000000000000000000000000000000000000000000000000000000000000";
 
-// Two requests as batches carry them, behind their lengths, each with a MAC.
+// Two requests as batches carry them, after their lengths, each with a MAC.
 const FIRST: &str = "0000003f00000017410100000000000000000100210101000000000000000100010000";
 
 const SECOND: &str = "000000370000000f4101ff00010000000000000023011000010003";
@@ -217,7 +217,7 @@ static CHANGES: [Row; 3] = [
     },
 ];
 
-// What stands behind these in new views.
+// The fields after these in new views.
 static STARTS: [Row; 2] = [
     Row {
         parts: &["0000000000000000", DIGEST, "00"],
@@ -329,7 +329,7 @@ fn new_view(alloc: Global, start: &Row) -> Result<Vec<u8>, AllocError> {
 
 fn has_line(alloc: Global, kind: EntryKind, line: &str) -> Result<bool, NoMemory> {
     let mut out = Vec::new(alloc);
-    // Dropped by a call: at the end of a function all kinds of entries are told apart.
+    // Dropped by a call: a drop at the function's end has a case for each kind of entry.
     let entry = Entry::new(kind);
     let written = write_entry(alloc, &entry, &mut out);
     drop(entry);
@@ -357,7 +357,7 @@ fn is_sent(alloc: Global, frame: &[u8], text: &str, receivers: &str) -> Result<b
     )
 }
 
-// The lines of the frame where it is got, and where it is sent.
+// The lines of the frame at its receipt and at its sending.
 fn is_shown(alloc: Global, frame: &[u8], text: &str, receivers: &str) -> Result<bool, NoMemory> {
     Ok(is_got(alloc, frame, text)? && is_sent(alloc, frame, text, receivers)?)
 }
@@ -442,7 +442,7 @@ fn sent_batch(alloc: Global) -> Result<Entry, AllocError> {
 const BATCH_LINE: &[u8] =
     b"sent r2 pre-prepare r2 view 6 number 31 c0:1 c255:281474976710656 to r0,c1";
 
-// The line, behind a byte that a refusal leaves alone.
+// The line, after a byte that a refusal leaves alone.
 fn is_written(alloc: Global, entry: &Entry, out: &mut Vec<u8>) -> Result<bool, NoMemory> {
     if write_entry(alloc, entry, out).is_err() {
         if out.as_slice() != b"\n".as_slice() {
@@ -457,7 +457,7 @@ fn with_line_feed(alloc: Global) -> Result<Vec<u8>, AllocError> {
     b"\n".to_vec(alloc)
 }
 
-// The entry, at the second try where memory ran out at the first one.
+// The entry, at the second try if memory ran out at the first one.
 fn sent_batch_again(alloc: Global) -> Result<Entry, AllocError> {
     match sent_batch(alloc) {
         Ok(entry) => Ok(entry),

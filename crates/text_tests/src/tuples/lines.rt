@@ -76,7 +76,7 @@ static LINES: [(&[u8], &[u8]); 28] = [
     (b"  upgrade  ", b"\x27"),
 ];
 
-// Lines with the byte that no line goes on with.
+// Lines, and the offset of the first byte that can't continue any valid line.
 static BAD_BYTES: [(&[u8], usize); 81] = [
     (b"rdp (1)(2)", 7),
     (b"out (01)", 6),
@@ -168,7 +168,7 @@ fn is_read(alloc: Global, line: &[u8], bytes: &[u8]) -> Result<bool, Fail> {
     let Some(op) = read_line(alloc, line)? else {
         return Ok(false);
     };
-    // Dropped by a call: at the end of a function all kinds of operations are told apart.
+    // Dropped by a call: a drop at the function's end has a case for each kind of operation.
     let is_right = is_spelled(alloc, &op, bytes);
     drop(op);
     is_right
@@ -241,7 +241,7 @@ static LONG: [Long<'static>; 16] = [
     // An encoding of 1,025 bytes is too long.
     (b"out (\"", b"a", 1020, b"\")", None),
     (b"out (\"", b"a", 1021, b"\")", Some(LineFault::TooLong)),
-    // It comes at the parenthesis: what stands before it decides first, and what stands behind it does not.
+    // The fault comes at the parenthesis: a byte before it decides first, one after it does not.
     (
         b"out (\"",
         b"a",
@@ -260,7 +260,7 @@ static LONG: [Long<'static>; 16] = [
     ),
     (b"inAll 3 (\"", b"a", 1020, b"\")", None),
     (b"inAll 3 (\"", b"a", 1021, b"\")", Some(LineFault::TooLong)),
-    // A nested list is not judged where it is closed.
+    // A nested list is not judged at its closing parenthesis.
     (
         b"out ((\"",
         b"a",
@@ -268,7 +268,7 @@ static LONG: [Long<'static>; 16] = [
         b"\")",
         Some(LineFault::BadByte { offset: 1030 }),
     ),
-    // A line has 65,536 bytes at the most.
+    // A line has at most 65,536 bytes.
     (b"out ()", b" ", 65530, b"", None),
     (
         b"out ()",
@@ -375,7 +375,7 @@ static WRITTEN: [&[u8]; 10] = [
     b"cas (?wide w-170141183460469231731687303715884105728) (w0 w170141183460469231731687303715884105727)",
 ];
 
-// Whether the operation's line is written, at the second try where memory runs out at the first.
+// Whether the operation's line is written, at the second try if memory runs out at the first.
 fn has_line(alloc: Global, op: &Op<Global>, line: &[u8]) -> bool {
     let mut out = Vec::new(alloc);
     let is_done = write_op(op, &mut out).is_ok()

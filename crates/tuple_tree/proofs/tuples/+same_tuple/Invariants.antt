@@ -3,7 +3,7 @@ use Rattle.tuple_tree.specs.Items.{item_levels, levels_in, levels_of}
 use Rattle.tuple_tree.specs.TupleView.{value_of, tuple_of}
 use Rattle.tuple_tree.proofs.tuples.+same_tuple.Given as goal
 
--- The lists are equal exactly where what is left of them is.
+-- The lists are equal exactly if their rests are equal.
 abbrev pub invariant-Value::same_values-loop-i : goal.invariant-Value::same_values-loop-i
 invariant-Value::same_values-loop-i g l = (tuple_of l.a ≡ tuple_of l.b) ↔ (tuple_of (drop l.i l.a) ≡ tuple_of (drop l.i l.b))
 

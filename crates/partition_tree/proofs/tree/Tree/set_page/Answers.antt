@@ -15,7 +15,7 @@ returns-then-eq-clause-ok c =
     let decided = slice_eq-Decides Decides-eqb c.page.result.now c.args.text.now _ c.eq.ensures in
     set_there _ c.args.i [] c.args.text.now (sym c.page.ensures.text ∙ decided.0 c.if-eq.true)
 
--- the page has another text where the test says so
+-- the page has another text if the test says so
 other : (xs ys : List ℕ) (r : Bool) → Decides r (xs ≡ ys) → r ≡ false → xs ≢ ys
 other xs ys r decided off e =
     let on = decided.1 e in

@@ -1,4 +1,4 @@
--- It asks the counter, and refuses or answers what the memory behind it answers. Assumes `Logic`.
+-- It asks the counter, and refuses or gives the answer of the memory below it. Assumes `Logic`.
 use Rattle.std.proofs.Common.{◌≡◌, ℕ, ◌+◌, ◌^◌, ◌<◌, true, false, List, [], ◌∷◌, Ok, Err, refl, ap, w64, Bor}
 use Rattle.std.specs.Prelude.{Bool}
 use seplogic.Ra.Ura.{Ura}
