@@ -1,4 +1,4 @@
--- The definitions accept a replica that sends its kept reply again, behind the first operation.
+-- The definitions accept a replica that sends its kept reply again, after the first operation.
 use Rattle.std.proofs.Common.{◌≡◌, ℕ, zero, suc, ◌+◌, inl, inr, Bool, true, false, cond, ◌&&◌, List, [], ◌∷◌, fold, refl, sym, ap, ◌∙◌, subst, arith, Option, Some, None}
 use Rattle.std.specs.Prelude.{nat_lt, option_and_then}
 use Rattle.std.specs.Option.{option_map_or}
@@ -50,7 +50,7 @@ module _ (o : Part) where
   abbrev c : Configuration
   c = four o.clients o.seed
 
-  -- ---- what is kept
+  -- ---- the kept reply
 
   abbrev the_kept : Kept
   the_kept = kept_by opening 1 (the_call op)
@@ -96,7 +96,7 @@ module _ (o : Part) where
         stage_reply o.clients o.seed batch me asked (Sent me (w.reply me)) me 256 1 1 modes.Ordered (first_answer op) true p k at_request
         (sent o.clients o.seed batch me asked (w.reply me) (replies op me) (o.are_frames.replies me o.within).says tt)
 
-    -- ---- what is heard is the request
+    -- ---- the replica receives the request
 
     heard_is : (body : Body) → heard (members c) me w.request ≡ Some body → asks op ≡ body
     heard_is body h = some_injective (asks op) body (sym hears ∙ h)
@@ -107,7 +107,7 @@ module _ (o : Part) where
     is_ordered : (body : Body) → heard (members c) me w.request ≡ Some body → IsOrdered body
     is_ordered body h = subst IsOrdered (heard_is body h) (refl, refl)
 
-    -- ---- what is owed
+    -- ---- what the replica owes
 
     sends_again : (n : ℕ) (kept : Kept) → 256 + n ≡ 256 → kept_of (after c batch) n ≡ Some kept → SendsMessage me (reply_of n kept) outputs
     sends_again n kept is there =

@@ -60,7 +60,7 @@ module _ (clients : ℕ) (seed : List ℕ) (me other : ℕ) (fetch digests : Lis
         let bad : is_quorum c 0 ≡ true = subst (λ (n : ℕ). is_quorum c n ≡ true) same h in
         absurd (let worse : false ≡ true = bad in cc)
 
-    -- what is heard is this fetch
+    -- the message that the replica receives is this fetch
     abbrev level_is : Level → Bool
     level_is level = elim level [ levels.Root ↦ true | _ ↦ false ]
 

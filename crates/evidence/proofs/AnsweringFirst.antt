@@ -57,7 +57,7 @@ module _ (clients : ℕ) (seed : List ℕ) (me client timestamp : ℕ) (op : Ope
         let bad : is_quorum c 0 ≡ true = subst (λ (n : ℕ). is_quorum c n ≡ true) same h in
         absurd (let worse : false ≡ true = bad in cc)
 
-    -- what is heard is a read
+    -- the message that the replica receives is a read
     abbrev IsRead : Body → Type 0
     IsRead body = elim body.message [ Request t mode o ↦ mode ≡ modes.ReadOnly | _ ↦ ⊥ ]
 

@@ -118,7 +118,7 @@ module _ (clients : ℕ) (seed root first second own new_view : List ℕ) (x : C
         ∙ ap (λ (o : Option (List ℕ)). or_else o (begun_proposal c 1 h3 e v i)) (joining.logs3 clients seed 1 2 3 first second own apart first_other second_other x y z v i)
         ∙ none_begun v i
 
-    -- ---- what is owed
+    -- ---- what the replica owes
 
     none_executed : (k : ℕ) → Has (λ o. Executes k [] o) (Sent 1 own ∷ e ∷ []) → ⊥
     none_executed k (inl h) = h
@@ -155,7 +155,7 @@ module _ (clients : ℕ) (seed root first second own new_view : List ℕ) (x : C
     owes_it : Owes c 1 h1 (Got 1 second) (Sent 1 own ∷ e ∷ []) now first_point first_point
     owes_it = owes clients seed 1 h1 second (Sent 1 own ∷ e ∷ []) now due
 
-    -- ---- what is sent
+    -- ---- what the replica sends
 
     own_alone : (sent : List ℕ) → SentBefore sent h3 → own ≡ sent
     own_alone sent (inl h) = h

@@ -37,7 +37,7 @@ executes_not_by_others_alone c me k batch past none right =
     (once_weaker (λ past e. vote_in c me past e (commit_from me own.0 k) own.0 k ≡ Some (sha256 batch)) (Brings c (committing me own.0 k (sha256 batch)))
     (commit_source c me me own.0 k (sha256 batch)) past votes)
 
--- what a replica's history says, its trace has sent
+-- if a replica's history says a commit, the trace sends the commit
 says_sent : (c : Configuration) (r v k : ℕ) (d : List ℕ) (past : List Entry) (e : Entry) → (party_of e ≡ r) × CommitsAt c r v k d (history_of r past) e → SendsBody (committing r v k d) past e
 says_sent c r v k d past (Sent p bytes) h = (h.0, h.1.1)
 says_sent c r v k d past (Invoke x y z) h = absurd h.1.1
@@ -82,7 +82,7 @@ in_marks c h i m =
     let q = and_parts (nat_lt h i) (nat_le i (h + span c)) p.0 in
     (ltb-true h i q.0, leb-true i (h + span c) q.1, ltb-true i (2 ^ 48) p.1)
 
--- what proposes a batch is no checkpoint and no new view
+-- a message that proposes a batch is no checkpoint and no new view
 abbrev IsOther : Configuration → Body → Type 0
 IsOther c body = (checkpoint_from body ≡ None) × (new_view_from c body ≡ None)
 
@@ -105,7 +105,7 @@ proposed_in_marks c me v i batch past point e bytes sender (PrePrepare w number 
     subst (λ (n : ℕ). is_in_marks c (low c me past) n ≡ true) (eqb-true number i (and_parts (w == v) (number == i) q.0).1) m.in_marks
 proposed_in_marks c me v i batch past point e bytes sender _ say h = absurd cc
 
--- where a pre-prepare is logged, its number is in the marks
+-- if an entry logs a pre-prepare, the pre-prepare's number is in the marks
 entry_in_marks : (c : Configuration) (me v i : ℕ) (batch : List ℕ) (e : Entry) (past : List Entry) (point : Point) → May c me past point e → entry_proposal c me past e v i ≡ Some batch
     → is_in_marks c (low c me (e ∷ past)) i ≡ true
 entry_in_marks c me v i batch (Got p bytes) past point may h =

@@ -14,9 +14,9 @@ use Rattle.evidence.proofs.RefusingStepsAllowed.{allows_what_may_come}
 use Rattle.protocol.proofs.Words.Elements.{each_append}
 use Rattle.wire.specs.Lists.{Each}
 
--- ---- one schedule behind another
+-- ---- one schedule after another
 
--- what starts with an input, or is empty, may stand behind a frame of a faulty party
+-- entries may follow a faulty party's frame if they are empty or start with an input
 at_input : (entries later : List Entry) → AtInput entries → AtInput later → AtInput (entries ++ later)
 at_input [] later h i = i
 at_input (e ∷ entries) later h i = h
@@ -51,7 +51,7 @@ oldest_first outputs input trace = reverse-append outputs (input ∷ trace) ∙ 
     associates [] = refl
     associates (x ∷ xs) = ap (λ (ys : List Entry). x ∷ ys) (associates xs)
 
--- what a step with this input does from the world that the schedule has made, it does behind the schedule
+-- if a step takes this input in the world that the schedule makes, the step takes it after the schedule
 one_more : (c : Configuration) (steps : List Step) (step : Step) (input : Entry) (outputs trace : List Entry) (feeds : Feeds c steps trace) (next : World)
     → ((entries : List Entry) (v : World) → Goes c next [] entries v → Goes c feeds.0 (step ∷ []) (input ∷ entries) v)
     → is_output input ≡ false → AreOutputs outputs → Feeds c (steps ++ step ∷ []) (outputs ++ input ∷ trace)
@@ -81,7 +81,7 @@ ticks_are_fed c steps party outputs trace feeds correct are =
 
 -- ---- a frame of a faulty party
 
--- a step without an input goes behind the schedule
+-- a step without an input may follow the schedule
 no_input : (c : Configuration) (steps : List Step) (step : Step) (trace : List Entry) (feeds : Feeds c steps trace) (v : World)
     → Goes c feeds.0 (step ∷ []) [] v → Goes c new_world (steps ++ step ∷ []) (reverse trace) v
 no_input c steps step trace feeds v g =

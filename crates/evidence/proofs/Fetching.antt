@@ -1,4 +1,4 @@
--- The definitions accept a replica that is behind and fetches page after page, and it takes each.
+-- The definitions accept an out-of-date replica that fetches page after page, and the replica takes each page.
 use Rattle.std.proofs.Common.{◌≡◌, ◌≢◌, ℕ, zero, suc, ◌+◌, ◌*◌, ◌/◌, ◌%◌, ◌≤◌, ◌<◌, ◌⊎◌, inl, inr, Bool, true, false, cond, List, [], ◌∷◌, map, refl, sym, ap, ◌∙◌, subst, arith, Option, Some, None, slice_get, eqb-true, eq-eqb}
 use Rattle.std.specs.Prelude.{◌==◌, nat_lt}
 use Rattle.std.specs.Bool.{then_some}
@@ -132,7 +132,7 @@ module _ (clients : ℕ) (seed : List ℕ) (page : ℕ → List ℕ) (w : FetchF
   abbrev At : List Entry → Option (ℕ × (Level × ℕ)) → ℕ → Type 0
   At past asked k = Stage clients seed root past p3 asked k
 
-  -- What stands once the page n is asked for.
+  -- The facts after the replica asks for page n.
   pub record Asks (n : ℕ) (past : List Entry) : Type 0 where
     pub stage : At past (Some (16, (levels.Page, n))) 16
     pub proceeds : Proceeds c 0 past [] first_point first_point
@@ -141,7 +141,7 @@ module _ (clients : ℕ) (seed : List ℕ) (page : ℕ → List ℕ) (w : FetchF
     pub inner_got : Once (Hears c 0 (inner_given (n / 32))) past
     pub taken : (next : Option ℕ) (i : ℕ) → took c 0 next past i ≡ then_some (nat_lt i n) (page i)
 
-  -- What stands before it, once a part is got that counts.
+  -- The facts before the replica receives a part that counts.
   pub record Ready (n : ℕ) (before : List Entry) (bytes : List ℕ) : Type 0 where
     pub body : Body
     pub hears : heard (members c) 0 bytes ≡ Some body
@@ -156,7 +156,7 @@ module _ (clients : ℕ) (seed : List ℕ) (page : ℕ → List ℕ) (w : FetchF
     pub root_got : Once (Hears c 0 root_given) (Got 0 bytes ∷ before)
     pub taken : (i : ℕ) → took c 0 (Some 16) (Got 0 bytes ∷ before) i ≡ then_some (nat_lt i n) (page i)
 
-  -- ---- what is in place
+  -- ---- the pages in place
 
   pub here : (n : ℕ) (past : List Entry) → ((i : ℕ) → took c 0 (Some 16) past i ≡ then_some (nat_lt i n) (page i)) → (i : ℕ) → in_place c 0 16 past opening i ≡ with_first page n i
   here n past taken i =
@@ -427,7 +427,7 @@ module _ (clients : ℕ) (seed : List ℕ) (page : ℕ → List ℕ) (w : FetchF
   fewer : (n : ℕ) → AreDifferentPages page (suc n) → AreDifferentPages page n
   fewer n differ = record { differ = λ i l. differ.differ i (omega arith); pages_apart = λ i l. differ.pages_apart i (omega arith); parts_apart = λ i l. differ.parts_apart i (omega arith) }
 
-  -- the page behind the last of an inner part is the first of the next
+  -- the page after the last page of an inner part is the first page of the next part
   same_part : (n : ℕ) → (suc n % 32 == 0) ≡ false → n / 32 ≡ suc n / 32
   same_part n other = let inside : suc n % 32 ≡ 0 → ⊥ = eqb-false (suc n % 32) 0 other in omega (arith, inside)
 

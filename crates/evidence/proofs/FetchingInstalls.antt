@@ -183,7 +183,7 @@ module _ (clients : ℕ) (seed : List ℕ) (st : State) (w : FetchFrames) (n : �
 
 -- ---- the pages of a state
 
--- a state has no page behind its header
+-- a state has no page after its header
 none_behind : (st : State) (i : ℕ) → 512 < i → page_text st i ≡ []
 unfolding page_text
 none_behind st i l =

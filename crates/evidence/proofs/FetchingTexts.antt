@@ -1,5 +1,5 @@
--- Each page that a replica fetches adds itself alone to the texts whose digests must differ, and so does each that is
--- got behind any trace.
+-- Each page that a replica fetches adds only itself to the texts whose digests must differ.
+-- So does each page that the replica receives after any trace.
 use Rattle.std.proofs.Common.{◌≡◌, ℕ, zero, suc, ◌+◌, ◌/◌, ◌%◌, ◌<◌, ◌⊎◌, inl, inr, Bool, true, false, cond, List, [], ◌∷◌, ◌++◌, length, refl, sym, ap, ◌∙◌, subst, arith, Option, Some, None, eqb-true}
 use Rattle.std.specs.Prelude.{◌==◌}
 use Rattle.std.specs.Option.{option_map_or}
@@ -138,7 +138,7 @@ module _ (c : Configuration) (p : ℕ) (bytes : List ℕ) (trace : List Entry) w
   were_first k [] h = tt
   were_first k (b ∷ batches) h = (sym (same_batch k) ∙ h.0, were_first (k + 1) batches h.1)
 
-  -- what was a text is one still
+  -- an earlier text stays a text
   still_text : (x : List ℕ) → IsText c trace x → IsText c (Got p bytes ∷ trace) x
   still_text _ null = null
   still_text x (batch _ h) = batch x (inr h)

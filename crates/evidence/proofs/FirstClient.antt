@@ -23,7 +23,7 @@ use Rattle.evidence.specs.Examples.{four}
 use Rattle.evidence.specs.FirstOperation.{FirstFrames, AreFirstFrames, first_answer, first_trace}
 use Rattle.protocol.proofs.Words.Options.{some_injective}
 
--- how many are alike, from what is known of each replica's latest reply
+-- how many replies are alike, from the known facts on each replica's latest reply
 pub alike_of_four : (test : ℕ → Bool) (a b d e : Bool) → test 0 ≡ a → test 1 ≡ b → test 2 ≡ d → test 3 ≡ e
     → count_below test 4 ≡ count_below (λ s. cond (s == 0) a (cond (s == 1) b (cond (s == 2) d e))) 4
 alike_of_four test a b d e h i j k = rw (h, i, j, k) refl

@@ -29,7 +29,7 @@ use Rattle.evidence.specs.FirstOperation.{FirstFrames, AreFirstFrames, first_ans
 use Rattle.tuple_codec.proofs.SpelledBytes.{no_bytes, bytes_4}
 use Rattle.evidence.proofs.FirstFramesSealed.{MaySeal, sealed_length, sealed_spells, sealed_is_heard}
 
--- the answer to what is written into the empty space
+-- the answer to an operation on the empty space
 abbrev IsShort : Outcome → Type 0
 IsShort answer = IsOutcome answer × (length (outcome_spelling answer) ≤ 2)
 
@@ -102,7 +102,7 @@ others_few clients seed (suc (suc zero)) l = record { some = omega arith; few = 
 others_few clients seed (suc (suc (suc zero))) l = record { some = omega arith; few = omega arith; ascend = refl; parties = (omega arith, (omega arith, (omega arith, tt))) }
 others_few clients seed (suc (suc (suc (suc r)))) l = absurd (omega arith)
 
--- nobody is among the others
+-- a party is not among the others
 pub never_own : (me : ℕ) (xs : List ℕ) → Has (λ r. r ≡ me) (filter (λ r. not (r == me)) xs) → ⊥
 never_own me [] h = h
 never_own me (x ∷ xs) h = go (x == me) refl h (never_own me xs)

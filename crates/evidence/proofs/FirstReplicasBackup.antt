@@ -36,7 +36,7 @@ pub record IsOrder (me a b d e f : ℕ) : Type 0 where
   pub sender_d : IsSender me d
   pub sender_e : IsSender me e
   pub sender_f : IsSender me f
-  -- how many prepares and commits make what is prepared and committed
+  -- how many prepares and commits make a batch prepared and committed
   pub one_prepare : ready true (and_of none me) ≡ false
   pub two_prepares : ready true (and_of (and_of none me) a) ≡ true
   pub three_prepares : ready true (and_of (and_of (and_of none me) a) b) ≡ true
@@ -120,7 +120,7 @@ module _ (clients : ℕ) (seed : List ℕ) (op : Operation) (batch : List ℕ) (
   hears_proposal : heard (members c) me w.pre_prepare ≡ Some (proposes batch)
   hears_proposal = x.proposes.is_heard me (is_among me (others c 0) order.gets)
 
-  -- ---- what is certified
+  -- ---- the certificates
 
   abbrev At : List Entry → Bool → (ℕ → Bool) → (ℕ → Bool) → Type 0
   At past l p k = Stage clients seed batch me past l p k

@@ -25,7 +25,7 @@ use Rattle.evidence.proofs.FirstReplicasOwing.{IsUnanswered, ready, full, Due, o
 use Rattle.evidence.proofs.FirstReplicasSteps.{Part, is_among, gets_from, prepares, commits, replies, the_call, waits, ran, done, may_send, moves_quiet, moves_executed, after_number}
 use Rattle.protocol.proofs.Words.Options.{some_injective}
 
--- messages that are sent behind a pre-prepare
+-- messages that replicas send after a pre-prepare
 abbrev pub IsLater : Message → Type 0
 IsLater message = elim message [ PrePrepare v i b ↦ ⊥ | _ ↦ ⊤ ]
 
@@ -62,7 +62,7 @@ module _ (o : Part) where
   abbrev Owing : List Entry → List ℕ → List Entry → List Entry → Point → Point → Bool → Bool → (ℕ → Bool) → (ℕ → Bool) → (ℕ → Bool) → Type 0
   Owing before bytes outputs now old new l l' p p' k' = Due clients seed batch me before bytes outputs now old new l l' p p' k'
 
-  -- what a primary owes of what waits
+  -- a primary owes a number for each waiting request
   abbrev pub Numbers : List Entry → Point → Type 0
   Numbers now new = me ≡ 0 → (call : Call) → Has (λ y. y ≡ call) new.waiting → IsNumbered c me now 0 call.client call.timestamp
 
@@ -78,7 +78,7 @@ module _ (o : Part) where
   pub marked : (past : List Entry) → AllPlain c past → is_in_marks c (low c me past) 1 ≡ true
   marked past plain = (and_parts (is_active_in c past 0) (is_in_marks c (low c me past) 1) (active_here clients seed batch me past plain 0 1 refl)).1
 
-  -- ---- what is certified behind a message
+  -- ---- the certificates after a message
 
   pub behind_prepare : (past : List Entry) (r : ℕ) (p k : ℕ → Bool) → IsSender me r → not (r == 0) ≡ true → At past true p k → At (Got me (w.prepare r) ∷ past) true (and_of p r) k
   behind_prepare past r p k s backup st =
@@ -131,9 +131,9 @@ module _ (o : Part) where
   behind_execution past none (inl here) = here
   behind_execution past none (inr before) = none before
 
-  -- ---- what is due
+  -- ---- the obligations
 
-  -- what is said is no pre-prepare
+  -- a message other than a pre-prepare assigns no number
   pub no_pre_prepare : (past : List Entry) (bytes : List ℕ) (body : Body) → said bytes ≡ Some body → IsLater body.message → NumbersOnce c me past (Sent me bytes)
   no_pre_prepare past bytes body says later v i other batch_entry free =
       absurd (subst (λ (y : Body). IsLater y.message) (some_injective body (record { sender = me; message = PrePrepare v i other }) (sym says ∙ batch_entry)) later)
@@ -217,7 +217,7 @@ module _ (o : Part) where
       first_run n (inr (inl h)) = absurd h
       first_run n (inr (inr h)) = absurd h
 
-  -- ---- what is owed, from what is due
+  -- ---- what the replica owes, from the obligations
   pub owing : (before : List Entry) (bytes : List ℕ) (outputs now : List Entry) (old new : Point) (l l' : Bool) (p p' k k' : ℕ → Bool)
       → At before l p k → At now l' p' k' → Owing before bytes outputs now old new l l' p p' k' → Owes c me before (Got me bytes) outputs now old new
   owing before bytes outputs now old new l l' p p' k k' was is due = owes clients seed batch me before bytes outputs now old new l l' p p' k k' was is due

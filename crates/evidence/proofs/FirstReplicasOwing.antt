@@ -1,4 +1,4 @@
--- What a replica owes at an input of the first operation, from the facts before and behind the event.
+-- What a replica owes at an input of the first operation, from the facts before and after the event.
 use Rattle.std.proofs.Common.{◌≡◌, ◌≢◌, ℕ, suc, ◌+◌, ◌≤◌, ◌⊎◌, inl, inr, Bool, true, false, ◌&&◌, List, [], ◌∷◌, refl, sym, ap, ◌∙◌, subst, arith, Some, None, eqb-true}
 use Rattle.std.specs.Prelude.{◌==◌, ◌%◌, nat_le, ⊤}
 use Rattle.std.proofs.lemmas.Bool.{and_parts, leb-true, le-leb, false_from_ne_true}
@@ -131,8 +131,8 @@ module _ (clients : ℕ) (seed batch : List ℕ) (me : ℕ) where
 
   -- ---- an event
 
-  -- What is to be shown of it. l and l': whether the batch is logged before it and behind it; p and p': who prepared it
-  -- then; k': who committed it behind the event.
+  -- The proof obligations of an event. l and l' say whether the batch is logged before and after the event.
+  -- p and p' say who prepared the batch at these times. k' says who committed the batch after the event.
   pub record Due (before : List Entry) (bytes : List ℕ) (outputs now : List Entry) (old new : Point) (l l' : Bool) (p p' k' : ℕ → Bool) : Type 0 where
     pub body : Body
     pub hears : heard (members c) me bytes ≡ Some body

@@ -105,7 +105,7 @@ module _ (clients : ℕ) (seed : List ℕ) (op : Operation) (batch : List ℕ) (
   genuine : are_genuine c 0 batch ≡ true
   genuine = steps.genuine self
 
-  -- ---- what is certified
+  -- ---- the certificates
 
   abbrev At : List Entry → Bool → (ℕ → Bool) → (ℕ → Bool) → Type 0
   At past l p k = Stage clients seed batch 0 past l p k

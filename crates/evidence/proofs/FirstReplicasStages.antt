@@ -29,7 +29,7 @@ none s = false
 abbrev pub and_of : (ℕ → Bool) → ℕ → ℕ → Bool
 and_of p s r = p r || (r == s)
 
--- ---- on truth values and what is given
+-- ---- truth values and optional texts
 
 eq_flip : (a b : ℕ) → (a == b) ≡ (b == a)
 eq_flip a b = go (b == a) refl
@@ -50,13 +50,13 @@ nothing_if : (n : Bool) (o : Option (List ℕ)) → o ≡ None → cond n o None
 nothing_if true o h = h
 nothing_if false o h = refl
 
--- what counts wherever it is given at all
+-- a value that is given only if it counts needs no test whether it counts
 counted : (n b : Bool) (d : List ℕ) → (b ≡ true → n ≡ true) → cond n (then_some b d) None ≡ then_some b d
 counted true b d h = refl
 counted false false d h = refl
 counted false true d h = let bad : false ≡ true = h refl in absurd cc
 
--- a vote's tests in the one order and in the other
+-- a vote's tests in either order
 ordered_tests : (a b t q : Bool) (d : List ℕ) → (a ≡ true → b ≡ true → q ≡ true) → then_some (a && b && t && q) d ≡ then_some ((b && t) && a) d
 ordered_tests true true true true d h = refl
 ordered_tests true true true false d h = let bad : false ≡ true = h refl refl in absurd cc
@@ -85,7 +85,7 @@ module _ (clients : ℕ) (seed batch : List ℕ) (me : ℕ) where
   abbrev c : Configuration
   c = four clients seed
 
-  -- Whether the batch is logged, and whose prepares and commits of it count. Nothing else is, and nothing is begun,
+  -- Whether the batch is logged, and whose prepares and commits count for it. Nothing else is, and nothing is begun,
   -- changed or stable.
   pub record Stage (past : List Entry) (l : Bool) (p k : ℕ → Bool) : Type 0 where
     pub plain : AllPlain c past
@@ -126,7 +126,7 @@ module _ (clients : ℕ) (seed batch : List ℕ) (me : ℕ) where
   gives_none past e body x v i vote h =
       nothing_if (counts_at c me past e v i) (option_and_then vote (brought c e)) (ap (option_and_then vote) x.brings ∙ h)
 
-  -- ---- the facts behind an entry
+  -- ---- the facts after an entry
 
   log_next : (past : List Entry) (e : Entry) (v i : ℕ) → logged c me (e ∷ past) v i ≡ or_else (logged c me past v i) (proposal c me past e v i)
   unfolding logged

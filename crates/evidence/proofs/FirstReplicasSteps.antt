@@ -140,7 +140,7 @@ module _ (o : Part) where
   moves_request =
       sym (ap (point_of opening []) (ap (λ (body : Option Body). option_map_or (with_waiting opening []) (option_and_then (call_in c) body) []) hears_request ∙ ap (λ (call : Option Call). option_map_or (with_waiting opening []) call []) calls))
 
-  -- what is no request changes nothing that waits
+  -- a message other than a request changes no waiting request
   pub moves_quiet : (st : State) (rans : List Ran) (waiting : List Call) (bytes : List ℕ) (body : Body) → heard (members c) me bytes ≡ Some body → call_in c body ≡ None
       → point_of st [] waiting ≡ record (point_of st rans waiting) { ran = []; waiting = waiting_after c me (point_of st rans waiting) bytes }
   moves_quiet st rans waiting bytes body h none =
@@ -165,7 +165,7 @@ module _ (o : Part) where
       waiting : still_waiting (after c batch) (the_call op ∷ []) ≡ []
       waiting = ap (λ (t : ℕ). cond (nat_lt t 1) (the_call op ∷ []) []) after_time
 
-  -- ---- what is sent
+  -- ---- what the replica sends
 
   pub may_send : (past : List Entry) (point : Point) (bytes : List ℕ) (message : Message) (receivers : List ℕ) → IsFrom c me message receivers bytes
       → ((rs : List ℕ) → rs ≡ receivers → IsFor c me past message rs) → Each (λ frame. Once (HasSeen frame) past) (carried message)

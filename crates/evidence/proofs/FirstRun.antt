@@ -1,4 +1,4 @@
--- The first operation is a run, once its replicas' histories are replicas', and no message of it is forged.
+-- The first operation is a run, once its replicas' histories are replicas', and none of its messages is forged.
 use Rattle.std.proofs.Common.{◌≡◌, ℕ, ◌+◌, ◌≤◌, ◌<◌, Bool, true, false, not, cond, List, [], ◌∷◌, inl, inr, Some, Option, refl, sym, ap, subst, ◌∙◌, arith, ◌&&◌, ◌||◌, eqb-true}
 use Rattle.std.specs.Prelude.{◌==◌, nat_lt, nat_le, map, reverse}
 use Rattle.std.specs.List.{list_all, list_any}
@@ -110,7 +110,7 @@ pub first_operation_is_run :
     → FirstOperationIsRun
 first_operation_is_run replica clients seed op batch w setting x = is_run clients seed op batch w setting x (replica clients seed op batch w setting x)
 
--- ---- each frame that was got was sent before, and so was what it carries
+-- ---- each received frame is sent before, and so is each frame that it carries
 
 abbrev is_send : ℕ → Move → Bool
 is_send n (sends m) = m == n
@@ -162,7 +162,7 @@ module _ (clients : ℕ) (seed : List ℕ) (op : Operation) (batch : List ℕ) (
   from_senders me past [] h = tt
   from_senders me past (n ∷ ns) h = let k = and_parts (was_sent past n) (list_all (was_sent past) ns) h in (from_sender me n past k.0, from_senders me past ns k.1)
 
-  -- what is got was sent, with what it carries
+  -- each received frame is sent before, and so is each frame that it carries
   abbrev is_after : List Move → Move → Bool
   is_after past (gets p n) = was_sent past n && list_all (was_sent past) (the n).carries
   is_after past _ = true

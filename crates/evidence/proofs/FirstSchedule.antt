@@ -21,7 +21,7 @@ use Rattle.evidence.proofs.FirstScheduleMoves.{is_known, known_correct, Row, Mov
 use Rattle.evidence.proofs.FirstScheduleMoves.Move.{asks, sends, gets, runs, accepts}
 use Rattle.wire.specs.Lists.{Each}
 
--- ---- what comes next where all receivers are correct
+-- ---- what comes next if all receivers are correct
 
 abbrev next_to : List (ℕ × ℕ) → ℕ → List ℕ → Option (ℕ × ℕ)
 next_to delivered frame [] = None
@@ -44,7 +44,7 @@ module _ (c : Configuration) (delivered : List (ℕ × ℕ)) (correct : (p : ℕ
   next_known frame [] h = refl
   next_known frame (made ∷ frames) h = rw (next_to_known frame made.receivers h.0, next_known (suc frame) frames h.1) refl
 
--- ---- what is made is a frame for its receivers
+-- ---- each frame that is made is for its receivers
 
 meant : (c : Configuration) (sender : ℕ) (authenticator : Authenticator) (entries : List MacData) (receivers : List ℕ) → authenticator ≡ macs entries → receivers_of authenticator ≡ receivers
     → meant_for c sender authenticator ≡ receivers
@@ -121,7 +121,7 @@ module _ (clients : ℕ) (seed : List ℕ) (op : Operation) (batch : List ℕ) (
   goes ns delivered (accepts ∷ ms) = goes ns delivered ms
   goes ns delivered (asks ∷ ms) = false
 
-  -- what is pending is what comes next of these frames
+  -- the pending frame is the next one among these frames
   pending_is : (ns : List ℕ) (delivered : List (ℕ × ℕ)) (u : World) → u.frames ≡ map made ns → u.delivered ≡ delivered
       → pending c u ≡ next_of delivered 0 (map made ns)
   pending_is ns delivered u f d = rw (f, d) (next_known c delivered correct 0 (map made ns) (known_frames ns))

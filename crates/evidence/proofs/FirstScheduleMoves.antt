@@ -1,5 +1,5 @@
--- The first operation as moves of frames by number, in the order in which they were sent, so that what is to be
--- shown of each of its entries is computed.
+-- The first operation as moves of frames. The frames have numbers, in the order in which the parties send them.
+-- Thus computation proves the conditions on each entry.
 use Rattle.std.proofs.Common.{◌≡◌, ℕ, zero, suc, ◌+◌, ◌≤◌, ◌<◌, Bool, true, false, List, [], ◌∷◌, refl, subst, arith, ◌||◌, eqb-true}
 use Rattle.std.specs.Prelude.{◌==◌, get_or, map, reverse}
 use Rattle.std.specs.List.{list_all, range_with_len}

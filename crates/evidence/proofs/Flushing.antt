@@ -1,4 +1,4 @@
--- A flush delivers the first frame that is left to the first receiver that it is left for, and ends where none is left.
+-- A flush delivers the first frame that is left to the first receiver that it is left for, and ends if none is left.
 use Rattle.std.proofs.Common.{◌≡◌, ℕ, zero, suc, ◌+◌, ◌<◌, inl, inr, Bool, true, false, not, cond, List, [], ◌∷◌, slice_get, refl, sym, ap, ◌∙◌, subst, arith, ◌&&◌, Option, Some, None, eqb-true}
 use Rattle.std.specs.Prelude.{◌==◌}
 use Rattle.std.proofs.lemmas.Bool.{and_parts, eq-eqb, or_right}
@@ -15,7 +15,7 @@ use Rattle.evidence.specs.Fed.{IsNext, with_delivery, FlushDeliversNext, FlushDe
 use Rattle.protocol.proofs.Words.Options.{some_injective}
 use Rattle.protocol.proofs.Words.Elements.{some_of_has}
 
--- ---- the test of what is left
+-- ---- the test whether a delivery is left
 
 abbrev pub left : Configuration → List (ℕ × ℕ) → ℕ → ℕ → Bool
 left c d frame q = is_correct c q && not (is_delivered d frame q)
@@ -177,7 +177,7 @@ module _ (c : Configuration) (d : List (ℕ × ℕ)) where
       ap (λ (o : Option (ℕ × ℕ)). or_else o (next_pair c d (suc k) frames)) (subst (λ (n : ℕ). next_receiver c d n x.receivers ≡ None) zeroth (h 0 x refl))
       ∙ no_frame (suc k) frames (λ m other at. let more : k + suc m ≡ suc k + m = omega arith in subst (λ (n : ℕ). next_receiver c d n other.receivers ≡ None) more (h (suc m) other at))
 
--- ---- what is pending is what is next
+-- ---- the pending frame is the next frame
 
 pub pending_next : (c : Configuration) (w : World) (frame party : ℕ) → pending c w ≡ Some (frame, party) → (made : Made) × IsNext c w frame party made
 pending_next c w frame party h =

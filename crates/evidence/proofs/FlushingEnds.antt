@@ -42,7 +42,7 @@ module _ (c : Configuration) (d : List (ℕ × ℕ)) (x : ℕ × ℕ) where
   all_fewer k [] = omega arith
   all_fewer k (made ∷ frames) = omega (arith, receivers_fewer k made.receivers, all_fewer (suc k) frames)
 
-  -- one less, where it is delivered next
+  -- if a frame is delivered next, it has fewer receivers left
   receivers_less : (frame : ℕ) (rs : List ℕ) → next_receiver c d frame rs ≡ Some x → receivers_left c (x ∷ d) frame rs < receivers_left c d frame rs
   receivers_less frame [] h = absurd cc
   receivers_less frame (q ∷ rs) h = go (left c d frame q) refl h (receivers_less frame rs)

@@ -17,7 +17,7 @@ use Rattle.protocol.proofs.Agreement.Voting.{logged_stays}
 use Rattle.evidence.proofs.Certifying.{logs_what_begins}
 use Rattle.signing.proofs.Heard.{heard_was_opened}
 
--- ---- what is there
+-- ---- values that are there
 
 has_value : (o : Option (List ℕ)) → is_some o ≡ true → (x : List ℕ) × (o ≡ Some x)
 has_value None h = absurd cc
@@ -73,7 +73,7 @@ entry_next c me v i batch (Executed x y z) past point own party may h none = abs
 entry_next c me v i batch (Installed x y z) past point own party may h none = absurd cc
 entry_next c me v i batch (Accepted x y z) past point own party may h none = absurd cc
 
--- what a new view has for a number, it has for each between its start and that
+-- if a new view has a batch for a number, it has one for each number between its start and that number
 begun_between : (c : Configuration) (v i j : ℕ) (new : NewViewData) (batch : List ℕ) → batch_begun v i new ≡ Some batch → new.start < j → j < i → (x : List ℕ) × (batch_begun new.view j new ≡ Some x)
 begun_between c v i j new batch h above below =
     let p : Proposes c v i new = proposes c v i new batch h in

@@ -1,4 +1,4 @@
--- The definitions accept a replica that is behind and installs the others' state.
+-- The definitions accept an out-of-date replica that installs the others' state.
 use Rattle.std.proofs.Common.{◌≡◌, ℕ, inl, inr, Bool, true, false, List, [], ◌∷◌, refl, sym, ap, ◌∙◌, subst, arith, Option, Some, None, eqb-true}
 use Rattle.std.specs.Prelude.{◌==◌, option_and_then}
 use Rattle.sha2.specs.Sha256.{sha256}
@@ -156,7 +156,7 @@ module _ (clients : ℕ) (seed : List ℕ) (w : InstallFrames) (differ : IsHeade
   installed : IsInstalled c 0 h9 first_point 16 root last_point
   installed = record { is_state = is_state; number = refl; root_is = refl; pages = λ i l. held i; snapshots = refl; ran = refl; waiting = refl }
 
-  -- ---- what is asked for
+  -- ---- what the replica asks for
 
   s4 : Stage clients seed root h4 p3 (Some (16, (levels.Root, 0))) 16
   s4 = stage_fetch clients seed root h3 w.fetch_root 0 levels.Root p3 None 0 s3 refl (omega arith) f.asks_root.says

@@ -35,7 +35,7 @@ use Rattle.protocol.proofs.Words.Plain.{Plain, low_same, taken_none}
 
 -- ---- a signed frame is sealed, and for all
 
--- what makes a frame sealed, of one authenticator
+-- the condition on one authenticator of a sealed frame
 abbrev IsSealedBy : Configuration → Frame → Authenticator → Type 0
 IsSealedBy c frame (macs entries) = All (λ x. x.mac ≡ mac_of c.seed x.receiver frame.body) entries
 IsSealedBy c frame (signature s) = has_signature c.seed frame ≡ true
@@ -92,7 +92,7 @@ module _ (clients : ℕ) (seed : List ℕ) (me one other : ℕ) (first second ow
     pub says : said own ≡ Some (changing me)
     says = signed_said c own (changing me) z
 
-    -- a view change that is got changes neither view nor low mark
+    -- a view change that the replica receives changes neither view nor low mark
     plain : (past : List Entry) (s : ℕ) (bytes : List ℕ) → s ≢ me → ChangesInBeginning c s bytes → Plain c past (Got me bytes)
     plain past s bytes other is = record {
       view = ap (option_and_then (new_view_from c)) (hears s bytes other is);
@@ -156,7 +156,7 @@ module _ (clients : ℕ) (seed : List ℕ) (me one other : ℕ) (first second ow
     numbers_none v i batch is fresh = absurd (
         subst (λ (b : Body). IsOfChange b.message) (some_injective (changing me) (record { sender = me; message = PrePrepare v i batch }) (sym says ∙ is)) tt)
 
-    -- ---- what is sent
+    -- ---- what the replica sends
 
     no_batch_entries : IsPreparedList c me h2 []
     no_batch_entries = record {
@@ -261,7 +261,7 @@ module _ (clients : ℕ) (seed : List ℕ) (me one other : ℕ) (first second ow
           omega arith;
     }
 
-    -- ---- what is owed
+    -- ---- what the replica owes
 
     -- one alone is not enough
     only_one : (s : ℕ) → is_ahead c me h1 s ≡ true → s ≡ one

@@ -63,7 +63,7 @@ no_checkpoint sender (NewView new) h = refl
 no_checkpoint sender (Prepare w k digest) h = refl
 no_checkpoint sender _ h = absurd h
 
--- what is no checkpoint brings none
+-- a message other than a checkpoint brings no checkpoint
 pub brings_no_checkpoint : (c : Configuration) (e : Entry) (body : Body) → brought c e ≡ Some body → IsNoProposal body.message → checkpoint_in c e ≡ None
 brings_no_checkpoint c e body is h = ap (option_and_then checkpoint_from) is ∙ no_checkpoint body.sender body.message h
 
@@ -71,7 +71,7 @@ pub same_checkpoints : (c : Configuration) (past : List Entry) (e : Entry) (body
 same_checkpoints c past e body is h s =
     checkpoints_next c past e s ∙ ap (λ (o : Option (ℕ × CheckpointEntry)). with_checkpoint s o (checkpoints_of c past s)) (brings_no_checkpoint c e body is h)
 
--- what is no pre-prepare logs at most what a new view begins with
+-- a message other than a pre-prepare logs at most the batches that a new view begins with
 entry_none : (c : Configuration) (me : ℕ) (past : List Entry) (e : Entry) (body : Body) → brought c e ≡ Some body → IsNoProposal body.message → (v i : ℕ) → entry_proposal c me past e v i ≡ None
 entry_none c me past e body is h v i =
     none_if (counts_at c me past e v i) (option_and_then (batch_from c me v i) (brought c e)) (ap (option_and_then (batch_from c me v i)) is ∙ no_batch c me v i body.sender body.message h)
@@ -82,7 +82,7 @@ logs_begun c me past e body is h v i =
     log_next c me past e v i
     ∙ ap (or_else (logged c me past v i)) (ap (or_else (begun_proposal c me past e v i)) (entry_none c me past e body is h v i) ∙ or_else_alone (begun_proposal c me past e v i) None refl)
 
--- nothing, where no new view is taken
+-- such a message logs nothing if the replica takes no new view
 pub logs_nothing : (c : Configuration) (me : ℕ) (past : List Entry) (e : Entry) (body : Body) → brought c e ≡ Some body → IsNoProposal body.message → taken c past e ≡ None → (v i : ℕ)
     → logged c me (e ∷ past) v i ≡ logged c me past v i
 logs_nothing c me past e body is h none v i =
@@ -97,7 +97,7 @@ no_call c sender (ViewChange vc) h = refl
 no_call c sender (NewView new) h = refl
 no_call c sender _ h = absurd h
 
--- nothing waits behind it
+-- no request waits after a message of a view change
 pub moves_nothing : (c : Configuration) (me : ℕ) (bytes : List ℕ) (body : Body) → heard (members c) me bytes ≡ Some body → IsOfChange body.message
     → first_point ≡ record first_point { ran = []; waiting = waiting_after c me first_point bytes }
 moves_nothing c me bytes body hears is =
@@ -105,9 +105,9 @@ moves_nothing c me bytes body hears is =
     (sym (ap (λ (o : Option Body). option_map_or (with_waiting opening []) (option_and_then (call_in c) o) []) hears
     ∙ ap (λ (o : Option Call). option_map_or (with_waiting opening []) o []) (no_call c body.sender body.message is)))
 
--- ---- what is owed
+-- ---- what the replica owes
 
--- What is to be shown of the event, where nothing is executed and the point stays the first.
+-- The proof obligations of an event in which the replica executes nothing and keeps its first point.
 pub record Due (c : Configuration) (me : ℕ) (before : List Entry) (bytes : List ℕ) (outputs now : List Entry) : Type 0 where
   pub body : Body
   pub hears : heard (members c) me bytes ≡ Some body
@@ -157,7 +157,7 @@ module _ (clients : ℕ) (seed : List ℕ) (me : ℕ) where
     dropped = λ other is drops. due.dropped (subst (λ (bs : List ℕ). IsDropped c me before first_point bs) (sym (same_bytes other is)) drops);
   }
     where
-      -- what is heard is of a view change
+      -- the message that the replica receives is of a view change
       only : (other : Body) → heard (members c) me bytes ≡ Some other → IsOfChange other.message
       only other asks = subst (λ (b : Body). IsOfChange b.message) (some_injective due.body other (sym due.hears ∙ asks)) due.of_change
 

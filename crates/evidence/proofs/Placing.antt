@@ -22,7 +22,7 @@ pub pages_same : (f g : ℕ → List ℕ) → ((i : ℕ) → f i ≡ g i) → al
 unfolding all_pages
 pages_same f g same = map_same f g (range_with_len 0 1024) same
 
--- what is no page takes none
+-- a replica takes no page from a message other than a page
 abbrev pub IsNoPage : Message → Type 0
 IsNoPage message = elim message [ Page k i text ↦ ⊥ | _ ↦ ⊤ ]
 
@@ -31,7 +31,7 @@ others_take_none c me k i past bytes body h none =
     Taken.others_are_left c me k i past bytes
     (λ sender text hears asked. subst IsNoPage (ap (λ (b : Body). b.message) (some_injective body (record { sender = sender; message = Page k i text }) (sym h ∙ hears))) none)
 
--- where nothing was taken the state's own page is in place, else what was taken
+-- If the replica has taken no page, the state's own page is in place. Otherwise the page that it has taken is in place.
 pub own_in_place : (c : Configuration) (me k i : ℕ) (past : List Entry) (st : State) → took c me (Some k) past i ≡ None → in_place c me k past st i ≡ page_text st i
 own_in_place c me k i past st none = ap (λ (o : Option (List ℕ)). option_map_or (λ text. text) o (page_text st i)) none
 

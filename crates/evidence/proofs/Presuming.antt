@@ -225,7 +225,7 @@ runs_take_calls c valid trace run k op correct right none =
     run_goes_on c (Invoke k (suc (last_call (history_of (256 + k) trace))) op) trace run (correct_client_is c k correct) refl
     (λ q is h was. absurd (not_both c valid k q is h)) (λ q is h was. inr (is, call_may trace k q op is right none, was))
 
--- ---- what may be got in an unforged trace
+-- ---- frames that a party may receive in an unforged trace
 
 pub others_are_unforged : OthersAreUnforged
 others_are_unforged c (Got p bytes) trace unforged other = absurd (other p bytes refl)
@@ -236,7 +236,7 @@ others_are_unforged c (Accepted x y z) trace unforged other = (tt, unforged)
 others_are_unforged c (Installed p k root) trace unforged other = (tt, unforged)
 others_are_unforged c (Executed p k b) trace unforged other = (tt, unforged)
 
--- a frame that may be got is its sender's
+-- if a party may receive a frame from a correct sender, the sender has sent its message
 taken_was_sent : (c : Configuration) (past : List Entry) (o : Option Body) → MayBeTaken c past o → (body : Body) → o ≡ Some body
     → is_correct c body.sender ≡ true → Once (SendsBody body) past
 taken_was_sent c past None h body is correct = absurd cc
@@ -267,7 +267,7 @@ faulty_hear_anything c me bytes trace unforged faulty = (λ correct. let bad : f
 
 -- ---- the texts whose digests must differ
 
--- what is under the pages of the opening state
+-- the texts under the pages of the opening state
 under_opening : (page : ℕ → List ℕ) (text : List ℕ) → ((i : ℕ) → i < 1024 → page i ≡ page_text opening i) → IsUnder page text → IsOpeningText text
 under_opening page _ same (inner j l) =
     inr (inr (j, l, ap (λ (pages : List (List ℕ)). concat (page_digests pages j)) (same_all page (page_text opening) same)))

@@ -48,7 +48,7 @@ use Rattle.protocol.proofs.Words.Elements.{has_of_any, every_has, has_some}
 use Rattle.protocol.proofs.Words.Posting.{leaf_by}
 use Rattle.protocol.specs.System.Frames.{leaf_in}
 
--- what the newest frame says, a right replica may say
+-- a right replica may say what its newest frame says
 pub says_may : (c : Configuration) (me : ℕ) (bytes : List ℕ) (body : Body) (past : List Entry) (right : SafeReplica c me (Sent me bytes ∷ past)) → said bytes ≡ Some body
     → MaySay c me past right.1.0 (Sent me bytes) bytes body.message
 says_may c me bytes body past right h =
@@ -283,7 +283,7 @@ no_change_while_active c me bytes vc past says before active right = go (says_ma
         omega arith
     go (inr again) = let a = again.0 in omega arith
 
--- ---- what is answered with
+-- ---- the answers
 
 pub gives_kept_digests : GivesKeptDigests
 gives_kept_digests c me k index level digests bytes past says none right =
@@ -325,7 +325,7 @@ replies_what_ran c me client timestamp number answer bytes past says none right 
         same ran (y ∷ ys) (inr h) = inr (same ran ys h)
     go (inr h) = (none right.1.0 right.1.1 h.0 h.1 (is_reply client timestamp number answer h.0 h.1 h.3)).1 h.2
 
--- ---- what is dropped
+-- ---- dropped messages
 
 record Owed (c : Configuration) (me : ℕ) (bytes : List ℕ) (past outputs : List Entry) : Type 0 where
   old : Point
@@ -337,7 +337,7 @@ owed_here : (c : Configuration) (me : ℕ) (bytes later : List ℕ) (past : List
 owed_here c me bytes later past (inl h) = record { old = _; new = _; now = _; owes = h.1.2.2.0 }
 owed_here c me bytes later past (inr h) = absurd h.1
 
--- an output belies that the input is dropped
+-- if the replica gives an output, it has not dropped the input
 not_dropped : (c : Configuration) (me : ℕ) (bytes later : List ℕ) (past : List Entry) (body : Body) → heard (members c) me bytes ≡ Some body → IsReplica c me (Sent me later ∷ Got me bytes ∷ past)
     → ((point : Point) → Counts c me past point bytes body.sender body.message → ⊥) → ⊥
 not_dropped c me bytes later past body hears h never =
@@ -385,7 +385,7 @@ fetches_above c me k index level bytes past says below right =
 
 -- ---- whom a frame is for
 
--- what makes a frame sealed, of one authenticator
+-- the condition on one authenticator of a sealed frame
 abbrev IsSealedBy : Configuration → Frame → Authenticator → Type 0
 IsSealedBy c frame (macs entries) = All (λ x. x.mac ≡ mac_of c.seed x.receiver frame.body) entries
 IsSealedBy c frame (signature s) = has_signature c.seed frame ≡ true
@@ -415,7 +415,7 @@ signs_once_by_leaf c me leaf bytes sent s t frame other past is by was earlier b
     let m : MaySend c me past right.1.0 (Sent me bytes) bytes = right.1.2.may in
     m.leaf leaf sent (leaf_by bytes frame (Some leaf) is (ap leaf_in by)) (leaf_by sent other (Some leaf) was (ap leaf_in earlier)) before
 
--- what stands between are outputs of one event
+-- a frame is sent in the current event if only outputs come after it
 sent_here : (bytes : List ℕ) (me : ℕ) (outputs past : List Entry) → AreOutputs outputs → SentInEvent bytes (outputs ++ Sent me bytes ∷ past)
 sent_here bytes me [] past are = inl refl
 sent_here bytes me (e ∷ outputs) past are = rw are.0 (inr (sent_here bytes me outputs past are.1))

@@ -37,7 +37,7 @@ module _ (c : Configuration) (setting : IsConfiguration c) where
       let b = frames_grow k (run_frame c k st frame) frames cl (frame_full k st frame full) in
       omega arith
 
-  -- a request's timestamp is not above the last behind it
+  -- after a request's frame, its client's last timestamp is at least the request's
   ran_time : (k : ℕ) (st : State) (frame : List ℕ) (call : Call) → Full st → call_of c frame ≡ Some call → call.timestamp ≤ last_time (run_frame c k st frame) call.client
   ran_time k st frame call full is =
       subst (λ (o : Option Call). call.timestamp ≤ last_time (option_map_or (run_call st k) o st) call.client) (sym is) (go (runs st call) refl)

@@ -102,7 +102,7 @@ drops_passed_requests c me k timestamp op bytes past passed a =
 
 -- ---- ordering messages
 
--- what a message gives at a place, it gives while active there and in the marks
+-- a message gives a value for a number only while the view is active and the number is in the marks
 record Given (c : Configuration) (me : ℕ) (past : List Entry) (v i : ℕ) (body : Body) (give : Body → Option (List ℕ)) (given : List ℕ) : Type 0 where
   active : is_active_in c past v ≡ true
   in_marks : is_in_marks c (low c me past) i ≡ true
@@ -257,7 +257,7 @@ pub drops_unbound_changes : DropsUnboundChanges
 drops_unbound_changes c me s vc bytes past unbound a =
     answered c me s (ViewChange vc) bytes past a (λ point leaves counts. absurd (let bad : false ≡ true = sym unbound ∙ counts.1 in cc))
 
--- one that was got counts from then on, or its view was no news
+-- a received view change's view is at most the sender's latest known view or the replica's view
 got_counts : (c : Configuration) (s : ℕ) (vc : ViewChangeData) (x : List Entry) (e : Entry) → GotChange c s vc x e → vc.view ≤ max (latest_change c (e ∷ x) s) (view c (e ∷ x))
 got_counts c s vc x (Got p sent) t =
     let grows = view_grows c (Got p sent) x in

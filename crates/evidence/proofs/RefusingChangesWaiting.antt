@@ -44,7 +44,7 @@ each_kept P test (x ∷ xs) h = go (test x) (each_kept P test xs h.1)
     go true below = (h.0, below)
     go false below = below
 
--- ---- a request that is got
+-- ---- the replica receives a request
 
 newest_of : (calls : List Call) (call : Call) → Each (λ (x : Call). x.client ≡ call.client → x.timestamp < call.timestamp) calls → list_all (is_newer call) calls ≡ true
 newest_of [] call h = refl
@@ -126,7 +126,7 @@ waits_over_frames c me call bytes past waits point leaves =
 still : (st : State) (waiting : List Call) (call : Call) → last_time st call.client < call.timestamp → Has (λ x. x ≡ call) waiting → Has (λ x. x ≡ call) (still_waiting st waiting)
 still st waiting call above h = has_filtered (λ (x : Call). nat_lt (last_time st x.client) x.timestamp) waiting call (lt-ltb (last_time st call.client) call.timestamp above) h
 
--- what waits behind an entry that is no frame
+-- the waiting requests after an entry other than a received frame
 waiting_behind : (c : Configuration) (me : ℕ) (past : List Entry) (old : Point) (e : Entry) (new : Point) → is_other e ≡ true → May c me past old e → Moves c me past old e new
     → (new.waiting ≡ old.waiting) ⊎ (new.waiting ≡ still_waiting new.state old.waiting)
 waiting_behind c me past old (Got p bytes) new is may move = absurd cc
@@ -144,7 +144,7 @@ waits_until_run c me call e past is waits point leaves above = go (waiting_behin
     go (inl same) h = subst (λ (calls : List Call). Has (λ x. x ≡ call) calls) (sym same) h
     go (inr same) h = subst (λ (calls : List Call). Has (λ x. x ≡ call) calls) (sym same) (still point.state leaves.0.waiting call above h)
 
--- ---- what waits has not run
+-- ---- waiting requests have not run
 
 abbrev AllNew : State → List Call → Type 0
 AllNew st waiting = Each (λ (call : Call). last_time st call.client < call.timestamp) waiting

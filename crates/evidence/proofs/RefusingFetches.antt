@@ -13,7 +13,7 @@ use Rattle.protocol.specs.Replica.RightReplica.{MayFetch, SafeReplica, IsAskedAg
 use Rattle.evidence.specs.Refused.{FetchesNewest, FetchesOnce, FetchesWhatIsTold, FetchesWhatDiffers}
 use Rattle.evidence.proofs.Refusing.{says_may}
 
--- what a fetch that was sent had to be
+-- if a right replica sends a fetch, the replica may send that fetch
 may_fetch : (c : Configuration) (me k index : ℕ) (level : Level) (bytes : List ℕ) (past : List Entry) → said bytes ≡ Some (record { sender = me; message = Fetch k level index })
     → (right : SafeReplica c me (Sent me bytes ∷ past)) → MayFetch c me past right.1.0 k level index
 may_fetch c me k index level bytes past says right = says_may c me bytes (record { sender = me; message = Fetch k level index }) past right says

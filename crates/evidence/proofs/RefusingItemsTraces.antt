@@ -116,7 +116,7 @@ module _ (c : Configuration) (writer reader : ℕ) (t : TupleTree) (p : Template
       by (inl e) = let g : out t ≡ upgrade = sym e.0.2 ∙ is in absurd cc
       by (inr l) = let g : rdp p ≡ upgrade = sym l.0.2 ∙ is in absurd cc
 
-  -- what the write leaves
+  -- the contents after the write
   abbrev written : Contents
   written = tuples_after no_tuples 0 (out t)
 
@@ -160,7 +160,7 @@ module _ (c : Configuration) (writer reader : ℕ) (t : TupleTree) (p : Template
         ∙ ap (λ (b : Bool). cond (b || false) refused (served_outcome alone (rdp p))) plain_read
         ∙ ap (λ (b : Bool). found_or_absent (if b then Some t else None)) matches
 
-    -- behind the write alone, reads find it
+    -- after the write alone, reads find the tuple
     after_write : (items : List Item) → ((x : Item) → Has (λ y. y ≡ x) items → Late x) → LegalFrom written items → Has Misses items → ⊥
     after_write [] each legal has = has
     after_write (x ∷ items) each legal (inl misses) =
@@ -232,7 +232,7 @@ module _ (c : Configuration) (writer reader : ℕ) (t : TupleTree) (p : Template
   abbrev IsAccepted : Item → Type 0
   IsAccepted x = (x.client ≡ 256 + reader) × (x.timestamp ≡ 1) × (x.answer ≡ found t) × Once (Invokes (256 + reader) 1 x.op) early
 
-  -- of what is read from the empty space nothing is found, and no write is before it
+  -- a read of the empty space finds nothing, and no write precedes the read
   finds_none : (items : List Item) → ((x : Item) → Has (λ y. y ≡ x) items → Writes x ⊎ Reads x) → NeverFall items → LegalFrom no_tuples items → Has Finds items → ⊥
   finds_none [] each order legal has = has
   finds_none (x ∷ items) each order legal has =

@@ -188,7 +188,7 @@ ordered n (suc i) (suc j) (x ∷ xs) a b r less first second = let l : i < j = o
 
 -- ---- parts of states
 
--- what is kept is at or above the low mark, where what holds of the snapshots holds too
+-- Each kept state is at or above the low mark. A property of all snapshots also holds of each kept state.
 kept_above : (P : State → Type 0) (low_mark : ℕ) (snapshots : List State) → Each P snapshots → Each (λ (st : State). (low_mark ≤ st.number) × P st) (kept_states low_mark snapshots)
 kept_above P low_mark snapshots e = each_filtered P (λ (st : State). (low_mark ≤ st.number) × P st) (λ (st : State). nat_le low_mark st.number) (λ st t p. (leb-true low_mark st.number t, p)) snapshots e
 
@@ -217,7 +217,7 @@ gives_no_low_pages c me k index text bytes past says right =
 pub changes_from_low_mark : ChangesFromLowMark
 changes_from_low_mark c me vc bytes past sends = let change = new_change c me vc bytes past sends in change.low
 
--- what holds of the snapshots' numbers holds of the listed ones, and each is at or above the low mark
+-- each checkpoint that a view change lists is at or above its low mark and has a snapshot
 listed : (c : Configuration) (me : ℕ) (vc : ViewChangeData) (bytes : List ℕ) (past : List Entry) (sends : SendsNewChange c me vc bytes past) (checkpoint : CheckpointEntry) → Has (λ x. x ≡ checkpoint) vc.checkpoints
     → (vc.low ≤ checkpoint.number) × HasSnapshot c checkpoint.number past
 listed c me vc bytes past sends checkpoint has =

@@ -22,9 +22,9 @@ below_has n checkpoint [] h has = absurd has
 below_has n checkpoint (m ∷ checkpoints) h (inl is) = subst (λ (x : CheckpointEntry). x.number < n) is h.0
 below_has n checkpoint (m ∷ checkpoints) h (inr has) = below_has n checkpoint checkpoints h.1 has
 
--- ---- what is inserted
+-- ---- insertion of a checkpoint
 
--- what there is a place for is there
+-- an inserted checkpoint is in the list if the list has a place for it
 is_placed : (checkpoint : CheckpointEntry) (n : ℕ) (checkpoints : List CheckpointEntry) → (Has (λ (m : CheckpointEntry). m.number ≡ checkpoint.number) checkpoints → ⊥) → length checkpoints ≤ n → (length checkpoints < n) ⊎ Has (λ (m : CheckpointEntry). m.number < checkpoint.number) checkpoints
     → Has (λ x. x ≡ checkpoint) (take n (insert_checkpoint checkpoint checkpoints))
 is_placed checkpoint zero [] none few (inl l) = absurd (omega arith)
@@ -55,7 +55,7 @@ stays_inserted checkpoint old (m ∷ checkpoints) h = go (order m.number checkpo
     go (more e f s) (inl is) below = subst (λ (xs : List CheckpointEntry). Has (λ x. x ≡ old) xs) (sym (inserted_more checkpoint m checkpoints e f)) (inl is)
     go (more e f s) (inr has) below = subst (λ (xs : List CheckpointEntry). Has (λ x. x ≡ old) xs) (sym (inserted_more checkpoint m checkpoints e f)) (inr (below has))
 
--- what is not among the first k of a list that descends has k above it
+-- in a descending list, a checkpoint outside the first k has k checkpoints above it
 taken_or_passed : (k : ℕ) (old : CheckpointEntry) (checkpoints : List CheckpointEntry) → Descends checkpoints → Has (λ x. x ≡ old) checkpoints
     → Has (λ x. x ≡ old) (take k checkpoints) ⊎ ((length (take k checkpoints) ≡ k) × Each (λ (m : CheckpointEntry). old.number < m.number) (take k checkpoints))
 taken_or_passed zero old [] h has = absurd has
@@ -124,7 +124,7 @@ brings_message c s k root (Accepted x y z) h = absurd cc
 given : (c : Configuration) (s k : ℕ) (root : List ℕ) (e : Entry) → BringsCheckpoint c s k root e → checkpoint_in c e ≡ then_some (is_number k) (s, entry_of k root)
 given c s k root e h = ap (option_and_then checkpoint_from) (brought_message c s k root e h)
 
--- what is there behind an entry, by what it gives
+-- the sender's checkpoints after an entry that brings one
 behind : (c : Configuration) (s k : ℕ) (root : List ℕ) (e : Entry) (past : List Entry) (b : Bool) → BringsCheckpoint c s k root e → is_number k ≡ b
     → checkpoints_of c (e ∷ past) s ≡ cond b (take 3 (insert_checkpoint (entry_of k root) (checkpoints_of c past s))) (checkpoints_of c past s)
 behind c s k root e past true h is =

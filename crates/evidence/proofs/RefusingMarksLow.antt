@@ -19,7 +19,7 @@ use Rattle.protocol.proofs.Agreement.Marks.{low_grows, takes}
 use Rattle.protocol.proofs.Agreement.States.{has_insert, has_take, is_checkpoint}
 use Rattle.protocol.proofs.Words.Elements.{has_of_any}
 
--- ---- what is said
+-- ---- checkpoint messages in a list
 
 abbrev pub entry_of : ℕ → List ℕ → CheckpointEntry
 entry_of k root = record { number = k; digest = root }
@@ -66,7 +66,7 @@ low_at_first : (c : Configuration) (me : ℕ) → low c me [] ≡ 0
 unfolding low
 low_at_first c me = refl
 
--- what another checkpoint leaves said was said before
+-- if a list says a checkpoint after another one is added, the list said it before
 said_before : (checkpoint : CheckpointEntry) (x : ℕ × CheckpointEntry) (s : ℕ) (checkpoints : List CheckpointEntry) → is_checkpoint checkpoint x.1 ≡ false → says_checkpoint checkpoint (with_checkpoint s (Some x) checkpoints) ≡ true → says_checkpoint checkpoint checkpoints ≡ true
 said_before checkpoint x s checkpoints other h = go (x.0 == s) h
   where
@@ -78,7 +78,7 @@ said_before checkpoint x s checkpoints other h = go (x.0 == s) h
     go true k = pick (has_insert checkpoint x.1 checkpoints (has_take checkpoint 3 (insert_checkpoint x.1 checkpoints) k))
     go false k = k
 
--- what a checkpoint makes stable is no higher than the low mark
+-- a checkpoint that becomes stable here is at most the low mark
 stable_here : (c : Configuration) (me : ℕ) (checkpoint : CheckpointEntry) (x : ℕ × CheckpointEntry) (e : Entry) (past : List Entry) → checkpoint_in c e ≡ Some x → x.1 ≡ checkpoint → is_stable c me (e ∷ past) checkpoint ≡ true
     → checkpoint.number ≤ low c me (e ∷ past)
 stable_here c me checkpoint x e past is same h =

@@ -18,7 +18,7 @@ use Rattle.protocol.proofs.Words.Lists.{no_longer}
 use Rattle.std.proofs.lemmas.List.{length-map}
 use Rattle.protocol.proofs.Words.Bounds.{bounded}
 
--- ---- what is carried
+-- ---- carried view changes
 
 change_is : (sender : ℕ) (message : Message) (x : ℕ × ViewChangeData) → change_in (record { sender = sender; message = message }) ≡ Some x
     → ◌≡◌ {A = Body} (record { sender = sender; message = message }) (record { sender = x.0; message = ViewChange x.1 })

@@ -31,7 +31,7 @@ none_left c me new input outputs past can goes = (event_of c me outputs input pa
 abbrev Comes : Configuration → ℕ → ℕ × ViewChangeData → List ℕ → List Entry → Entry → Type 0
 Comes c me x bytes past e = (e ≡ Got me bytes) × (view c past < x.1.view) × (latest_change c past x.0 < x.1.view)
 
--- what came or was sent last is the latest
+-- the view change that came last, or that the replica sent last, is the latest
 is_latest : (c : Configuration) (me : ℕ) (now : List Entry) (x : ℕ × ViewChangeData) → CameLast c me now x ⊎ SentLast me now x → HasLatestChange c me now x
 is_latest c me now x (inl (bytes, other, signed, within, came, latest)) = inl (other, once_weaker (Comes c me x bytes) (BringsChange c x) brings now came, latest)
   where

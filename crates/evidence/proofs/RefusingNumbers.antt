@@ -42,7 +42,7 @@ pre_prepares_nearby c me v i batch bytes past says free right =
 
 -- ---- replies
 
--- what ran in the event is of the batches that were executed in it
+-- each request that ran in the event is from a batch that the replica executed in the event
 ran_here : (c : Configuration) (me : ℕ) (input : Entry) (past outputs : List Entry) → is_output input ≡ false → AreOutputs outputs → (point : Point) → Leaves c me (outputs ++ input ∷ past) point
     → (x : Ran) → Has (λ y. y ≡ x) point.ran → Has (Executes x.kept.number []) outputs
 ran_here c me input past [] is all point h x has = go input is h.2.may h.2.moves

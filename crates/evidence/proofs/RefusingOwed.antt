@@ -34,7 +34,7 @@ at_input : (b : Bool) → b ≡ false → (X Y : Type 0) → either b X Y → Y
 at_input true is X Y h = absurd cc
 at_input false is X Y h = h
 
--- what is owed in an event, and the points before and behind it
+-- what a replica owes in an event, and the points before and after the event
 pub record Event (c : Configuration) (me : ℕ) (outputs : List Entry) (input : Entry) (past : List Entry) : Type 0 where
   pub old : Point
   pub new : Point
@@ -42,7 +42,7 @@ pub record Event (c : Configuration) (me : ℕ) (outputs : List Entry) (input : 
   pub behind : Leaves c me (outputs ++ input ∷ past) new
   pub owes : Owes c me past input (reverse outputs) (outputs ++ input ∷ past) old new
 
--- the part of a history behind later entries
+-- a history without its later entries
 record Part (c : Configuration) (me : ℕ) (xs : List Entry) : Type 0 where
   outputs : List Entry
   new : Point
@@ -90,7 +90,7 @@ event_of c me outputs input past g = go g.is_replica
         at_end p.proceeds.0 k.1
     go (inr h) = absurd h.1
 
--- ---- what is answered
+-- ---- the answers
 
 kept_there : (st : State) (xs : List State) → Has (λ x. x ≡ st) xs → Has (λ x. (x.number ≡ st.number) × (x ≡ st)) xs
 kept_there st [] h = h
@@ -124,7 +124,7 @@ answers_ran c me ran input outputs past has goes =
     let e = event_of c me outputs input past goes in
     has_reverse _ outputs (e.owes.replies ran (has e.new e.behind))
 
--- ---- what is ordered, executed and fetched
+-- ---- ordering, execution and fetching
 
 pub prepares_logged : PreparesLogged
 prepares_logged c me v i batch input outputs past none some active backup goes =
@@ -153,7 +153,7 @@ reversed_append : (xs ys acc : List Entry) → reverse_aux (xs ++ ys) acc ≡ re
 reversed_append [] ys acc = refl
 reversed_append (x ∷ xs) ys acc = reversed_append xs ys (x ∷ acc)
 
--- what holds at each output holds at those behind the older ones
+-- if P holds at each output, it holds at the outputs after the older ones
 behind_older : (P : List Entry → Entry → Type 0) (past older rest : List Entry) → AtOutputs P past (reverse_aux older rest) → AtOutputs P (older ++ past) rest
 behind_older P past [] rest h = h
 behind_older P past (x ∷ older) rest h = (behind_older P past older (x ∷ rest) h).1

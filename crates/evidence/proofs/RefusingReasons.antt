@@ -21,26 +21,26 @@ use Rattle.protocol.proofs.Words.Options.{some_injective}
 abbrev Input : Type 0
 Input = Entry × List Entry
 
--- bytes are no tick
+-- a received frame is not a tick
 no_tick : (me : ℕ) (frame : List ℕ) (past before : List Entry) → ◌≡◌ {A = Option Input} (Some (Got me frame, past)) (Some (Tick me, before)) → ⊥
 no_tick me frame past before is = let same : Got me frame ≡ Tick me = ap (λ (p : Input). p.0) (some_injective _ _ is) in cc
 
 same_past : (me : ℕ) (past before : List Entry) → ◌≡◌ {A = Option Input} (Some (Tick me, past)) (Some (Tick me, before)) → past ≡ before
 same_past me past before is = ap (λ (p : Input). p.1) (some_injective _ _ is)
 
--- so it is others that are joined
+-- so the replica joins others
 joins : (c : Configuration) (me v : ℕ) (frame : List ℕ) (past : List Entry) (waiting : List Call) → TimesOut c me (Got me frame ∷ past) waiting v ⊎ JoinsOthers c me (Got me frame ∷ past) v → JoinsOthers c me (Got me frame ∷ past) v
 joins c me v frame past waiting (inl t) = absurd (no_tick me frame past t.before t.tick)
 joins c me v frame past waiting (inr j) = j
 
--- nobody is ahead of whom nothing is known
+-- a replica is not ahead if none of its view changes is known
 none_ahead : (c : Configuration) (me s : ℕ) (past : List Entry) → latest_change c past s ≡ 0 → is_ahead c me past s ≡ true → ⊥
 none_ahead c me s past none is =
     let p = and_parts (not (s == me)) (nat_lt (sought_view c past) (latest_change c past s)) is in
     let above = ltb-true (sought_view c past) (latest_change c past s) p.1 in
     absurd (omega arith)
 
--- ---- what is refused
+-- ---- view changes without a reason
 
 nothing_waits : (c : Configuration) (me : ℕ) (point : Point) → Leaves c me (Tick me ∷ []) point → point.waiting ≡ []
 nothing_waits c me point (old, first, step) = ap (λ (p : Point). p.waiting) step.moves ∙ ap (λ (p : Point). p.waiting) first

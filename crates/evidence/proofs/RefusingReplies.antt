@@ -17,7 +17,7 @@ use Rattle.protocol.proofs.Words.Leaving.{none_kept}
 use Rattle.evidence.proofs.Refusing.{says_may, is_reply}
 use Rattle.protocol.proofs.Words.Elements.{has_either, has_some}
 
--- what ran is of one of the frames, and is kept under the number
+-- a request that ran is in one of the frames, and its reply is kept under the number
 pub record RanOf (c : Configuration) (k : ℕ) (frames : List (List ℕ)) (x : Ran) : Type 0 where
   pub number : x.kept.number ≡ k
   time : x.kept.timestamp ≡ x.call.timestamp
@@ -54,7 +54,7 @@ has_request c k batch x r = each (requests_of batch) r.frame
     each (frame ∷ frames) (inl h) = inl (x.call, h, refl, sym r.time)
     each (frame ∷ frames) (inr h) = inr (each frames h)
 
--- what ran in the event, and what is kept, is of executed batches
+-- each request that the replica ran in the event, and each kept reply, is from an executed batch
 record OfExecuted (c : Configuration) (past : List Entry) (point : Point) : Type 0 where
   ran : (x : Ran) → Has (λ y. y ≡ x) point.ran → Once (ExecutesRequest c x.kept.number x.call.client x.kept.timestamp) past
   kept : (k : ℕ) (kept : Kept) → kept_of point.state k ≡ Some kept → Once (ExecutesRequest c kept.number k kept.timestamp) past

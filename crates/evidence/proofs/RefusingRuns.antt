@@ -51,7 +51,7 @@ collect c me (e ∷ outputs) given rest are h =
     collect c me outputs (e ∷ given) rest are.1
     (when_true (is_output e) (Reacts c me (reaction c me) (e ∷ given) (outputs ++ rest)) (MayInput (outputs ++ rest) e × IsReaction c me (reaction c me (e ∷ outputs ++ rest)) given × Reacts c me (reaction c me) [] (outputs ++ rest)) are.0 h.1)
 
--- what a client that goes on gave in an event is what it was to give
+-- if a client goes on, its outputs in an event are its reaction to the input
 pub gave : (c : Configuration) (me : ℕ) (later : List ℕ) (outputs : List Entry) (input : Entry) (past : List Entry) → is_output input ≡ false → AreOutputs outputs
     → IsClient c me (going_on me later outputs input past) → IsReaction c me (reaction c me (input ∷ past)) (reverse outputs)
 gave c me later outputs input past is are (inl h) =
@@ -95,7 +95,7 @@ accepts_alike c me s number call mode answer bytes later from outputs past opene
     completes : on_reply c me (Got me bytes ∷ past) call (vote_in mode number answer) ≡ accepts call.timestamp answer
     completes = rw (le-leb (2 * c.faults + 1) (count_alike c me (Got me bytes ∷ past) call.timestamp (vote_in mode number answer)) full) refl
 
--- what went ordered was sent
+-- if a call has gone ordered, the client has sent its ordered request
 went_asked : (t : ℕ) (xs : List Entry) → went_ordered xs t ≡ true → Once (AsksOrdered t) xs
 went_asked t [] h = absurd cc
 went_asked t (Invoke x y z ∷ past) h = absurd cc
@@ -220,7 +220,7 @@ outputs_follow c e other past later output differs run =
 
 -- ---- replicas
 
--- what the newest frame says, a right replica may say
+-- a right replica may say what its newest frame says
 says_may : (c : Configuration) (me : ℕ) (bytes : List ℕ) (body : Body) (past : List Entry) (right : SafeReplica c me (Sent me bytes ∷ past)) → said bytes ≡ Some body
     → MaySay c me past right.1.0 (Sent me bytes) bytes body.message
 says_may c me bytes body past right h =
@@ -233,7 +233,7 @@ logs_numbers c me v i batch past right h = (logged_within c me v i batch past (r
 pub no_begin_while_inactive : NoBeginWhileInactive
 no_begin_while_inactive c me bytes new past says before right = go (says_may c me bytes (record { sender = me; message = NewView new }) past right says).1
   where
-    -- where it was sent before, its view was begun
+    -- if the replica has sent the new view before, its view is at least the new one
     begun : (x : List Entry) (e : Entry) → RightAt c me x e → SendsBytes bytes x e → new.view ≤ view c (e ∷ x)
     begun x (Sent p sent) r t = pick say.1
       where

@@ -145,7 +145,7 @@ feeds_each_tick c steps p trace feeds = counted_feeds c (ticks_for p) (is_tick_o
 
 -- ---- what a flush leaves
 
--- each delivery was of a frame that was made, and got
+-- each delivery is of a frame that a party made, and the receiver gets the frame
 abbrev IsDone : List Made → List Entry → ℕ × ℕ → Type 0
 IsDone frames past x = (made : Made) × (slice_get frames x.0 ≡ Some made) × Has (Gets x.1 made.bytes) past
 
@@ -175,7 +175,7 @@ all_done c w v _ _ (signs a i g) h = all_done c _ _ _ _ g (done_more w.frames _ 
 all_done c w v _ _ (flushes p g) h = all_done c _ _ _ _ g h
 all_done c w v _ _ (flushed i p g) h = all_done c _ _ _ _ g h
 
--- nothing is to be delivered behind a last flush
+-- after a last flush, no frame is left to deliver
 no_more : (c : Configuration) (w v : World) (steps : List Step) (entries : List Entry) → Goes c w steps entries v → steps ≡ [] → AtInput entries → pending c w ≡ None → pending c v ≡ None
 no_more c w v _ _ ends is i h = h
 no_more c w v _ _ (gives o g) is i h = let bad : false ≡ true = sym i ∙ o in absurd cc

@@ -15,7 +15,7 @@ use Rattle.wire.specs.Lists.{Each}
 pub reports_exist : ReportsExist
 reports_exist c trace = (reverse (acceptances trace), points c trace, record { accepted_are = refl; points_are = refl })
 
--- ---- what is listed
+-- ---- listed acceptances
 
 listed : (a : Acceptance) (trace : List Entry) → Once (IsAcceptance a) trace → Has (λ x. x ≡ a) (acceptances trace)
 listed a [] h = h

@@ -12,7 +12,7 @@ use Rattle.protocol.proofs.Words.Scheduling.{past_of}
 use Rattle.evidence.proofs.RefusingRunsSchedules.{flush_delivers_all}
 use Rattle.wire.specs.Lists.{Each}
 
--- ---- what is fed
+-- ---- the entries that a schedule feeds
 
 output_may : (c : Configuration) (past : List Entry) (e : Entry) → is_output e ≡ true → MayBeFed c past e
 output_may c past (Invoke k timestamp op) h = absurd cc
@@ -39,7 +39,7 @@ pub feeds_what_may_be_fed : FeedsWhatMayBeFed
 feeds_what_may_be_fed c steps trace feeds =
     subst (λ (xs : List Entry). Always (MayBeFed c) xs) (past_of c feeds.0 steps trace feeds.1) (fed c new_world feeds.0 steps (reverse trace) feeds.1 tt)
 
--- ---- what is made
+-- ---- the frames that a schedule makes
 
 party_of_test : (a b : Bool) → (a || b) ≡ true → (a ≡ true) ⊎ (b ≡ true)
 party_of_test true b h = inl refl
@@ -177,7 +177,7 @@ flush_delivers_signed c steps replica leaf q rs body trace feeds step has correc
 
 -- ---- a frame that the last step made is the last
 
--- without steps, and with no output next, nothing more comes
+-- without steps, and with no output next, the world gets no more frames
 nothing_more : (c : Configuration) (w v : World) (steps : List Step) (entries : List Entry) → Goes c w steps entries v → steps ≡ [] → AtInput entries → v.frames ≡ w.frames
 nothing_more c w v _ _ ends is i = refl
 nothing_more c w v _ _ (gives o g) is i = let bad : false ≡ true = sym i ∙ o in absurd cc
@@ -198,7 +198,7 @@ module _ (c : Configuration) (x : Made) where
   abbrev MakesLast : List Step → Type 0
   MakesLast steps = (before : List Step) × (step : Step) × (steps ≡ before ++ step ∷ []) × Makes c x step
 
-  -- a first step that makes none is not the last
+  -- a first step that makes no such frame is not the last
   later : (first : Step) (steps : List Step) → (Makes c x first → ⊥) → MakesLast (first ∷ steps) → MakesLast steps
   later first steps none h = go h.0 h.2
     where

@@ -22,7 +22,7 @@ use Rattle.std.proofs.lemmas.List.{length-map}
 use Rattle.protocol.specs.Laws.Bounds.{IsBounded}
 use Rattle.protocol.proofs.Words.Bounds.{bounded, within_of_bounded}
 
--- ---- what is carried
+-- ---- carried view changes
 
 are_signed : (c : Configuration) (frames : List (List ℕ)) → length (list_of (map (signed_change c) frames)) ≡ length frames → AreSigned c frames (list_of (map (signed_change c) frames))
 are_signed c [] long = tt

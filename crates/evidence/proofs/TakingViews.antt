@@ -166,7 +166,7 @@ module _ (clients : ℕ) (seed : List ℕ) (me : ℕ) (batch root a b d new_view
         same_checkpoints c h1 (Sent me prepare) prepares x.says tt s
         ∙ same_checkpoints c [] (Got me new_view) begins hears tt s ∙ none_checked c s
 
-    -- ---- what is owed
+    -- ---- what the replica owes
 
     gives : (v i : ℕ) (given : List ℕ) → IsIt v i given → SendsMessage me (Prepare v i (sha256 given)) (Sent me prepare ∷ [])
     gives v i given it =
@@ -201,7 +201,7 @@ module _ (clients : ℕ) (seed : List ℕ) (me : ℕ) (batch root a b d new_view
     owes_it : Owes c me [] (Got me new_view) (Sent me prepare ∷ []) now first_point first_point
     owes_it = owes clients seed me [] new_view (Sent me prepare ∷ []) now due
 
-    -- ---- what is sent
+    -- ---- what the replica sends
 
     addressed : (authenticator : Authenticator) → receivers_of authenticator ≡ others c me → IsAddressed c me h1 prepares.message authenticator
     addressed (macs entries) h = h

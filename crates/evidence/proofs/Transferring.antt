@@ -1,4 +1,4 @@
--- The definitions accept a replica that is behind and begins to fetch the others' state.
+-- The definitions accept an out-of-date replica that begins to fetch the others' state.
 use Rattle.std.proofs.Common.{◌≡◌, ◌≢◌, ℕ, zero, suc, ◌+◌, ◌*◌, ◌/◌, ◌<◌, inl, inr, Bool, false, List, [], ◌∷◌, refl, sym, ap, ◌∙◌, arith, Option, Some, None, slice_get}
 use Rattle.sha2.specs.Sha256.{sha256}
 use Rattle.partition_tree.specs.Digests.{digest_of_children, inner_digest}
@@ -55,7 +55,7 @@ module _ (clients : ℕ) (seed : List ℕ) (x : Parts) (w : TransferFrames) (dif
   abbrev h9 : List Entry
   h9 = Got 0 w.page ∷ h8
 
-  -- ---- what is got
+  -- ---- what the replica receives
 
   abbrev checkpoint_of : ℕ → Body
   checkpoint_of r = record { sender = r; message = Checkpoint 16 root }
@@ -137,7 +137,7 @@ module _ (clients : ℕ) (seed : List ℕ) (x : Parts) (w : TransferFrames) (dif
   s10 : At (transfer w) p3 (asked levels.Page 1) 16
   s10 = stage_fetch clients seed root h9 w.fetch_next 1 levels.Page p3 (asked levels.Page 0) 16 s9 refl (omega arith) f.asks_next.says
 
-  -- ---- what is in place
+  -- ---- the pages in place
 
   none_at_3 : (i : ℕ) → took c 0 (Some 16) h3 i ≡ None
   unfolding took
@@ -235,14 +235,14 @@ module _ (clients : ℕ) (seed : List ℕ) (x : Parts) (w : TransferFrames) (dif
   counts_root : Counts c 0 h4 first_point w.below_root 1 (Meta 16 levels.Root 0 (digests_of_inner_parts x))
   counts_root = (s4.asked_is, omega arith, inl (inl (quorum_here clients seed root h4 p3 (asked levels.Root 0) 16 s4 refl)))
 
-  -- the digests that were got of the root tell that of inner part 0
+  -- the received digests of the root give the digest of inner part 0
   wanted_inner : (past : List Entry) → IsRootWanted c past 16 root → Once (Hears c 0 root_given) past → IsInnerWanted c 0 past 16 0 (digest_of_children (digests_of_pages x))
   wanted_inner past is got = (root, digests_of_inner_parts x, is, (refl, (1, 16, got)), refl)
 
   counts_inner : Counts c 0 h6 first_point w.below_inner 1 (Meta 16 levels.Inner 0 (digests_of_pages x))
   counts_inner = (s6.asked_is, omega arith, wanted_inner h6 (inl (inl (quorum_here clients seed root h6 p3 (asked levels.Inner 0) 16 s6 refl))) (inr (inl hears_root)))
 
-  -- and those that were got of it that of page 0
+  -- and the received digests of inner part 0 give the digest of page 0
   counts_page : Counts c 0 h8 first_point w.page 1 (Page 16 0 x.text)
   counts_page = (
     s8.asked_is,

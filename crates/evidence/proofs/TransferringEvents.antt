@@ -1,4 +1,4 @@
--- An event of a replica that fetches a state: what it gets moves no point, and it owes at most one fetch.
+-- In an event of a replica that fetches a state, the input moves no point. The replica owes at most one fetch.
 use Rattle.std.proofs.Common.{◌≡◌, ℕ, ◌+◌, ◌<◌, ◌⊎◌, inl, inr, Bool, true, false, List, [], ◌∷◌, refl, sym, ap, ◌∙◌, subst, arith, Option, Some, None}
 use Rattle.std.specs.Prelude.{nat_le, option_and_then, ⊤}
 use Rattle.std.specs.Option.{option_map_or}
@@ -54,7 +54,7 @@ module _ (clients : ℕ) (seed root : List ℕ) where
   none_logged : (past : List Entry) (p : ℕ → Bool) (asked : Option (ℕ × (Level × ℕ))) (k : ℕ) → At past p asked k → (v i : ℕ) (batch : List ℕ) → logged c 0 past v i ≡ Some batch → ⊥
   none_logged past p asked k st v i batch h = absurd (let bad : None ≡ Some batch = sym (st.logged_is v i) ∙ h in cc)
 
-  -- what is got, and what is to be shown of its event
+  -- a message that the replica receives, and the proof obligations of its event
   record Due (before : List Entry) (bytes : List ℕ) (outputs now : List Entry) : Type 0 where
     pub body : Body
     pub hears : heard (members c) 0 bytes ≡ Some body
@@ -99,7 +99,7 @@ module _ (clients : ℕ) (seed root : List ℕ) where
       same_bytes : (other : List ℕ) → Got 0 bytes ≡ Got 0 other → bytes ≡ other
       same_bytes other is = cc
 
-  -- what is no request moves no point
+  -- a message other than a request leaves the point as it is
   pub gets : (before : List Entry) (bytes : List ℕ) (body : Body) → heard (members c) 0 bytes ≡ Some body → IsGiven body.message → IsStep c 0 before first_point (Got 0 bytes) first_point
   gets before bytes body h given = record { own = refl; may = tt; moves = quiet }
     where
@@ -149,7 +149,7 @@ module _ (clients : ℕ) (seed root : List ℕ) where
         dropped = λ drops. refl;
       }
 
-  -- what counts is answered by one fetch: that of the root where a transfer of 16 is not open yet
+  -- the replica answers a message that counts by one fetch, of the root if no transfer of 16 is open yet
   pub goes_on : (before : List Entry) (bytes sent : List ℕ) (body : Body) (index : ℕ) (level : Level) (p : ℕ → Bool) → heard (members c) 0 bytes ≡ Some body → IsGiven body.message
       → ((n : ℕ) → IsPartOf n body.message → 16 ≡ n) → IsFrom c 0 (Fetch 16 level index) (others c 0) sent → At (Sent 0 sent ∷ Got 0 bytes ∷ before) p (Some (16, (level, index))) 16
       → MayFetch c 0 (Got 0 bytes ∷ before) first_point 16 level index → (fetching before ≡ 16) ⊎ ((level ≡ levels.Root) × (index ≡ 0)) → Counts c 0 before first_point bytes body.sender body.message

@@ -180,7 +180,7 @@ module _ (clients : ℕ) (seed root : List ℕ) where
       one_more false true = refl
       one_more false false = refl
 
-  -- a part that is got moves none of it
+  -- a received part leaves the stage as it is
   pub stage_meta : (past : List Entry) (bytes : List ℕ) (sender number index : ℕ) (level : Level) (digests : List (List ℕ)) (p : ℕ → Bool) (asked : Option (ℕ × (Level × ℕ))) (k : ℕ)
       → Stage past p asked k → p 0 ≡ false → heard (members c) 0 bytes ≡ Some (record { sender = sender; message = Meta number level index digests }) → Stage (Got 0 bytes ∷ past) p asked k
   stage_meta past bytes sender number index level digests p asked k st own h =

@@ -92,7 +92,7 @@ opened_last call (Executed x y z ∷ past) h = opened_last call past h
 opened_last call (Installed x y z ∷ past) h = opened_last call past h
 
 module _ (c : Configuration) (me : ℕ) where
-  -- what is asked is of a call so far
+  -- the timestamps of the client's ordered requests are at most its last call's
   asked_last : (t : ℕ) (xs : List Entry) → SafeClient c me xs → Once (AsksOrdered t) xs → t ≤ last_call xs
   asked_last t [] right h = absurd h
   asked_last t (Sent p bytes ∷ past) right (inl h) =
@@ -160,7 +160,7 @@ falls_back_once c me s number call mode answer bytes later outputs past opened h
     earlier : SafeClient c me past
     earlier = (always_behind (λ xs e. (party_of e ≡ me) × MayClient (MayAccept c me) me xs e) outputs (Got me bytes ∷ past) all.1.1).1
 
--- ---- what is no reply to the open call, and no open call
+-- ---- a message other than a reply to the open call, and a client without an open call
 
 module _ (c : Configuration) (me timestamp : ℕ) (bytes : List ℕ) (past : List Entry)
     (never : (s number : ℕ) (mode : Mode) (answer : Outcome) → heard (members c) me bytes ≡ Some (record { sender = s; message = Reply me timestamp mode number answer }) → ⊥) where
