@@ -10,7 +10,7 @@ use Rattle.protocol.specs.Replica.Certificates.{brought, view, target, taken, lo
 use Rattle.protocol.specs.Replica.RightReplica.{SafeReplica}
 use Rattle.protocol.specs.Laws.Histories.{AreReplicasSafe, ExecutesBatch, Takes}
 
--- ---- the own commit
+-- ---- the replica's own commit
 
 -- A batch that is executed is committed in some view in which the replica's own commit counts.
 abbrev pub ExecutesWithOwnCommit : Type 0
@@ -29,7 +29,7 @@ ExecutesNotByOthersAlone =
     → ((v : ℕ) → Once (Brings c (record { sender = me; message = Commit v k (sha256 batch) })) past → ⊥)
     → SafeReplica c me (Executed me k batch ∷ past) → ⊥
 
--- And of what a correct replica executes it sent a commit itself.
+-- A correct replica sent a commit itself for each batch that it executes.
 abbrev pub ExecutesWhatItCommits : Type 0
 ExecutesWhatItCommits =
     (c : Configuration) (trace : List Entry) → AreReplicasSafe c trace → Unforged c trace
@@ -38,7 +38,7 @@ ExecutesWhatItCommits =
 
 -- ---- the new views that are taken
 
--- The view of a new view that is taken is above the own one, and not below that of a view change that was sent.
+-- The view of a new view that is taken is above the replica's own, and not below that of a view change that it sent.
 abbrev pub TakesLater : Type 0
 TakesLater =
     (c : Configuration) (past : List Entry) (e : Entry) (new : NewViewData) → taken c past e ≡ Some new
@@ -52,14 +52,14 @@ TakesInOrder =
 
 -- ---- the log
 
--- What an entry logs is for a number above the low mark that it leaves, and at most the span above it.
+-- An entry logs a batch only for a number above the low mark that it leaves, and at most the span above it.
 abbrev pub LogsInMarks : Type 0
 LogsInMarks =
     (c : Configuration) (me v i : ℕ) (batch : List ℕ) (e : Entry) (past : List Entry) → SafeReplica c me (e ∷ past)
     → logged c me past v i ≡ None → logged c me (e ∷ past) v i ≡ Some batch
     → (low c me (e ∷ past) < i) × (i ≤ low c me (e ∷ past) + 2 * c.period) × (i < 2 ^ 48)
 
--- What a new view that is taken has for a number above the low mark is logged.
+-- The batch that a new view that is taken has for a number above the low mark is logged.
 abbrev pub LogsWhatBegins : Type 0
 LogsWhatBegins =
     (c : Configuration) (me i : ℕ) (batch : List ℕ) (e : Entry) (past : List Entry) (new : NewViewData)
@@ -75,13 +75,13 @@ LeavesNoGap =
 
 -- ---- certificates stay
 
--- What is prepared stays so, whatever comes later, as a second prepare of a backup for another digest.
+-- A prepared batch stays so, whatever comes later, such as a backup's second prepare for another digest.
 abbrev pub PreparedRemains : Type 0
 PreparedRemains =
     (c : Configuration) (me v i : ℕ) (batch : List ℕ) (later past : List Entry) → Prepared c me past v i batch
     → Prepared c me (later ++ past) v i batch
 
--- What is committed stays so, whatever comes later, as a second commit of a replica for another digest.
+-- A committed batch stays so, whatever comes later, such as a replica's second commit for another digest.
 abbrev pub CommittedRemains : Type 0
 CommittedRemains =
     (c : Configuration) (me v i : ℕ) (batch : List ℕ) (later past : List Entry) → Committed c me past v i batch

@@ -1,4 +1,4 @@
--- What counts at a client, and where a client that goes on gives nothing.
+-- Which replies count at a client, and when a client that goes on gives nothing.
 use Rattle.std.specs.Prelude.{◌≡◌, ◌≢◌, ℕ, ◌*◌, ◌≤◌, ◌<◌, ◌⊎◌, List, [], ◌∷◌, Some, None}
 use Rattle.tuple_codec.specs.Operations.{Operation, Outcome}
 use Rattle.protocol.specs.System.Configuration.{Configuration, replicas, members}
@@ -13,7 +13,7 @@ use Rattle.evidence.specs.RefusedRuns.{going_on, AsksOrdered}
 
 -- ---- the replies that count
 
--- A reply that is heard is its sender's latest of its mode, behind an earlier one too.
+-- A reply that a client hears is its sender's latest of its mode, also after an earlier one.
 abbrev pub HeardIsLatest : Type 0
 HeardIsLatest =
     (c : Configuration) (me s timestamp number : ℕ) (mode : Mode) (answer : Outcome) (bytes : List ℕ)
@@ -31,7 +31,7 @@ LatestStays =
     → Hears c me (record { sender = s; message = Reply me timestamp mode number answer }) past e → ⊥)
     → latest c me (e ∷ past) timestamp mode s ≡ latest c me past timestamp mode s
 
--- A call begins with none: what was got before it does not count.
+-- A call begins with none: a reply that the client received before it does not count.
 abbrev pub CallsForget : Type 0
 CallsForget =
     (c : Configuration) (me s k timestamp : ℕ) (mode : Mode) (op : Operation) (past : List Entry)
@@ -52,7 +52,7 @@ WaitsForAnswers =
     → r < replicas c → latest c me (Got me bytes ∷ past) call.timestamp modes.ReadOnly r ≡ None
     → AreOutputs outputs → IsClient c me (going_on me later outputs (Got me bytes) past) → outputs ≡ []
 
--- Nor is there at such a reply where the call's request went ordered before: a client falls back once.
+-- Nor is there at such a reply if the client sent the call's request ordered before: a client falls back once.
 abbrev pub FallsBackOnce : Type 0
 FallsBackOnce =
     (c : Configuration) (me s number : ℕ) (call : OpenCall) (mode : Mode) (answer : Outcome) (bytes later : List ℕ)

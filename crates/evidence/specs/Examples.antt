@@ -1,5 +1,5 @@
--- Small histories that the definitions accept, with frames left symbolic: what they spell and that they are authentic
--- is given.
+-- Small histories that the definitions accept, with frames left symbolic: their spelling and their authenticity are
+-- given.
 use Rattle.std.specs.Prelude.{◌≡◌, ◌≢◌, ℕ, ◌+◌, true, false, List, [], ◌∷◌, Some}
 use Rattle.sha2.specs.Sha256.{sha256}
 use Rattle.tuple_codec.specs.Operations.{Operation, IsOperation}
@@ -68,7 +68,7 @@ FirstCallIsRun =
 
 -- ---- over a view change
 
--- what each of three replicas says that holds the first batch prepared in view 0, changing to view 1
+-- the view change for view 1 of each of three replicas that hold the first batch prepared in view 0
 abbrev pub holding : List ℕ → List ℕ → ViewChangeData
 holding batch root = record {
   view = 1;
@@ -98,7 +98,7 @@ EmptyIsNotSelected =
     → may_select (four clients seed)
     (record { view = 1; changes = a ∷ b ∷ d ∷ []; start = 0; root = root; batches = [] }) ≡ false
 
--- Nor with the null batch there, where its digest is another.
+-- Nor with the null batch there, if its digest is another.
 abbrev pub NullIsNotSelected : Type 0
 NullIsNotSelected =
     (clients : ℕ) (seed batch root a b d : List ℕ) → sha256 batch ≢ sha256 null_batch

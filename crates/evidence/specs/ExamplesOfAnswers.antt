@@ -1,5 +1,5 @@
--- Small histories in which a replica answers, and which the definitions accept, with frames left symbolic: what they
--- spell and that they are authentic is given.
+-- Small histories in which a replica answers, and which the definitions accept, with frames left symbolic: their
+-- spelling and their authenticity are given.
 use Rattle.std.specs.Prelude.{◌≡◌, ℕ, ◌-◌, true, List, [], ◌∷◌, Some}
 use Rattle.tuple_codec.specs.Operations.{Operation}
 use Rattle.space.specs.Applying.{no_tuples, outcome, is_read_only}

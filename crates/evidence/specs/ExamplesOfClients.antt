@@ -12,7 +12,7 @@ use Rattle.protocol.specs.Client.RightClient.{IsClient}
 use Rattle.evidence.specs.Examples.{four}
 use Rattle.evidence.specs.FirstOperation.{IsFrom}
 
--- The frames of client 0's first operation where it is a read: its read-only request, and by their replica read-only
+-- The frames of client 0's first operation if it is a read: its read-only request, and by their replica read-only
 -- replies, alike in number and answer.
 pub record AreReadFrames (c : Configuration) (op : Operation) (number : ℕ) (answer : Outcome) (request : List ℕ)
     (reply : ℕ → List ℕ) : Type 0 where

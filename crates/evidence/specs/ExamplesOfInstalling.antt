@@ -1,5 +1,5 @@
 -- A history in which a replica that is behind installs the others' state, and which the definitions accept, with frames
--- left symbolic: what is heard from them is given.
+-- left symbolic: what a party hears from them is given.
 use Rattle.std.specs.Prelude.{◌≡◌, ℕ, ◌+◌, ◌*◌, ◌<◌, List, [], ◌∷◌, Some}
 use Rattle.sha2.specs.Sha256.{sha256}
 use Rattle.partition_tree.specs.Digests.{digest_of_children, inner_digest}
@@ -16,7 +16,7 @@ use Rattle.protocol.specs.Replica.RightReplica.{Point, Leaves, others, digests_a
 use Rattle.evidence.specs.Examples.{four}
 use Rattle.evidence.specs.FirstOperation.{IsFrom}
 
--- The state behind 16 batches in which nothing ran. Of its pages the header alone is another than at the opening.
+-- The state after 16 batches in which nothing ran. Of its pages the header alone differs from the opening state's.
 abbrev pub later_state : State
 later_state = record opening { number = 16 }
 

@@ -8,7 +8,7 @@ use Rattle.protocol.specs.Replica.Owed.{IsReplica}
 use Rattle.evidence.specs.Examples.{four}
 use Rattle.evidence.specs.FirstOperation.{FirstFrames, AreFirstFrames, first_trace}
 
--- Each replica that gets the client's request again behind the first operation, and sends its kept reply again, is a
+-- Each replica that gets the client's request again after the first operation, and sends its kept reply again, is a
 -- right one.
 abbrev pub KeptReplyGoesAgain : Type 0
 KeptReplyGoesAgain =

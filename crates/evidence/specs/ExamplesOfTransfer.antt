@@ -1,5 +1,5 @@
 -- A history in which a replica that is behind begins to fetch the others' state, and which the definitions accept, with
--- frames left symbolic: what they spell and that they are authentic is given.
+-- frames left symbolic: their spelling and their authenticity are given.
 use Rattle.std.specs.Prelude.{◌≢◌, ℕ, zero, suc, ◌<◌, List, [], ◌∷◌}
 use Rattle.sha2.specs.Sha256.{sha256}
 use Rattle.partition_tree.specs.Digests.{digest_of_children, inner_digest}
@@ -79,7 +79,7 @@ transfer w =
     ∷ Got 0 (w.checkpoint 3) ∷ Got 0 (w.checkpoint 2) ∷ Got 0 (w.checkpoint 1) ∷ []
 
 -- Such a replica is a right one, with all that it owes. So the third checkpoint, the digests and the page count, since
--- to what does not count nothing is sent.
+-- a replica sends nothing at an input that does not count.
 abbrev pub TransferBegins : Type 0
 TransferBegins =
     (clients : ℕ) (seed : List ℕ) (x : Parts) (w : TransferFrames) → AreDifferentParts x

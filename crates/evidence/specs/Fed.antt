@@ -1,4 +1,4 @@
--- What a schedule feeds: each step that may come, with the outputs behind it. The worlds are those of the schedule's
+-- What a schedule feeds: each step that may come, with the outputs after it. The worlds are those of the schedule's
 -- definition; what a step needs is said here in words of its own.
 use Rattle.std.specs.Prelude.{◌≡◌, ℕ, ◌+◌, ◌<◌, true, false, List, [], ◌∷◌, ◌++◌, slice_get, Some, None, ⊤}
 use Rattle.tuple_codec.specs.Operations.{Operation, IsOperation}
@@ -81,7 +81,7 @@ pub record IsNext (c : Configuration) (w : World) (frame party : ℕ) (made : Ma
   pub first_frame : (n q : ℕ) (other : Made) → n < frame → slice_get w.frames n ≡ Some other
       → Has (λ r. r ≡ q) other.receivers → IsLeft c w n q → ⊥
 
--- the world behind a delivery
+-- the world after a delivery
 abbrev pub with_delivery : Configuration → World → ℕ → ℕ → List ℕ → World
 with_delivery c w frame party bytes =
     record { frames = w.frames; delivered = (frame, party) ∷ w.delivered; past = Got party bytes ∷ w.past }
@@ -101,7 +101,7 @@ FlushDeliversNoOther =
     → (frame : ℕ) × (party : ℕ) × (made : Made) × IsNext c w frame party made × (input ≡ Got party made.bytes)
     × Goes c (with_delivery c w frame party made.bytes) (flush ∷ []) entries v
 
--- It ends where nothing is left.
+-- It ends if nothing is left.
 abbrev pub FlushEnds : Type 0
 FlushEnds =
     (c : Configuration) (w : World)
@@ -114,7 +114,7 @@ abbrev pub IsGot : Entry → Type 0
 IsGot (Got party bytes) = ⊤
 IsGot _ = ⊥
 
--- Behind any schedule a flush may come, and end.
+-- After any schedule a flush may come, and end.
 abbrev pub FlushesAreFed : Type 0
 FlushesAreFed =
     (c : Configuration) (steps : List Step) (trace : List Entry) → Feeds c steps trace

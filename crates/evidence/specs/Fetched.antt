@@ -1,5 +1,5 @@
 -- A replica that is behind fetches page after page, and each page that it fetches adds itself alone to the texts whose
--- digests must differ. Its frames are left symbolic: what they spell and that they are authentic is given. Such frames
+-- digests must differ. Its frames are left symbolic: their spelling and their authenticity are given. Such frames
 -- exist.
 use Rattle.std.specs.Prelude.{◌≡◌, ◌≢◌, ◌↔◌, ℕ, zero, suc, ◌+◌, ◌/◌, ◌%◌, ◌≤◌, ◌<◌, ◌⊎◌, List, [], ◌∷◌, length, nat_lt, ◌==◌, if◌then◌else◌, Some, None}
 use Rattle.sha2.specs.Sha256.{sha256}
@@ -83,7 +83,7 @@ fetching_pages w zero =
     ∷ Got 0 (w.checkpoint 3) ∷ Got 0 (w.checkpoint 2) ∷ Got 0 (w.checkpoint 1) ∷ []) 0
 fetching_pages w (suc n) = asking w (Got 0 (w.page n) ∷ fetching_pages w n) (suc n)
 
--- What is shown of it, for each number of pages below 1,024 and whatever the pages.
+-- The laws below show this of the history, for each number of pages below 1,024 and whatever the pages.
 abbrev pub OfFetching : (Configuration → (ℕ → List ℕ) → ℕ → List Entry → Type 0) → Type 0
 OfFetching P =
     (clients : ℕ) (seed : List ℕ) (page : ℕ → List ℕ) (w : FetchFrames) (n : ℕ) → n < 1024 → AreDifferentPages page n
@@ -102,20 +102,20 @@ FetchedAreTaken = OfFetching (λ c page n trace. (i : ℕ) → i < n → took c 
 abbrev pub FetchedAddThemselves : Type 0
 FetchedAddThemselves = OfFetching (λ c page n trace. length (texts_from c trace trace) ≤ n + 1091)
 
--- what is shown of a trace in which a replica installs
+-- a law below shows this of a trace in which a replica installs
 abbrev pub OfInstalling : Configuration → List Entry → Type 0
 OfInstalling c trace = IsRun c trace × IsPromptReplica c 0 trace × (length (texts_from c trace trace) ≤ 1622)
 
--- Where they are all 513 pages of a state of number 16, the replica installs that state once the last page comes, and
--- does all that it owes. The list has 1,058 texts of the null batch and the opening state, those 513, 18 of digests
--- that were fetched, and the 33 of digests above the pages in place.
+-- If they are all 513 pages of a state of number 16, the replica installs that state once the last page comes, and does
+-- all that it owes. The list has 1,058 texts of the null batch and the opening state, those 513, 18 of digests that
+-- were fetched, and the 33 of digests above the pages in place.
 abbrev pub FetchedAreInstalled : Type 0
 FetchedAreInstalled =
     (clients : ℕ) (seed : List ℕ) (st : State) (w : FetchFrames) → IsReplicatedState st → st.number ≡ 16
     → AreDifferentPages (page_text st) 512 → AreFetchFrames (four clients seed) (page_text st) w
     → OfInstalling (four clients seed) (Installed 0 16 (root_of st) ∷ Got 0 (w.page 512) ∷ fetching_pages w 512)
 
--- And behind any trace, whatever else is in it, a page that is got adds its own text and no other.
+-- After any trace, whatever else is in it, a page that a party gets adds its own text and no other.
 abbrev pub PagesAddThemselves : Type 0
 PagesAddThemselves =
     (c : Configuration) (trace : List Entry) (p sender k i : ℕ) (bytes text : List ℕ)

@@ -107,7 +107,7 @@ FirstOperationIsUnforged =
     → IsConfiguration (four clients seed)
     → AreFirstFrames (four clients seed) op batch w → Unforged (four clients seed) (first_trace op batch w)
 
--- It is what the schedule feeds that calls the operation and then delivers all frames.
+-- The schedule that calls the operation and then delivers all frames feeds it.
 abbrev pub FirstOperationIsFed : Type 0
 FirstOperationIsFed =
     (clients : ℕ) (seed : List ℕ) (op : Operation) (batch : List ℕ) (w : FirstFrames)
@@ -134,8 +134,8 @@ FirstFramesExist =
     → is_read_only op ≡ false
     → (batch : List ℕ) × (w : FirstFrames) × AreFirstFrames (four clients seed) op batch w
 
--- What a party of the right sort seals for others, each of them hears, if the message is one that may be said and goes
--- with MACs, and the frame is not too long.
+-- If a party of the right sort seals a message for others, each of them hears it. The message must be one that may be
+-- said and goes with MACs, and the frame must not be too long.
 abbrev pub SealedFramesAreHeard : Type 0
 SealedFramesAreHeard =
     (c : Configuration) → IsConfiguration c → (sender : ℕ) (message : Message) (receivers : List ℕ)

@@ -1,5 +1,5 @@
--- Three reads beside the first operation of client 0: clients 1 and 2 call theirs before it, client 3 behind it.
--- What they read, and what is answered, is left open.
+-- Three reads beside the first operation of client 0: clients 1 and 2 call theirs before it, client 3 after it. What
+-- they read, and what the replicas answer, is left open.
 use Rattle.std.specs.Prelude.{◌≡◌, ℕ, ◌+◌, ◌<◌, List, [], ◌∷◌, ◌++◌, reverse, Some}
 use Rattle.tuple_codec.specs.Operations.{Operation, Outcome}
 use Rattle.terms.specs.declared.order.Mode.TheVariants as modes
@@ -12,7 +12,7 @@ use Rattle.protocol.specs.Space.Linear.{Item, points}
 use Rattle.evidence.specs.Examples.{four}
 use Rattle.evidence.specs.FirstOperation.{FirstFrames, AreFirstFrames, first_answer, first_operation}
 
--- a read: what is read, the client's request, each replica's reply, and the answer
+-- a read: its operation, the client's request, each replica's reply, and the answer
 pub record Read : Type 0 where
   pub op : Operation
   pub request : List ℕ
@@ -49,8 +49,8 @@ abbrev pub read_item : ℕ → Read → ℕ → Item
 read_item k read position =
     record { client = 256 + k; timestamp = 1; op = read.op; answer = read.answer; position = position }
 
--- Its points: the write where the third replica executes it; there too, behind it and by client, the reads that were
--- called before; and where it is called the read that was called behind it.
+-- Its points. The operation has its point where the third replica executes it. The reads that were called before it
+-- have theirs there too, after it and by client. The read that was called after it has its point where it is called.
 abbrev pub ReadsHaveTheirPoints : Type 0
 ReadsHaveTheirPoints =
     (clients : ℕ) (seed : List ℕ) (op : Operation) (batch : List ℕ) (w : FirstFrames) (read : ℕ → Read)

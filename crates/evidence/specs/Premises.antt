@@ -50,7 +50,7 @@ NarrowestIsValid = (seed : List ℕ) → length seed ≡ 32 → IsConfiguration 
 
 -- ---- who is correct
 
--- A replica is correct exactly where it is none of the faulty ones,
+-- A replica is correct exactly if it is none of the faulty ones,
 abbrev pub ReplicasAreCorrect : Type 0
 ReplicasAreCorrect =
     (c : Configuration) (r : ℕ)
@@ -105,7 +105,7 @@ ReplicasGoOn =
     (c : Configuration) (me : ℕ) (past : List Entry) → SafeReplica c me past
     → SafeReplica c me (Tick me ∷ past) × ((bytes : List ℕ) → SafeReplica c me (Got me bytes ∷ past))
 
--- The trace is a run still where a correct client with no open call invokes any operation within the limits.
+-- The trace is a run still if a correct client with no open call invokes any operation within the limits.
 abbrev pub RunsTakeCalls : Type 0
 RunsTakeCalls =
     (c : Configuration) → IsConfiguration c → (trace : List Entry) → IsRun c trace → (k : ℕ) (op : Operation)
@@ -113,9 +113,9 @@ RunsTakeCalls =
     → IsOperation op → open_call (history_of (256 + k) trace) ≡ None
     → IsRun c (Invoke k (suc (last_call (history_of (256 + k) trace))) op ∷ trace)
 
--- ---- what may be got in an unforged trace
+-- ---- bytes that a party may receive in an unforged trace
 
--- All but what is got leaves a trace unforged.
+-- Each entry but one in which a party gets bytes leaves a trace unforged.
 abbrev pub OthersAreUnforged : Type 0
 OthersAreUnforged =
     (c : Configuration) (e : Entry) (trace : List Entry) → Unforged c trace
@@ -126,7 +126,7 @@ abbrev pub MayBeTaken : Configuration → List Entry → Option Body → Type 0
 MayBeTaken c past None = ⊤
 MayBeTaken c past (Some body) = (is_correct c body.sender ≡ false) ⊎ Once (SendsBody body) past
 
--- What the party hears from the frame, and what is signed so, is such a body.
+-- Each body that the party hears from the frame, or that the frame carries signed, is such.
 abbrev pub MayBeGot : Configuration → ℕ → List Entry → List ℕ → Type 0
 MayBeGot c me past bytes =
     MayBeTaken c past (heard (members c) me bytes) × MayBeTaken c past (signed_body (members c) bytes)
@@ -165,7 +165,7 @@ HasText text message = elim message [
 abbrev pub SaysText : List ℕ → List ℕ → Type 0
 SaysText text bytes = (body : Body) × (said bytes ≡ Some body) × HasText text body.message
 
--- A frame that says it was got or sent.
+-- A party receives or sends a frame that says the text.
 abbrev pub BringsText : List ℕ → List Entry → Entry → Type 0
 BringsText text past (Got p bytes) = SaysText text bytes
 BringsText text past (Sent p bytes) = SaysText text bytes
@@ -174,7 +174,7 @@ BringsText text past _ = ⊥
 abbrev pub is_page : Body → Bool
 is_page body = elim body.message [ Page number index text ↦ true | _ ↦ false ]
 
--- The entry is no execution and no installation, and no page is got.
+-- The entry is no execution and no installation, and no party receives a page.
 abbrev pub is_quiet : Entry → Bool
 is_quiet e = elim e [
   | Got p bytes ↦ not (option_map_or is_page (said bytes) false)

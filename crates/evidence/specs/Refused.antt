@@ -131,7 +131,7 @@ BeginsAsPrimary =
     → said bytes ≡ Some (record { sender = me; message = NewView new }) → SafeReplica c me (Sent me bytes ∷ past)
     → primary c new.view ≡ me
 
--- A view change that goes again while its sender is active.
+-- A view change that its sender sends again while it is active.
 abbrev pub NoChangeWhileActive : Type 0
 NoChangeWhileActive =
     (c : Configuration) (me : ℕ) (bytes : List ℕ) (vc : ViewChangeData) (past : List Entry)
@@ -175,7 +175,7 @@ ReadsNewest =
     → SafeReplica c me (Sent me bytes ∷ past)
     → number ≡ newest_number past
 
--- A read-only reply to what was not asked, or with another answer than that of the state.
+-- A read-only reply to a read that its client did not ask for, or with another answer than that of the state.
 abbrev pub ReadsWhatWasAsked : Type 0
 ReadsWhatWasAsked =
     (c : Configuration) (me client timestamp number : ℕ) (answer : Outcome) (bytes : List ℕ) (past : List Entry)
@@ -206,8 +206,8 @@ KeepsPrepared =
     → Prepared c me past v i batch → is_in_marks c (low c me past) i ≡ true
     → Has (λ (batch_entry : BatchEntry). batch_entry.number ≡ i) vc.prepared
 
--- An installation, where each state of the number and root has a page that is not that of the state before and was
--- never got for its place.
+-- An installation, if each state of the number and root has a page that differs from that of the state before, and that
+-- the replica never received for its place.
 abbrev pub InstallsWhatItHas : Type 0
 InstallsWhatItHas =
     (c : Configuration) (me k : ℕ) (root : List ℕ) (past : List Entry)
@@ -216,14 +216,14 @@ InstallsWhatItHas =
     × (Once (GetsPage c me i (page_text st i)) past → ⊥))
     → SafeReplica c me (Installed me k root ∷ past) → ⊥
 
--- An installation of a number of which no header page was got.
+-- An installation of a number of which the replica received no header page.
 abbrev pub InstallsWithHeader : Type 0
 InstallsWithHeader =
     (c : Configuration) (me k : ℕ) (root : List ℕ) (past : List Entry)
     → SafeReplica c me (Installed me k root ∷ past)
     → (space : SpaceState) × Once (GetsPage c me 512 (header_text space k)) past
 
--- ---- what is answered with
+-- ---- what a replica answers with
 
 -- each state that is kept
 abbrev pub EachKept : Configuration → ℕ → List Entry → (State → Type 0) → Type 0
@@ -260,12 +260,12 @@ GivesAskedPages =
     → said bytes ≡ Some (record { sender = me; message = Page k index text }) → SafeReplica c me (Sent me bytes ∷ past)
     → (s : ℕ) × WasAsked c me past s k levels.Page index
 
--- the reply to the client k that gives what is kept
+-- the reply to the client k that gives its kept reply
 abbrev pub IsReplyOf : ℕ → Kept → ℕ → ℕ → ℕ → Outcome → Type 0
 IsReplyOf k kept client timestamp number answer =
     (client ≡ 256 + k) × (kept.timestamp ≡ timestamp) × (kept.number ≡ number) × (kept.outcome ≡ answer)
 
--- An ordered reply, where no request ran in the event with that client, timestamp, number and answer, and none is kept.
+-- An ordered reply, if no request ran in the event with that client, timestamp, number and answer, and none is kept.
 abbrev pub RepliesWhatRan : Type 0
 RepliesWhatRan =
     (c : Configuration) (me client timestamp number : ℕ) (answer : Outcome) (bytes : List ℕ) (past : List Entry)
@@ -291,7 +291,7 @@ abbrev pub ExecutesRequest : Configuration → ℕ → ℕ → ℕ → List Entr
 ExecutesRequest c number client timestamp past (Executed r k batch) = (k ≡ number) × HasRequest c client timestamp batch
 ExecutesRequest c number client timestamp past _ = ⊥
 
--- An ordered reply of a request that the executed batch of its number has not, where nothing was installed.
+-- An ordered reply of a request that the executed batch of its number has not, if the replica installed nothing.
 abbrev pub RepliesOfExecuted : Type 0
 RepliesOfExecuted =
     (c : Configuration) (me client timestamp number : ℕ) (answer : Outcome) (bytes : List ℕ) (past : List Entry)
@@ -337,8 +337,8 @@ CommitsToAll =
     → SafeReplica c me (Sent me bytes ∷ past)
     → Has (λ r. r ≡ s) (map (λ x. x.receiver) entries)
 
--- A MAC of the own frame that is not that of its body from the replica to the receiver, or a signature that is not its
--- own.
+-- A MAC of the replica's own frame that is not that of its body from the replica to the receiver, or a signature that
+-- is not its own.
 abbrev pub SealsWell : Type 0
 SealsWell =
     (c : Configuration) (me : ℕ) (bytes : List ℕ) (frame : Frame) (entries : List MacData) (past : List Entry)
@@ -365,7 +365,7 @@ SendsNoFrameTwice =
     (c : Configuration) (me : ℕ) (bytes : List ℕ) (outputs past : List Entry) → AreOutputs outputs
     → SafeReplica c me (Sent me bytes ∷ outputs ++ Sent me bytes ∷ past) → ⊥
 
--- ---- what is dropped
+-- ---- dropped inputs and a replica's fetches
 
 -- A frame that answers a part of a state that was not asked for last.
 abbrev pub DropsUnaskedDigests : Type 0
@@ -391,7 +391,7 @@ DropsReplies =
     → heard (members c) me bytes ≡ Some (record { sender = s; message = Reply client timestamp mode number answer })
     → IsReplica c me (Sent me later ∷ Got me bytes ∷ past) → ⊥
 
--- A frame that answers one got in the own name.
+-- A frame that answers one in the replica's own name.
 abbrev pub DropsOwnFrames : Type 0
 DropsOwnFrames =
     (c : Configuration) (me : ℕ) (body : Body) (bytes later : List ℕ) (past : List Entry)
@@ -430,7 +430,8 @@ FetchesOnce =
     → said earlier ≡ Some (record { sender = me; message = Fetch n above other })
     → SafeReplica c me (Sent me bytes ∷ Sent me earlier ∷ past) → ⊥
 
--- A fetch of a part below the root at bytes that are got, if no digests of the root's children were ever got.
+-- A fetch of a part below the root at bytes that the replica receives, if it never received digests of the root's
+-- children.
 abbrev pub FetchesWhatIsTold : Type 0
 FetchesWhatIsTold =
     (c : Configuration) (me k index : ℕ) (level : Level) (bytes frame : List ℕ) (past : List Entry)
@@ -439,8 +440,8 @@ FetchesWhatIsTold =
     → Once (Hears c me (record { sender = s; message = Meta n levels.Root 0 digests })) (Got me frame ∷ past) → ⊥)
     → SafeReplica c me (Sent me bytes ∷ Got me frame ∷ past) → ⊥
 
--- A fetch of an inner part that what is in place agrees with, at bytes that are got: the digests of the root's children
--- that were got have its digest, and no others were.
+-- A fetch of an inner part that the pages in place agree with, at bytes that the replica gets. The digests of the
+-- root's children that it got have the part's digest, and it got no others.
 abbrev pub FetchesWhatDiffers : Type 0
 FetchesWhatDiffers =
     (c : Configuration) (me k j : ℕ) (bytes frame : List ℕ) (past : List Entry)
@@ -452,7 +453,7 @@ FetchesWhatDiffers =
     (λ point. digest ≡ inner_digest (all_pages (in_place c me k (Got me frame ∷ past) point.state)) j))
     → SafeReplica c me (Sent me bytes ∷ Got me frame ∷ past) → ⊥
 
--- ---- what is owed
+-- ---- what a correct replica owes
 
 -- An event, an input with its outputs (the newest first), of a correct replica that goes on: it sends a frame after a
 -- later input, so it has not stopped.
@@ -465,7 +466,7 @@ pub record GoesOn (c : Configuration) (me : ℕ) (outputs : List Entry) (input :
   pub later : List ℕ
   pub is_replica : IsReplica c me (Sent me later ∷ (between ++ next ∷ (outputs ++ input ∷ past)))
 
--- A read that is got, and is not answered from the executed state with its number.
+-- A read that the replica receives, and does not answer from the executed state with its number.
 abbrev pub AnswersReads : Type 0
 AnswersReads =
     (c : Configuration) (me client timestamp : ℕ) (op : Operation) (answer : Outcome) (bytes : List ℕ)
@@ -476,7 +477,7 @@ AnswersReads =
     → GoesOn c me outputs (Got me bytes) past
     → SendsMessage me (Reply client timestamp modes.ReadOnly (newest_number past) answer) outputs
 
--- A fetch of digests, or of a page, of a kept state that is got and not answered to its sender.
+-- A fetch of digests, or of a page, of a kept state, which the replica receives and does not answer to its sender.
 abbrev pub AnswersDigestFetches : Type 0
 AnswersDigestFetches =
     (c : Configuration) (me s index : ℕ) (level : Level) (st : State) (bytes : List ℕ) (outputs past : List Entry)
@@ -494,7 +495,8 @@ AnswersPageFetches =
     → GoesOn c me outputs (Got me bytes) past
     → GivesTo me s (Page st.number index (page_text st index)) outputs
 
--- The digests below the root that a transfer awaits, got without a fetch of a part of it, while another root is in place.
+-- The replica receives the digests below the root that its transfer awaits. It fetches no part of that state, while
+-- another root is in place.
 abbrev pub AsksOn : Type 0
 AsksOn =
     (c : Configuration) (me s k : ℕ) (digests : List (List ℕ)) (bytes : List ℕ) (outputs past : List Entry)
@@ -506,7 +508,8 @@ AsksOn =
     root_of_pages (all_pages (in_place c me k (Got me bytes ∷ past) point.state)) ≢ digest_of_children digests)
     → GoesOn c me outputs (Got me bytes) past → Has (λ e. fetch_sent e ≡ k) outputs
 
--- The last page that a transfer awaits, got without the state being installed, which the pages in place are then.
+-- The replica receives the last page that its transfer awaits, and does not install the state that the pages in place
+-- are then.
 abbrev pub InstallsFetched : Type 0
 InstallsFetched =
     (c : Configuration) (me s k index : ℕ) (text bytes : List ℕ) (outputs past : List Entry)
@@ -521,7 +524,7 @@ InstallsFetched =
     → (Has (λ e. fetch_sent e ≡ k) outputs → ⊥)
     → GoesOn c me outputs (Got me bytes) past → k ≤ newest_number (outputs ++ Got me bytes ∷ past)
 
--- A request of the last timestamp that is got again, and does not get the kept reply.
+-- A request of the last timestamp that the replica receives again, and does not answer with the kept reply.
 abbrev pub AnswersAgain : Type 0
 AnswersAgain =
     (c : Configuration) (me k : ℕ) (op : Operation) (kept : Kept) (bytes : List ℕ) (outputs past : List Entry)
@@ -609,7 +612,7 @@ FetchesStarts =
     → new.start ≡ k → newest_number (outputs ++ input ∷ past) < k → fetching past < k → GoesOn c me outputs input past
     → SendsMessage me (Fetch k levels.Root 0) outputs
 
--- A tick, at which the last fetch of an open transfer is not sent again.
+-- A tick at which the replica does not send the last fetch of an open transfer again.
 abbrev pub FetchesAgain : Type 0
 FetchesAgain =
     (c : Configuration) (me k index : ℕ) (level : Level) (outputs past : List Entry)
@@ -631,7 +634,7 @@ MovesForReasons =
     → (vc.view ≤ target (outputs ++ input ∷ past))
     ⊎ ((leaf : ℕ) → leaf < 64 → (sent : List ℕ) × (leaf_of sent ≡ Some leaf) × SentBefore sent past))
 
--- A multiple of the period that is executed, and gets no checkpoint with the root of its state.
+-- A multiple of the period that the replica executes, without sending a checkpoint with the root of its state.
 abbrev pub SendsCheckpoints : Type 0
 SendsCheckpoints =
     (c : Configuration) (me k : ℕ) (input : Entry) (outputs past : List Entry)
@@ -651,7 +654,8 @@ SoManyHave count c set P =
 abbrev pub HasFrom : ℕ → Configuration → NewViewData → (ViewChangeData → Type 0) → Type 0
 HasFrom count c new P = SoManyHave count c (changes_of c new) P
 
--- what is prepared there for the number was so in an earlier view, or is this digest in this view
+-- its low mark is below the number, and each batch that it has prepared for the number was so in an earlier view, or
+-- has this digest in this view
 abbrev pub SaysNothingAgainst : ℕ → ℕ → List ℕ → ViewChangeData → Type 0
 SaysNothingAgainst i w digest vc =
     (vc.low < i)
@@ -687,7 +691,7 @@ TakesWellSelected =
     (c : Configuration) (past : List Entry) (e : Entry) (new : NewViewData) → taken c past e ≡ Some new
     → IsWellSelected c new
 
--- A new view below a view change that was sent.
+-- A new view below a view change that the replica sent.
 abbrev pub TakesNoLower : Type 0
 TakesNoLower =
     (c : Configuration) (me : ℕ) (past : List Entry) (e : Entry) (new : NewViewData) (vc : ViewChangeData)
@@ -695,8 +699,8 @@ TakesNoLower =
 
 -- ---- requests
 
--- A request that runs in a batch and again in a later one, where it comes with the same timestamp or an older one: the
--- later batch does as without it, so its client's reply stays and nothing of it runs.
+-- A request that runs in a batch and again in a later one, with the same timestamp or an older one. The later batch
+-- does as without it, so its client's reply stays and nothing of it runs.
 abbrev pub RunsOnce : Type 0
 RunsOnce =
     (c : Configuration) → IsConfiguration c

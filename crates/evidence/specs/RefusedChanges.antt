@@ -32,7 +32,7 @@ pub record SendsNewChange (c : Configuration) (me : ℕ) (vc : ViewChangeData) (
   pub is_new : SentBefore bytes past → ⊥
   pub is_safe : SafeReplica c me (Sent me bytes ∷ past)
 
--- A new view change for the own view, or one below it.
+-- A new view change for its sender's own view, or one below it.
 abbrev pub ChangesAboveView : Type 0
 ChangesAboveView =
     (c : Configuration) (me : ℕ) (vc : ViewChangeData) (bytes : List ℕ) (past : List Entry)
@@ -85,7 +85,7 @@ BatchEntriesDiffer =
     → i < j → slice_get vc.pre_prepared i ≡ Some a → slice_get vc.pre_prepared j ≡ Some b → a.number ≡ b.number
     → a.digest ≢ b.digest
 
--- A view change that goes again, and is not the last that was sent.
+-- A view change that its sender sends again, and that is not the last that it sent.
 abbrev pub ChangesAgainLast : Type 0
 ChangesAgainLast =
     (c : Configuration) (me : ℕ) (vc earlier : ViewChangeData) (bytes : List ℕ) (past : List Entry)
@@ -110,8 +110,8 @@ NoChangeAtFrame =
 abbrev pub count_above : Configuration → ℕ → List Entry → ℕ → ℕ
 count_above c me past v = count_below (λ s. not (s == me) && nat_lt v (latest_change c past s)) (replicas c)
 
--- At bytes that are got, a new view change while fewer than f + 1 others are above the view and all earlier targets,
--- or for a later view than one of them.
+-- At bytes that the replica receives, a new view change while fewer than f + 1 others are above the view and all
+-- earlier targets, or for a later view than one of them.
 abbrev pub ChangesJoinEnough : Type 0
 ChangesJoinEnough =
     (c : Configuration) (me : ℕ) (vc : ViewChangeData) (bytes frame : List ℕ) (past : List Entry)
@@ -147,7 +147,7 @@ CallsOperations =
     (c : Configuration) (me client timestamp : ℕ) (op : Operation) (later past : List Entry)
     → IsClient c me (later ++ Invoke client timestamp op ∷ past) → IsOperation op
 
--- ---- what is dropped
+-- ---- inputs that a correct replica drops
 
 -- The input, of this sender and message, is answered by a frame.
 pub record Answers (c : Configuration) (me s : ℕ) (message : Message) (bytes : List ℕ)
@@ -234,8 +234,8 @@ DropsSecondCommits =
     (c : Configuration) (me s v i : ℕ) (digest first bytes : List ℕ) (past : List Entry)
     → commit_of c me past v i s ≡ Some first → Answers c me s (Commit v i digest) bytes past → ⊥
 
--- A checkpoint at or below the low mark, of no number, or of a number of which the replica's was got before; and one
--- below the three that are kept of its sender.
+-- A checkpoint at or below the low mark, of no number, or of a number of which the sender's was received before; and
+-- one below the three that are kept of its sender.
 abbrev pub DropsLowCheckpoints : Type 0
 DropsLowCheckpoints =
     (c : Configuration) (me s k : ℕ) (root bytes : List ℕ) (past : List Entry)
@@ -269,7 +269,7 @@ DropsUnboundChanges =
     (c : Configuration) (me s : ℕ) (vc : ViewChangeData) (bytes : List ℕ) (past : List Entry)
     → is_within c vc ≡ false → Answers c me s (ViewChange vc) bytes past → ⊥
 
--- a view change within its bounds was got, signed by the replica
+-- a party receives a view change within its bounds, signed by the replica
 abbrev pub GotChange : Configuration → ℕ → ViewChangeData → List Entry → Entry → Type 0
 GotChange c s vc past (Got p bytes) = (signed_change c bytes ≡ Some (s, vc)) × (is_within c vc ≡ true)
 GotChange c s vc past _ = ⊥
@@ -309,7 +309,7 @@ abbrev pub IsNoRoot : Configuration → List Entry → ℕ → List ℕ → Type
 IsNoRoot c past k root =
     (HadQuorum c (record { number = k; digest = root }) past → ⊥) × (Once (StartsAt c k root) past → ⊥)
 
--- the digests below a place were got
+-- the replica received the digests below a place
 abbrev pub GotDigests : Configuration → ℕ → List Entry → Level → ℕ → List (List ℕ) → Type 0
 GotDigests c me past level index digests =
     (s n : ℕ) × Once (Hears c me (record { sender = s; message = Meta n level index digests })) past
@@ -353,7 +353,7 @@ WaitsOnceGot =
     → AtEachPoint c me (Got me bytes ∷ past)
     (λ point. Has (λ call. call ≡ record { client = k; timestamp = timestamp; op = op }) point.waiting)
 
--- A request that waits no more once a frame is got, though no newer one of its client waits.
+-- A request that waits no more once the replica receives a frame, though no newer one of its client waits.
 abbrev pub WaitsOverFrames : Type 0
 WaitsOverFrames =
     (c : Configuration) (me : ℕ) (call : Call) (bytes : List ℕ) (past : List Entry)
@@ -361,7 +361,7 @@ WaitsOverFrames =
     → AtEachPoint c me (Got me bytes ∷ past)
     (λ point. Has (λ x. (x ≡ call) ⊎ ((x.client ≡ call.client) × (call.timestamp < x.timestamp))) point.waiting)
 
--- no frame is got
+-- no party receives a frame
 abbrev pub is_other : Entry → Bool
 is_other e = elim e [ Got p bytes ↦ false | _ ↦ true ]
 

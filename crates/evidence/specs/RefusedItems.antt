@@ -27,8 +27,8 @@ AnswersAsOneSpace =
 
 -- ---- covers
 
--- A list without an operation that a correct client accepted, or with another answer of it, or with another operation
--- than it called.
+-- A list without an operation that a correct client accepted, with another answer to it, or with another operation than
+-- the client called.
 abbrev pub ListsWhatIsAccepted : Type 0
 ListsWhatIsAccepted =
     (c : Configuration) (items : List Item) (trace : List Entry) (client timestamp : ℕ) (answer : Outcome)
@@ -84,7 +84,7 @@ PlacesBehindCalls =
     → item.client ≡ 256 + client → is_correct_client c item.client ≡ true
     → Once (λ past e. (e ≡ Invoke client item.timestamp item.op) × (length past ≤ item.position)) trace
 
--- A list with an item of a correct client behind its acceptance.
+-- A list with an item of a correct client after its acceptance.
 abbrev pub PlacesBeforeAcceptances : Type 0
 PlacesBeforeAcceptances =
     (c : Configuration) (items : List Item) (later past : List Entry) (item : Item) (client : ℕ) (answer : Outcome)

@@ -49,7 +49,7 @@ HasCheckpoint c past k root s =
     Has (λ (checkpoint : CheckpointEntry). (checkpoint.number ≡ k) × (checkpoint.digest ≡ root))
     (checkpoints_of c past s)
 
--- checkpoints of 2f + 1 different replicas are alike, the own among them
+-- checkpoints of 2f + 1 different replicas are alike, the replica's own among them
 pub record IsStable (c : Configuration) (me : ℕ) (past : List Entry) (k : ℕ) (root : List ℕ) : Type 0 where
   pub from : ℕ → Bool
   pub enough : 2 * c.faults + 1 ≤ count_below from (replicas c)
@@ -61,17 +61,20 @@ abbrev pub InstallsNumber : ℕ → Entry → Type 0
 InstallsNumber k (Installed replica number root) = number ≡ k
 InstallsNumber k _ = ⊥
 
--- the number is stable behind the entry, is installed, or is where a taken new view starts
+-- the number is stable after the entry, or the entry installs a state of that number, or the new view taken at the
+-- entry starts there
 abbrev pub IsMarkAt : Configuration → ℕ → ℕ → List Entry → Entry → Type 0
 IsMarkAt c me k past e =
     ((root : List ℕ) × IsStable c me (e ∷ past) k root)
     ⊎ (InstallsNumber k e ⊎ ((new : NewViewData) × (taken c past e ≡ Some new) × (new.start ≡ k)))
 
--- A low mark below what is stable or was so, what was installed, or where a new view that was taken starts.
+-- A low mark below a number that is or was stable, whose state was installed, or at which a new view that was taken
+-- starts.
 abbrev pub LowIsNoLower : Type 0
 LowIsNoLower = (c : Configuration) (me k : ℕ) (past : List Entry) → Once (IsMarkAt c me k) past → k ≤ low c me past
 
--- A low mark above 0 that was none of these, as where all but the own checkpoint are alike, or 2f are.
+-- A low mark above 0 that was none of these, for example if all but the replica's own checkpoint are alike, or only 2f
+-- are.
 abbrev pub LowIsMarked : Type 0
 LowIsMarked =
     (c : Configuration) (me : ℕ) (past : List Entry) → (low c me past ≡ 0) ⊎ Once (IsMarkAt c me (low c me past)) past

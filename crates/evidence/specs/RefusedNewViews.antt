@@ -21,7 +21,7 @@ CameLast c me now x =
     × Once (λ past e. (e ≡ Got me bytes) × (view c past < x.1.view) × (latest_change c past x.0 < x.1.view)) now
     × (latest_change c now x.0 ≡ x.1.view)
 
--- It is the own one that was sent last.
+-- It is the replica's own one that it sent last.
 abbrev pub SentLast : ℕ → List Entry → ℕ × ViewChangeData → Type 0
 SentLast me now x =
     (bytes : List ℕ) × (x.0 ≡ me) × (said bytes ≡ Some (record { sender = me; message = ViewChange x.1 }))

@@ -25,7 +25,7 @@ pub record IsRunning (c : Configuration) (me : ℕ) (past : List Entry) (v i : �
   pub marks : is_in_marks c (low c me past) i ≡ true
   pub above : AtEachPoint c me past (λ point. point.state.number < i)
 
--- the own prepare is not sent again, the own commit, or the primary's own batch that no new view has
+-- the replica's own prepare or commit is not sent again, or the primary's own batch that no new view has
 abbrev pub SendsPreparesAgain : Type 0
 SendsPreparesAgain =
     (c : Configuration) (me v i : ℕ) (digest bytes : List ℕ) (outputs past : List Entry)
@@ -44,7 +44,7 @@ SendsBatchesAgain =
     → IsRunning c me past v i → primary c v ≡ me → IsBegunBelow c v i past → logged c me past v i ≡ Some batch
     → GetsAgain c me bytes outputs past → SendsMessage me (PrePrepare v i batch) outputs
 
--- the new view is not, by which the primary began its view, or the latest checkpoint
+-- the new view by which the primary began its view is not sent again, or the latest checkpoint
 abbrev pub SendsNewViewsAgain : Type 0
 SendsNewViewsAgain =
     (c : Configuration) (me v : ℕ) (bytes : List ℕ) (outputs past : List Entry)

@@ -84,7 +84,7 @@ AsksAll =
 
 -- ---- a run
 
--- An output behind another party's entry.
+-- An output directly after another party's entry.
 abbrev pub OutputsFollow : Type 0
 OutputsFollow =
     (c : Configuration) (e other : Entry) (past later : List Entry)
@@ -122,7 +122,7 @@ abbrev pub Gets : ℕ → List ℕ → Entry → Type 0
 Gets q bytes (Got p got) = (p ≡ q) × (got ≡ bytes)
 Gets q bytes _ = ⊥
 
--- Behind a flush, a frame, made by whom it may be, that one of its correct receivers did not get.
+-- After a flush, a frame, whoever made it, that one of its correct receivers did not get.
 abbrev pub FlushDeliversAll : Type 0
 FlushDeliversAll =
     (c : Configuration) (steps : List Step) (i q : ℕ) (made : Made) (trace : List Entry)
@@ -146,7 +146,7 @@ LogsNumbers =
     (c : Configuration) (me v i : ℕ) (batch : List ℕ) (past : List Entry)
     → SafeReplica c me past → logged c me past v i ≡ Some batch → i < 2 ^ 48
 
--- A new view that goes again while its sender is not active in it.
+-- A new view that its sender sends again while it is not active in it.
 abbrev pub NoBeginWhileInactive : Type 0
 NoBeginWhileInactive =
     (c : Configuration) (me : ℕ) (bytes : List ℕ) (new : NewViewData) (past : List Entry)

@@ -1,4 +1,4 @@
--- What the definitions of reports and of a schedule's steps refuse, and what a signed frame is.
+-- What the definitions of reports and of a schedule's steps refuse, and the definition of a signed frame.
 use Rattle.std.specs.Prelude.{◌≡◌, ◌≢◌, ℕ, ◌+◌, ◌≤◌, ◌<◌, ◌⊎◌, true, false, List, [], ◌∷◌, ◌++◌, length, Some, None, All, AllPairs, ⊤}
 use Rattle.tuple_codec.specs.Operations.{Operation, IsOperation}
 use Rattle.wire.specs.Messages.{BodyData as Body, MessageData as Message, FrameData as Frame, signature}
@@ -28,7 +28,7 @@ ReportsExist =
     (c : Configuration) (trace : List Entry)
     → (accepted : List Acceptance) × (items : List Item) × IsReport c trace accepted items
 
--- the entry is this acceptance; its position is how many entries stand behind it
+-- the entry is this acceptance; its position is how many entries come before it
 abbrev pub IsAcceptance : Acceptance → List Entry → Entry → Type 0
 IsAcceptance a past (Accepted client timestamp answer) =
     a ≡ record { position = length past; client = client; timestamp = timestamp; answer = answer }
@@ -46,7 +46,7 @@ ReportsNoOther =
     (c : Configuration) (trace : List Entry) (accepted : List Acceptance) (items : List Item) (a : Acceptance)
     → IsReport c trace accepted items → Has (λ x. x ≡ a) accepted → Once (IsAcceptance a) trace
 
--- each acceptance is at a lower position than those behind it
+-- each acceptance is at a lower position than those after it
 abbrev pub Rise : List Acceptance → Type 0
 Rise [] = ⊤
 Rise (a ∷ accepted) = Each (λ b. a.position < b.position) accepted × Rise accepted
@@ -113,7 +113,7 @@ abbrev pub FeedsWhatMayBeMade : Type 0
 FeedsWhatMayBeMade =
     (c : Configuration) (steps : List Step) (trace : List Entry) → Feeds c steps trace → Each (MayMake c) steps
 
--- Behind a flush, a frame that a step sealed, and that one of its correct receivers did not get.
+-- After a flush, a frame that a step sealed, and that one of its correct receivers did not get.
 abbrev pub FlushDeliversSealed : Type 0
 FlushDeliversSealed =
     (c : Configuration) (steps : List Step) (sender q : ℕ) (receivers body : List ℕ) (trace : List Entry)
@@ -129,7 +129,7 @@ FlushDeliversSigned =
     → Has (λ r. r ≡ q) receivers → is_correct c q ≡ true
     → Has (Gets q (signed_bytes c replica leaf body)) trace
 
--- A sealed frame with another behind it that an output of the event before it sent: steps come between events.
+-- A sealed frame with another after it that an output of the event before it sent: steps come between events.
 abbrev pub SealedIsNewest : Type 0
 SealedIsNewest =
     (c : Configuration) (steps : List Step) (sender : ℕ) (receivers body : List ℕ) (trace : List Entry)
@@ -145,7 +145,7 @@ SignedIsNewest =
     → (before : List Made)
     × (feeds.0.frames ≡ before ++ record { bytes = signed_bytes c replica leaf body; receivers = receivers } ∷ [])
 
--- a step that may come behind the trace, with these frames made
+-- a step that may come after the trace, with these frames made
 abbrev pub MayCome : Configuration → List Made → List Entry → Step → Type 0
 MayCome c frames trace (calls k op) =
     (is_correct_client c (256 + k) ≡ true) × (open_call (history_of (256 + k) trace) ≡ None) × IsOperation op
@@ -154,7 +154,7 @@ MayCome c frames trace (feed party text) = is_correct c party ≡ true
 MayCome c frames trace (ticks party) = is_correct c party ≡ true
 MayCome c frames trace step = MayMake c step
 
--- A step that may come behind the trace that the steps before it feed, and is not allowed.
+-- A step that may come after the trace that the steps before it feed, and is not allowed.
 abbrev pub AllowsWhatMayCome : Type 0
 AllowsWhatMayCome =
     (c : Configuration) (steps : List Step) (step : Step) (trace : List Entry) (feeds : Feeds c steps trace)
@@ -180,8 +180,8 @@ pub record IsSignedFrom (c : Configuration) (body : Body) (bytes : List ℕ) : T
   pub is_heard : (p : ℕ) → body.sender ≢ p → heard (members c) p bytes ≡ Some body
   pub is_told : signed_body (members c) bytes ≡ Some body
 
--- What a replica signs with one of its 64 leaves each other party hears, if the message is one that may be said and
--- goes with a signature, and the frame is not too long.
+-- If a replica signs a message with one of its 64 leaves, each other party hears it. The message must be one that may
+-- be said and goes with a signature, and the frame must not be too long.
 abbrev pub SignedFramesAreHeard : Type 0
 SignedFramesAreHeard =
     (c : Configuration) (replica leaf : ℕ) (message : Message)

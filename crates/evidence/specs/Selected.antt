@@ -58,6 +58,6 @@ pub record IsSelected (c : Configuration) (new : NewViewData) : Type 0 where
   pub stands : (k : ℕ) (batch : List ℕ) → slice_get new.batches k ≡ Some batch
       → MayStand c new.view set (suc new.start + k) batch
 
--- The definition refuses what breaks a rule, and nothing else.
+-- The definition refuses each new view that breaks a rule, and no other.
 abbrev pub NewViewsMeetTheRules : Type 0
 NewViewsMeetTheRules = (c : Configuration) (new : NewViewData) → (may_select c new ≡ true) ↔ IsSelected c new

@@ -1,4 +1,4 @@
--- A party may stop: behind any history of a correct one, it takes inputs and gives no output.
+-- A party may stop: after any history of a correct one, it takes inputs and gives no output.
 use Rattle.std.specs.Prelude.{◌≡◌, ℕ, suc, ◌+◌, List, ◌∷◌, None}
 use Rattle.tuple_codec.specs.Operations.{Operation, IsOperation}
 use Rattle.protocol.specs.System.Configuration.{Configuration}
@@ -11,13 +11,13 @@ use Rattle.protocol.specs.Replica.Owed.{IsReplica}
 abbrev pub TakesInputs : ℕ → (List Entry → Type 0) → List Entry → Type 0
 TakesInputs me Is past = ((bytes : List ℕ) → Is (Got me bytes ∷ past)) × Is (Tick me ∷ past)
 
--- the client calls, where no call is open
+-- the client calls, if no call is open
 abbrev pub TakesCalls : Configuration → ℕ → List Entry → Type 0
 TakesCalls c me past =
     (k : ℕ) (op : Operation) → me ≡ 256 + k → open_call past ≡ None → IsOperation op
     → IsClient c me (Invoke k (suc (last_call past)) op ∷ past)
 
--- A correct replica's history stays one where it takes an input and gives nothing: it stopped.
+-- A correct replica's history stays one if the replica takes an input and gives nothing: it stopped.
 abbrev pub ReplicasMayStop : Type 0
 ReplicasMayStop =
     (c : Configuration) (me : ℕ) (past : List Entry) → IsReplica c me past → TakesInputs me (IsReplica c me) past

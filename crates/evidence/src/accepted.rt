@@ -50,7 +50,7 @@ pub fn a_first_operation_is_unforged()
     ensures unforged { FirstOperationIsUnforged }
 {}
 
-/// It is what the schedule feeds that calls the operation and then delivers all frames.
+/// The schedule that calls the operation and then delivers all frames feeds it.
 pub fn a_first_operation_is_fed()
     ensures fed { FirstOperationIsFed }
 {}

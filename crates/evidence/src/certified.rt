@@ -11,29 +11,30 @@ pub fn own_commits_count()
     ensures sent { ExecutesWhatItCommits }
 {}
 
-/// The view of a new view that is taken is above the own one, and not below that of a view change that was sent. So
-/// none is taken twice.
+/// A replica takes a new view only above its own view, and not below a view change that it sent. So it takes none
+/// twice.
 pub fn taken_views_ascend()
     ensures later { TakesLater }
     ensures order { TakesInOrder }
 {}
 
-/// What an entry of a safe history logs is above the low mark and at most two periods above it, and what a new view
-/// that is taken has above it is logged. At the primary of a view its batches leave no gap above the low mark.
+/// Each batch that an entry of a safe history logs is above the low mark, and at most two periods above it. Each batch
+/// above the low mark in a new view that is taken is logged. At the primary of a view its batches leave no gap above
+/// the low mark.
 pub fn logged_batches_are_in_marks()
     ensures marks { LogsInMarks }
     ensures begun { LogsWhatBegins }
     ensures gaps { LeavesNoGap }
 {}
 
-/// What is prepared or committed at a replica stays so, whatever it gets later.
+/// A batch that is prepared or committed at a replica stays so, whatever the replica gets later.
 pub fn certificates_stay()
     ensures prepared { PreparedRemains }
     ensures committed { CommittedRemains }
 {}
 
-/// A replica that is behind may install the state of which three checkpoints have the root, once it asked for the
-/// one page that is another than its own, and got it.
+/// A replica that is behind may install the state whose root three checkpoints have. Before that it asks for the one
+/// page that differs from its own, and gets it.
 pub fn a_state_is_installed()
     ensures installed { StateIsInstalled }
 {}

@@ -1,5 +1,5 @@
-//! Laws of the definitions of clients and of parties that stop: which replies count, when a client gives nothing,
-//! what all that is correct keeps, and a client's history that is accepted.
+//! Laws of the definitions of clients and of parties that stop: which replies count, when a client gives nothing, what
+//! each correct history keeps, and a client's history that is accepted.
 
 ghost use Rattle.evidence.specs.Clients.{HeardIsLatest, LatestStays, CallsForget, WaitsForAnswers, FallsBackOnce, IgnoresOthers, RestsWithoutCall};
 ghost use Rattle.evidence.specs.Correct.{ReplicasHaveOwn, ClientsHaveOwn, SealsRequests, AsksItsCall, ReplicasAreSafe, ClientsAreSafe};
@@ -24,8 +24,8 @@ pub fn clients_wait()
     ensures calls { RestsWithoutCall }
 {}
 
-/// Each entry of a correct party's history is its own. All that a client sends are requests of its open call,
-/// read-only ones for reads alone, with the MACs of their bodies. And what is correct is safe.
+/// Each entry of a correct party's history is its own. A correct client sends only requests of its open call, read-only
+/// ones for reads alone, with the MACs of their bodies. Each correct history is safe.
 pub fn correct_histories_are_safe()
     ensures replicas_have_own { ReplicasHaveOwn }
     ensures clients_have_own { ClientsHaveOwn }
@@ -35,7 +35,7 @@ pub fn correct_histories_are_safe()
     ensures clients { ClientsAreSafe }
 {}
 
-/// A correct replica or client may stop: behind any history of it, an input may come and no output.
+/// A correct replica or client may stop: after any history it may take an input and give no output.
 pub fn parties_may_stop()
     ensures replicas { ReplicasMayStop }
     ensures clients { ClientsMayStop }

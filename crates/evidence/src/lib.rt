@@ -8,7 +8,7 @@
 //!   transfer a state, install one, join view changes, begin a view, enter one, or accept a read ([`accepted`],
 //!   [`certified`], [`clients`]).
 //! - They refuse over a hundred wrong histories, lists and traces ([`refused`] and the six modules beside it).
-//! - A new view is selected exactly where it meets the rules ([`selected`]).
+//! - A new view is selected exactly if it meets the rules ([`selected`]).
 //! - Further laws say what certificates and schedules hold, what a flush delivers next, and that the premises of the
 //!   protocol's laws can be met ([`certified`], [`fed`], [`premises`]).
 //! - What a party seals or signs is heard ([`sealed_frames_are_heard`], [`signed_frames_are_heard`]).
@@ -33,12 +33,12 @@ pub mod selected;
 ghost use Rattle.evidence.specs.FirstOperation.{SealedFramesAreHeard};
 ghost use Rattle.evidence.specs.RefusedSteps.{SignedFramesAreHeard};
 
-/// What a party of the configuration seals for others, each of them hears.
+/// If a party of the configuration seals a frame for others, each of them hears it.
 pub fn sealed_frames_are_heard()
     ensures heard { SealedFramesAreHeard }
 {}
 
-/// What a replica signs with one of its leaves, each party hears.
+/// If a replica signs a frame with one of its leaves, each other party hears it.
 pub fn signed_frames_are_heard()
     ensures heard { SignedFramesAreHeard }
 {}

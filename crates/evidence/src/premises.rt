@@ -40,17 +40,18 @@ pub fn runs_go_on()
     ensures calls { RunsTakeCalls }
 {}
 
-/// Nothing but what is got makes a trace forged. It stays unforged whatever is got that nobody takes as a correct
-/// sender's, or that its sender sent, alone or in other frames, and whatever a faulty party gets.
+/// Only bytes that a party gets can make a trace forged. It stays unforged if nobody takes a message in them as a
+/// correct sender's, unless that sender sent it, alone or in other frames. It stays unforged whatever a faulty party
+/// gets.
 pub fn unforged_traces_go_on()
     ensures others { OthersAreUnforged }
     ensures got { FramesMayBeGot }
     ensures faulty { FaultyHearAnything }
 {}
 
-/// As long as nothing is executed or installed and no page is got, the texts whose digests must differ are the null
-/// batch, the opening state's pages, the digests under its root, and the batches and digests of frames that were got or
-/// sent.
+/// As long as nothing is executed or installed and no party receives a page, the texts whose digests must differ are
+/// the null batch, the opening state's pages, the digests under its root, and the batches and digests of frames that
+/// were got or sent.
 pub fn texts_are_few()
     ensures few { TextsAreFew }
 {}
@@ -65,7 +66,8 @@ pub fn texts_are_listed()
 /// A replica that is behind fetches any number of pages below 1,024, each other than its own, and takes each of them.
 /// If they are the 513 pages of a state, it installs that state. It does all that it owes, and such frames exist. Each
 /// page adds its own text alone to those whose digests must differ: a run in which it takes 257 of them has at most
-/// 1,348 texts, and one in which it installs 513 has at most 1,622. So does a page that is got behind any other trace.
+/// 1,348 texts, and one in which it installs 513 has at most 1,622. A page that a party receives after any other trace
+/// adds its own text alone, too.
 pub fn fetched_pages_add_themselves()
     ensures frames { FetchFramesExist }
     ensures run { FetchingIsRun }

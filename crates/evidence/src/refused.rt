@@ -4,11 +4,11 @@ ghost use Rattle.evidence.specs.Refused.{SealsWell, SignsWell, PrePreparesAsPrim
 ghost use Rattle.evidence.specs.RefusedNewViews.{SendsNewViews, BeginsItsView};
 ghost use Rattle.evidence.specs.RefusedResending.{SendsPreparesAgain, SendsCommitsAgain, SendsBatchesAgain, SendsNewViewsAgain, SendsCheckpointsAgain, SendsChangesAgain};
 
-/// A right replica sends no ordered reply before anything is executed, no commit or prepare of a view after a view
-/// change above it, no checkpoint of a number that it never executed or that is no multiple of the period, and no
-/// prepare as the primary. It answers a read that was got, with the newest state's answer and number, sends no view
-/// change again while it is active, and asks only for parts of a state above its own whose root it was told by a quorum
-/// of checkpoints or by a new view's start.
+/// A right replica sends no ordered reply before anything is executed. It sends no commit or prepare of a view after a
+/// view change for a later view. It sends no checkpoint of a number that it never executed, or that is no multiple of
+/// the period. As the primary it sends no prepare. It sends a read-only reply only to a read that it received, with the
+/// newest state's answer and number. It sends no view change again while it is active. It asks only for parts of a
+/// state above its own, whose root a quorum of checkpoints or a new view's start told.
 pub fn right_replicas_do_not_say()
     ensures replies { RepliesAfterExecution }
     ensures commits { NoCommitAfterChange }
@@ -24,7 +24,7 @@ pub fn right_replicas_do_not_say()
 {}
 
 /// A right replica fetches no state below the newest that it fetched, asks for one part at a time, and for none below
-/// the root before it got the digests of the root's children. It asks for no inner part that agrees with what is in
+/// the root before it got the digests of the root's children. It asks for no inner part that agrees with the pages in
 /// place.
 pub fn right_replicas_fetch_what_differs()
     ensures newest { FetchesNewest }
@@ -33,9 +33,10 @@ pub fn right_replicas_fetch_what_differs()
     ensures differs { FetchesWhatDiffers }
 {}
 
-/// A right replica proposes only as the view's primary, and a view only as its primary; no number outside the marks,
-/// none after a view change above the view, none twice in a view, and no request that is not authentic to it. It skips
-/// no number above the low mark, goes back to none, and gives none more than two above the executed one.
+/// A right replica sends a pre-prepare only as the view's primary, and a new view only as that view's primary. It
+/// pre-prepares no number outside the marks, none after a view change for a later view, and none twice in a view. It
+/// proposes no request that is not authentic to it. It skips no number above the low mark, goes back to none, and gives
+/// none more than two above the executed one.
 pub fn right_primaries_propose()
     ensures primaries { PrePreparesAsPrimary }
     ensures marks { PrePreparesInMarks }
@@ -48,9 +49,9 @@ pub fn right_primaries_propose()
     ensures new_views { BeginsAsPrimary }
 {}
 
-/// A right replica skips no number, executes nothing that is not committed, leaves no prepared batch out of a view
-/// change, and installs no state one of whose pages it neither held nor got, so none without a header page of its
-/// number.
+/// A right replica skips no number, executes nothing that is not committed, and leaves no prepared batch out of a view
+/// change. It installs no state with a page that it neither held nor received. So it installs none without a header
+/// page of its number.
 pub fn right_replicas_do_not_skip()
     ensures executes { ExecutesNext }
     ensures committed { ExecutesWhatIsCommitted }
@@ -59,9 +60,9 @@ pub fn right_replicas_do_not_skip()
     ensures headers { InstallsWithHeader }
 {}
 
-/// A right replica gives no digests and no page of a state that is not kept, nor any that nobody asked for, and sends
-/// no ordered reply but of a request that ran in the event, or of what is kept if the event's input is that request; so
-/// where it installed nothing, the batch of the reply's number was executed and has the request.
+/// A right replica gives no digests and no page of a state that it does not keep, nor any that nobody asked for. It
+/// sends an ordered reply only for a request that ran in the event, or the kept one if the event's input is that
+/// request. So if it installed nothing, it executed the batch of the reply's number, and that batch has the request.
 pub fn right_replicas_give_what_they_have()
     ensures digests { GivesKeptDigests }
     ensures pages { GivesKeptPages }
@@ -72,8 +73,9 @@ pub fn right_replicas_give_what_they_have()
     ensures replies_executed { RepliesOfExecuted }
 {}
 
-/// A correct replica that goes on has answered, in the event of each input, a read from its executed state, a fetch of
-/// a part of a kept state, and the requests that ran in it or that come again with the last timestamp.
+/// A correct replica that goes on answers in the event of each input. It answers a read from its executed state, and a
+/// fetch of a part of a kept state. It replies to the requests that ran in the event, and to one that comes again with
+/// the last timestamp.
 pub fn correct_replicas_answer()
     ensures reads { AnswersReads }
     ensures digests { AnswersDigestFetches }
@@ -82,13 +84,13 @@ pub fn correct_replicas_answer()
     ensures ran { AnswersRan }
 {}
 
-/// A correct replica that goes on has prepared, as an active backup, what it logged in the event, committed what
-/// became prepared, executed what is committed and next, and numbered, as the active primary, the requests that
-/// wait, none of them twice in a view or in a batch; it has sent a checkpoint of each multiple of the period that
-/// it executed, and begun a transfer where a quorum of checkpoints is ahead, or the start of a new view. By a part that
-/// its transfer awaits it has asked for the next one, or installed the state, and at a tick it has sent the last fetch
-/// of an open transfer again. Where it had a reason to move to a view, it has sent a view change for it or for a later
-/// one, unless no frame says one or its keys are spent.
+/// A correct replica that goes on does all of the following. As an active backup it prepares each batch that it logs in
+/// the event. It commits each batch that becomes prepared, and executes each committed batch that comes next. As the
+/// active primary it numbers the requests that wait, none of them twice in a view or in a batch. It sends a checkpoint
+/// of each multiple of the period that it executes. It begins a state transfer if a quorum of checkpoints, or the start
+/// of a new view, is ahead. At a part that its transfer awaits it asks for the next one, or installs the state. At a
+/// tick it sends the last fetch of an open transfer again. If it has a reason to move to a view, it sends a view change
+/// for that view or a later one. It need not if no frame says one, or if its keys are spent.
 pub fn correct_replicas_go_on()
     ensures prepares { PreparesLogged }
     ensures commits { CommitsPrepared }
@@ -105,10 +107,10 @@ pub fn correct_replicas_go_on()
     ensures moves { MovesForReasons }
 {}
 
-/// A correct replica that goes on has sent again, when a waiting request came again, what it sent for numbers in the
-/// marks that aren't executed: its prepares, its commits, and as the primary the batches that no new view has. With
-/// them go the new view by which it began its view, and its latest checkpoint. An inactive one has sent its view
-/// change.
+/// When a waiting request comes again, a correct replica that goes on sends again its messages for numbers in the marks
+/// that aren't executed. These are its prepares, its commits, and as the primary the batches that no new view has. With
+/// them go the new view by which it began its view, and its latest checkpoint. An inactive replica sends its view
+/// change again.
 pub fn correct_replicas_send_again()
     ensures prepares { SendsPreparesAgain }
     ensures commits { SendsCommitsAgain }
@@ -118,17 +120,17 @@ pub fn correct_replicas_send_again()
     ensures changes { SendsChangesAgain }
 {}
 
-/// A correct replica that goes on leaves no new view that it could send, as the primary of the view that it moves to,
-/// over view changes and with batches that it has, unless its keys are spent. So it is in the beginning, once it has
-/// the view changes of two others and its own.
+/// A correct replica that goes on sends the new view as the primary of the view that it moves to. It does so once it
+/// has the view changes and the batches for one, unless its keys are spent. In the beginning it does so once it has its
+/// own view change and those of two others.
 pub fn correct_primaries_begin_views()
     ensures new_views { SendsNewViews }
     ensures first { BeginsItsView }
 {}
 
 /// A right replica seals a reply for its client alone, a part of a state for one replica that asked for it, and a
-/// commit for each other replica; each MAC is that of the body for its receiver, and a signature is its
-/// own, by a leaf that signs no other frame. It sends no frame twice in one event.
+/// commit for each other replica. Each MAC is that of the body for its receiver. Each signature is its own, by a leaf
+/// that signs no other frame. It sends no frame twice in one event.
 pub fn right_replicas_address_all()
     ensures replies { RepliesToItsClient }
     ensures digests { DigestsToWhoAsked }
@@ -148,9 +150,9 @@ pub fn correct_replicas_drop()
     ensures own { DropsOwnFrames }
 {}
 
-/// A new view is not taken over too few view changes, over some for another view, if it leaves out a number prepared in
-/// one of them, with a batch that fewer than `2f + 1` have nothing against or that fewer than `f + 1` vouch for, or
-/// below a view change that was sent.
+/// A replica takes no new view over too few view changes, or over some for another view. It takes none that leaves out
+/// a number prepared in one of them. It takes none with a batch that fewer than `2f + 1` have nothing against, or that
+/// fewer than `f + 1` vouch for. It takes none below a view change that it sent.
 pub fn new_views_meet_rules()
     ensures selected { TakesWellSelected }
     ensures lower { TakesNoLower }
@@ -161,7 +163,7 @@ pub fn requests_run_once()
     ensures once { RunsOnce }
 {}
 
-/// A right client accepts only where `2f + 1` different replicas answered the call alike, in mode, number and answer.
+/// A right client accepts only if `2f + 1` different replicas answered the call alike, in mode, number and answer.
 pub fn right_clients_wait()
     ensures quorum { AcceptsAtQuorum }
 {}

@@ -17,7 +17,7 @@ pub fn right_replicas_change_upwards()
 {}
 
 /// A right replica sends a new view change for a reason: at a tick for the next view, if something waits or it is
-/// inactive; else where f + 1 others are ahead of it, for the least of their views.
+/// inactive; else if f + 1 others are ahead of it, for the least of their views.
 pub fn right_replicas_change_for_a_reason()
     ensures first { NoChangeAtFirst }
     ensures frame { NoChangeAtFrame }
@@ -32,8 +32,8 @@ pub fn correct_clients_call_in_turn()
     ensures operations { CallsOperations }
 {}
 
-/// A correct replica answers no read-only request of what is no read, and no ordered one by a replica, older than its
-/// client's last, or older than one that waits.
+/// A correct replica answers no read-only request whose operation is no read. It answers no ordered request that a
+/// replica sends, and none that is older than its client's last or than one that waits.
 pub fn correct_replicas_drop_requests()
     ensures writes { DropsWrites }
     ensures replicas { DropsRequestsOfReplicas }
@@ -41,8 +41,8 @@ pub fn correct_replicas_drop_requests()
     ensures passed { DropsPassedRequests }
 {}
 
-/// A correct replica answers no pre-prepare by another than the primary, while it is not active in the view, outside
-/// the marks, or for a number that is logged.
+/// A correct replica answers no pre-prepare that another than the primary sends, and none while it is not active in the
+/// view. It answers none for a number that is outside the marks or logged.
 pub fn correct_replicas_drop_proposals()
     ensures backups { DropsPrePreparesOfBackups }
     ensures inactive { DropsPrePreparesWhileInactive }
@@ -78,8 +78,9 @@ pub fn correct_replicas_drop_changes()
     ensures new_views { DropsNewViews }
 {}
 
-/// A correct replica answers no fetch of a number of which it keeps no state, and no digests or page of a number that
-/// its state has reached, or of another digest than the checkpoints or a new view, and the parts above it, say.
+/// A correct replica answers no fetch of a number of which it keeps no state. It answers no digests or page of a number
+/// that its state has reached. It answers none whose digest differs from the one that the checkpoints or a new view,
+/// and the parts above it, give.
 pub fn correct_replicas_drop_parts()
     ensures fetches { DropsFetches }
     ensures low_digests { DropsLowDigests }
@@ -89,8 +90,8 @@ pub fn correct_replicas_drop_parts()
     ensures pages { DropsOtherPages }
 {}
 
-/// At a right replica a client's newest request waits from when it is got until it or a newer one ran, also over an
-/// installation, and no longer.
+/// At a right replica a client's newest request waits from when the replica receives it, also over an installation. It
+/// waits until it or a newer one of the client ran, and no longer.
 pub fn right_replicas_keep_requests_waiting()
     ensures got { WaitsOnceGot }
     ensures frames { WaitsOverFrames }

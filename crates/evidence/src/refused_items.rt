@@ -4,10 +4,11 @@ ghost use Rattle.evidence.specs.RefusedItems.{AnswersAsOneSpace, ListsWhatIsAcce
 ghost use Rattle.evidence.specs.FirstOperation.{FirstOperationHasItsPoint};
 ghost use Rattle.evidence.specs.FirstReads.{ReadsHaveTheirPoints};
 
-/// Each answer of a legal list is that of one space. What covers a trace lists what correct clients accepted, with
-/// that answer, nothing of a correct client that it did not call, nothing of a faulty one that no correct replica
-/// was asked for by then, and nothing twice. What is placed never falls, and is between call and acceptance. What
-/// is linear is all three.
+/// Each answer of a legal list is that of one space. A list that covers a trace has each operation that a correct
+/// client accepted, with that answer. It has nothing of a correct client that the client did not call. It has nothing
+/// of a faulty client that no correct replica was asked for by then, and nothing twice. The positions of a placed list
+/// never fall, and a correct client's are between call and acceptance. A linear list is legal, covers the trace and is
+/// placed.
 pub fn lists_are_refused()
     ensures answers { AnswersAsOneSpace }
     ensures accepted { ListsWhatIsAccepted }
@@ -20,8 +21,8 @@ pub fn lists_are_refused()
     ensures linear { LinearIsAllThree }
 {}
 
-/// A trace is not linearizable in which a read misses what was written before it was called, or finds what is written
-/// only after it was accepted.
+/// A trace is not linearizable if a read misses a tuple that was written before the read was called. Nor is it if a
+/// read finds a tuple that is written only after the read was accepted.
 pub fn traces_are_refused()
     ensures seen { WritesAreSeen }
     ensures not_early { ReadsAreNotEarly }
@@ -33,8 +34,8 @@ pub fn a_first_operation_has_its_point()
     ensures point { FirstOperationHasItsPoint }
 {}
 
-/// Beside it, the points of reads: those that were called before it stand where the third replica executes it,
-/// behind it and by client, and one that is called behind it stands where it is called.
+/// Reads that clients call before that operation have their points where the third replica executes it. They stand
+/// after it, in the order of their clients. A read that a client calls after it has its point where it is called.
 pub fn first_reads_have_their_points()
     ensures points { ReadsHaveTheirPoints }
 {}

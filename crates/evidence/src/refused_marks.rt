@@ -9,9 +9,9 @@ pub fn new_views_are_well_founded()
     ensures founded { TakesWellFounded }
 {}
 
-/// The low mark is no lower than what is or was stable, what was installed, and where a new view that was taken
-/// starts, and is 0 or one of these. Stable is what checkpoints of `2f + 1` different replicas say alike, the own
-/// among them.
+/// The low mark is at least the number of each checkpoint that is or was stable, and of each state that was installed.
+/// It is at least the start of each new view that was taken. It is 0 or one of these numbers. A checkpoint is stable if
+/// `2f + 1` different replicas have it alike, the replica itself among them.
 pub fn low_marks_are_certified()
     ensures lower { LowIsNoLower }
     ensures marked { LowIsMarked }

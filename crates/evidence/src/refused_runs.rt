@@ -3,9 +3,9 @@
 ghost use Rattle.evidence.specs.RefusedRuns.{AcceptsAlike, FallsBack, AsksAtTicks, AsksAll, OutputsFollow, FeedsEachCall, FeedsEachTick, FlushDeliversAll, FlushDeliversSent, LogsNumbers, NoBeginWhileInactive, KeepsProposed, NoRequestByReplica, InstallsItsRoot};
 ghost use Rattle.protocol.specs.Laws.Schedules.{FeedsEachStep, AllowsSent};
 
-/// A correct client that goes on accepts, and gives nothing else, where `2f + 1` replicas' latest replies are alike; it
-/// gives its open call's ordered request, and nothing else, once all replicas have answered a read and too few alike,
-/// and at each tick. It seals each request for all replicas.
+/// A correct client that goes on accepts, and gives nothing else, if `2f + 1` replicas' latest replies are alike. Once
+/// all replicas have answered a read, and too few alike, it gives its open call's ordered request and nothing else. It
+/// does the same at each tick. It seals each request for all replicas.
 pub fn correct_clients_go_on()
     ensures accepts { AcceptsAlike }
     ensures reads { FallsBack }
@@ -13,7 +13,7 @@ pub fn correct_clients_go_on()
     ensures receivers { AsksAll }
 {}
 
-/// In a run no output stands behind another party's entry.
+/// In a run no output directly follows another party's entry.
 pub fn outputs_follow_inputs()
     ensures follow { OutputsFollow }
 {}

@@ -12,16 +12,16 @@ pub fn reports_are_exact()
     ensures points { ReportsAreLinear }
 {}
 
-/// A report of a client's first operation at four replicas lists one acceptance: client 0's, of timestamp 1, behind
-/// 49 entries, with the empty space's answer, and one item: that operation with this answer, at the position at
-/// which the third replica executes it.
+/// A report of a client's first operation at four replicas lists one acceptance: client 0's, of timestamp 1, after 49
+/// entries, with the empty space's answer, and one item: that operation with this answer, at the position at which the
+/// third replica executes it.
 pub fn a_first_operation_is_reported()
     ensures reported { FirstOperationIsReported }
 {}
 
-/// Inputs are fed to correct parties alone, and calls only where none of the client is open, of operations within
-/// the limits. Steps make frames of faulty parties alone, for 1 to 10 parties in ascending order, and sign with the
-/// 64 leaves of a replica. Each such step is allowed behind a schedule, and no other.
+/// A schedule feeds inputs to correct parties alone. It feeds a call only if its client has none open and its operation
+/// is within the limits. Steps make frames of faulty parties alone, for 1 to 10 parties in ascending order, and sign
+/// with the 64 leaves of a replica. After a schedule each such step is allowed, and no other.
 pub fn steps_are_allowed()
     ensures inputs { FeedsWhatMayBeFed }
     ensures frames { FeedsWhatMayBeMade }
@@ -29,7 +29,7 @@ pub fn steps_are_allowed()
     ensures no_other { AllowsNoOther }
 {}
 
-/// A flush delivers each frame that a step made, and no output of an event before that step sends one behind it.
+/// A flush delivers each frame that a step made. No output of an event before that step sends a frame after that one.
 pub fn made_frames_are_delivered()
     ensures sealed { FlushDeliversSealed }
     ensures signed { FlushDeliversSigned }
