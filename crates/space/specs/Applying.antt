@@ -20,7 +20,7 @@ nothing_in v = record { version = v; tuples = [] }
 
 -- what a new space holds
 abbrev pub no_tuples : Contents
-no_tuples = nothing_in versions.One
+no_tuples = record { version = versions.One; tuples = [] }
 
 -- A space of version 1 holds at most 8,192 tuples, one of version 2 at most 12,288.
 abbrev pub most_tuples : Version → ℕ

@@ -2,13 +2,14 @@
 use Rattle.std.proofs.Common.{◌≡◌, Bool, true, false, refl, ap}
 use Rattle.std.specs.Bool.{Decides, beq}
 use Rattle.std.proofs.lemmas.Bool.{and_parts, and_from}
-use Rattle.std.proofs.lemmas.Bool.Decides.{Decides-int_eq, Decides-eqb}
+use Rattle.std.proofs.lemmas.Bool.Decides.{Decides-int_eq}
 use Rattle.std.proofs.lemmas.Slice.Eq.{bytes_eq-Decides}
 use Rattle.tuple_tree.specs.Items.{Item, leaf, inner, none, item}
+use Rattle.tuple_tree.specs.declared.atoms.Kind.{Kind}
+use Rattle.tuple_tree.specs.declared.atoms.Kind.TheVariants as kinds
 use Rattle.tuple_tree.specs.Values.{Datum, number, text, bytes, truth, wide, Slot, actual, any, formal, kind_of, TupleTree, TemplateTree}
-use Rattle.tuple_tree.specs.ValuesCode.{kind_number, kind_from, kind_from-number}
 use Rattle.template_match.specs.Matches.{Matches, FieldMatches, SlotMatches}
-use Rattle.template_match.specs.Tests.{is_match, is_field_match, is_slot_match, datum_eq}
+use Rattle.template_match.specs.Tests.{is_match, is_field_match, is_slot_match, is_of_kind, datum_eq}
 
 beq_decides : (b c : Bool) → Decides (beq b c) (b ≡ c)
 beq_decides true true = (λ h. refl, λ e. refl)
@@ -44,13 +45,50 @@ datum_decides (wide m) (bytes s) = (λ h. cc, λ e. cc)
 datum_decides (wide m) (truth b) = (λ h. cc, λ e. cc)
 datum_decides (wide m) (wide n) = let d = Decides-int_eq m n in (λ h. ap wide (d.0 h), λ e. d.1 cc)
 
+-- a value's kind
+pub kind_decides : (k : Kind) (v : Item Datum) → Decides (is_of_kind k v) (kind_of v ≡ k)
+kind_decides kinds.Number (leaf (number n)) = (λ h. refl, λ e. refl)
+kind_decides kinds.Number (leaf (text s)) = (λ h. cc, λ e. cc)
+kind_decides kinds.Number (leaf (bytes s)) = (λ h. cc, λ e. cc)
+kind_decides kinds.Number (leaf (truth b)) = (λ h. cc, λ e. cc)
+kind_decides kinds.Number (inner t) = (λ h. cc, λ e. cc)
+kind_decides kinds.Number (leaf (wide n)) = (λ h. cc, λ e. cc)
+kind_decides kinds.Text (leaf (number n)) = (λ h. cc, λ e. cc)
+kind_decides kinds.Text (leaf (text s)) = (λ h. refl, λ e. refl)
+kind_decides kinds.Text (leaf (bytes s)) = (λ h. cc, λ e. cc)
+kind_decides kinds.Text (leaf (truth b)) = (λ h. cc, λ e. cc)
+kind_decides kinds.Text (inner t) = (λ h. cc, λ e. cc)
+kind_decides kinds.Text (leaf (wide n)) = (λ h. cc, λ e. cc)
+kind_decides kinds.Bytes (leaf (number n)) = (λ h. cc, λ e. cc)
+kind_decides kinds.Bytes (leaf (text s)) = (λ h. cc, λ e. cc)
+kind_decides kinds.Bytes (leaf (bytes s)) = (λ h. refl, λ e. refl)
+kind_decides kinds.Bytes (leaf (truth b)) = (λ h. cc, λ e. cc)
+kind_decides kinds.Bytes (inner t) = (λ h. cc, λ e. cc)
+kind_decides kinds.Bytes (leaf (wide n)) = (λ h. cc, λ e. cc)
+kind_decides kinds.Truth (leaf (number n)) = (λ h. cc, λ e. cc)
+kind_decides kinds.Truth (leaf (text s)) = (λ h. cc, λ e. cc)
+kind_decides kinds.Truth (leaf (bytes s)) = (λ h. cc, λ e. cc)
+kind_decides kinds.Truth (leaf (truth b)) = (λ h. refl, λ e. refl)
+kind_decides kinds.Truth (inner t) = (λ h. cc, λ e. cc)
+kind_decides kinds.Truth (leaf (wide n)) = (λ h. cc, λ e. cc)
+kind_decides kinds.Tuple (leaf (number n)) = (λ h. cc, λ e. cc)
+kind_decides kinds.Tuple (leaf (text s)) = (λ h. cc, λ e. cc)
+kind_decides kinds.Tuple (leaf (bytes s)) = (λ h. cc, λ e. cc)
+kind_decides kinds.Tuple (leaf (truth b)) = (λ h. cc, λ e. cc)
+kind_decides kinds.Tuple (inner t) = (λ h. refl, λ e. refl)
+kind_decides kinds.Tuple (leaf (wide n)) = (λ h. cc, λ e. cc)
+kind_decides kinds.Wide (leaf (number n)) = (λ h. cc, λ e. cc)
+kind_decides kinds.Wide (leaf (text s)) = (λ h. cc, λ e. cc)
+kind_decides kinds.Wide (leaf (bytes s)) = (λ h. cc, λ e. cc)
+kind_decides kinds.Wide (leaf (truth b)) = (λ h. cc, λ e. cc)
+kind_decides kinds.Wide (inner t) = (λ h. cc, λ e. cc)
+kind_decides kinds.Wide (leaf (wide n)) = (λ h. refl, λ e. refl)
+
 slot_decides : (s : Slot) (v : Item Datum) → Decides (is_slot_match s v) (SlotMatches s v)
 slot_decides (actual x) (leaf y) = let d = datum_decides x y in (λ h. let e = d.0 h in cc, λ e. d.1 cc)
 slot_decides (actual x) (inner t) = (λ h. cc, λ e. cc)
 slot_decides any v = (λ h. tt, λ e. refl)
-slot_decides (formal k) v =
-    let d = Decides-eqb (kind_number (kind_of v)) (kind_number k) in
-    (λ h. let e = ap kind_from (d.0 h) in let p = kind_from-number (kind_of v) in let q = kind_from-number k in cc, λ e. d.1 (ap kind_number e))
+slot_decides (formal k) v = kind_decides k v
 
 mutual
   field_decides : (f : Item Slot) (v : Item Datum) → Decides (is_field_match f v) (FieldMatches f v)

@@ -1,11 +1,12 @@
 -- A test that computes whether a template matches a tuple.
-use Rattle.std.specs.Prelude.{Bool, true, false, ◌&&◌, ◌==◌}
+use Rattle.std.specs.Prelude.{Bool, true, false, ◌&&◌}
 use Rattle.std.specs.Ordering.{int_eq}
 use Rattle.std.specs.Str.{bytes_eq}
 use Rattle.std.specs.Bool.{beq}
 use Rattle.tuple_tree.specs.Items.{Item, leaf, inner, none, item}
-use Rattle.tuple_tree.specs.Values.{Datum, number, text, bytes, truth, wide, Slot, actual, any, formal, kind_of, TupleTree, TemplateTree}
-use Rattle.tuple_tree.specs.ValuesCode.{kind_number}
+use Rattle.tuple_tree.specs.declared.atoms.Kind.{Kind}
+use Rattle.tuple_tree.specs.declared.atoms.Kind.TheVariants as kinds
+use Rattle.tuple_tree.specs.Values.{Datum, number, text, bytes, truth, wide, Slot, actual, any, formal, TupleTree, TemplateTree}
 
 -- Whether two plain values are equal; values of different kinds never are.
 abbrev pub datum_eq : Datum → Datum → Bool
@@ -20,10 +21,20 @@ abbrev pub is_datum : Datum → Item Datum → Bool
 is_datum x (leaf y) = datum_eq x y
 is_datum x (inner t) = false
 
+-- Whether a value is of a kind.
+abbrev pub is_of_kind : Kind → Item Datum → Bool
+is_of_kind kinds.Number (leaf (number n)) = true
+is_of_kind kinds.Text (leaf (text s)) = true
+is_of_kind kinds.Bytes (leaf (bytes s)) = true
+is_of_kind kinds.Truth (leaf (truth b)) = true
+is_of_kind kinds.Tuple (inner t) = true
+is_of_kind kinds.Wide (leaf (wide n)) = true
+is_of_kind _ _ = false
+
 abbrev pub is_slot_match : Slot → Item Datum → Bool
 is_slot_match (actual x) v = is_datum x v
 is_slot_match any v = true
-is_slot_match (formal k) v = kind_number (kind_of v) == kind_number k
+is_slot_match (formal k) v = is_of_kind k v
 
 abbrev mutual
   pub is_field_match : Item Slot → Item Datum → Bool

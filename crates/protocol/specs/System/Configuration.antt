@@ -50,7 +50,7 @@ abbrev pub is_faulty_replica : Configuration → ℕ → Bool
 is_faulty_replica c = member c.faulty_replicas
 
 abbrev pub is_correct_replica : Configuration → ℕ → Bool
-is_correct_replica c p = is_replica c p && not (is_faulty_replica c p)
+is_correct_replica c p = is_replica c p && not (member c.faulty_replicas p)
 
 abbrev pub is_correct_client : Configuration → ℕ → Bool
 is_correct_client c p = is_client c p && not (member c.faulty_clients (p - 256))
