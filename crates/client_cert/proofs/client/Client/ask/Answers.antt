@@ -9,7 +9,7 @@ returns-clause-asked c =
     IfOk-weaker c.sole.result _ _ (λ outs is. rw (← c.self.view_is) (record {
       text = c.in_ok-text.text.items;
       call = c.in-Some.call;
-      given = rw is refl;
+      given = rw (is, c.in_ok-frame.ensures) refl;
       was = sym c.take.ensures.value ∙ c.in-Some.is;
       asks = asks;
       becomes = record {
@@ -18,6 +18,6 @@ returns-clause-asked c =
         calls = refl;
         call_is = c.put.ensures ∙ ap Some c.request-call.ensures.went;
       };
-      meant = rw is
+      meant = rw (is, c.in_ok-frame.ensures)
           (λ k known. (request_goes c.self.inside.ring _ _ c.self.inside.faults _ _ _ c.in_ok-text.text.items c.self.invariant.0 c.in_ok-receivers.ensures asks k known, tt));
     })) c.sole.ensures
