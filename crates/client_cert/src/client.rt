@@ -14,7 +14,7 @@ use crate::asking::{all_replicas, first_mode};
 use crate::call::{Call, request};
 use crate::hearing::{Turned, weigh};
 use authenticator::Ring;
-use events::{Output, Outputs, Stop, give};
+use events::{Output, Outputs, SharedBytes, Stop, give};
 use signing::PublicKeys;
 use std::alloc::Global;
 use std::marker::Model;
@@ -284,7 +284,8 @@ impl Client {
         put(&mut self.call, Some(call));
         let text = sealed?;
         let receivers = all_replicas(alloc, 3 * self.faults + 1)?;
-        sole(alloc, Output::Send(receivers, text))
+        let frame = SharedBytes::new(text)?;
+        sole(alloc, Output::Send(receivers, frame))
     }
 }
 

@@ -16,7 +16,7 @@ use Rattle.protocol.specs.System.Trace.Entry.{Executed, Installed, Sent, Accepte
 abbrev pub entry_of : ℕ → Output → Entry
 entry_of me (outputs.Executed number batch) = Executed me number.0 batch.items
 entry_of me (outputs.Installed number root) = Installed me number.0 root
-entry_of me (outputs.Send receivers frame) = Sent me frame.items
+entry_of me (outputs.Send receivers frame) = Sent me frame
 entry_of me (outputs.Accepted timestamp answer) = Accepted (me - 256) timestamp.0 (outcome_of answer)
 
 -- the history after a list of entries, the oldest first
@@ -37,7 +37,7 @@ receivers_in c sender bytes = option_map_or (λ frame. meant_for c sender frame.
 -- If the party sends a frame, the frame goes exactly to the parties for whom it is.
 abbrev pub IsSentAsMeant : Configuration → ℕ → Output → Type 0
 IsSentAsMeant c me (outputs.Send receivers frame) =
-    map party_number receivers.items ≡ receivers_in c me frame.items
+    map party_number receivers.items ≡ receivers_in c me frame
 IsSentAsMeant c me _ = ⊤
 
 -- So does each frame that the party sends.

@@ -3,6 +3,7 @@
 ghost use Rattle.std.specs.Prelude.{◌≡◌};
 ghost use Rattle.events.specs.EntryView.{entry_of_kind};
 
+use crate::shared_bytes::SharedBytes;
 use std::alloc::Global;
 use std::marker::Model;
 use terms::{ClientId, Digest, Number, Party, ReplicaId, Timestamp};
@@ -14,7 +15,7 @@ pub enum EntryKind {
     /// A client calls an operation.
     Invoke(ClientId, Timestamp, Op<Global>),
     /// The party received these bytes.
-    Got(Party, Vec<u8>),
+    Got(Party, SharedBytes),
     /// A timeout of the party.
     Tick(Party),
     /// A replica executed the batch of this text at the number.
@@ -22,7 +23,7 @@ pub enum EntryKind {
     /// A replica installed the state of this number and root.
     Installed(ReplicaId, Number, Digest),
     /// The party sent this frame.
-    Sent(Party, Vec<u8>),
+    Sent(Party, SharedBytes),
     /// A client accepted the answer to its call of this timestamp.
     Accepted(ClientId, Timestamp, Answer<Global>),
 }

@@ -11,13 +11,16 @@
 //!
 //! - Each call that gives outputs promises `AreSentAsMeant` of them. A frame's bytes say for whom it is: `meant_for` of
 //!   the protocol.
+//! - A frame's bytes are [`SharedBytes`]: outputs, entries and inboxes share them, and copy none.
 //! - `entry_of` is the entry for which an output stands (`specs/Outputs.antt`).
 #![tactic(auto)]
 
 mod config;
 mod entry;
 mod output;
+mod shared_bytes;
 
 pub use config::{BadConfig, Config};
 pub use entry::{Entry, EntryKind};
 pub use output::{Output, Outputs, Stop, give};
+pub use shared_bytes::SharedBytes;

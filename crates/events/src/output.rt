@@ -2,6 +2,7 @@
 
 ghost use Rattle.std.specs.Prelude.{◌≡◌, ◌++◌, ◌∷◌, [], OnOk, IfErr};
 
+use crate::shared_bytes::SharedBytes;
 use std::alloc::{AllocError, AllocFailed, Global};
 use terms::{Digest, NoMemory, Number, Party, Timestamp};
 use thiserror::Error;
@@ -15,7 +16,7 @@ pub enum Output {
     /// A replica installed the state of this number and root.
     Installed(Number, Digest),
     /// The bytes of a frame, and its receivers.
-    Send(Vec<Party>, Vec<u8>),
+    Send(Vec<Party>, SharedBytes),
     /// A client accepted the answer to its call of this timestamp.
     Accepted(Timestamp, Answer<Global>),
 }

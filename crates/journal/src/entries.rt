@@ -72,7 +72,7 @@ pub(crate) fn have_ordering(entries: &[Entry]) -> bool
     entries.iter().any(|entry| orders(entry))
 }
 
-/// Equal entries.
+/// Equal entries, which share the bytes of frames.
 pub(crate) fn copy_entries(alloc: Global, entries: &[Entry]) -> Result<Vec<Entry>, NoMemory>
     ensures { IfOk result (λ copies. copies.items ≡ entries.now) }
 {
@@ -83,7 +83,7 @@ pub(crate) fn copy_entries(alloc: Global, entries: &[Entry]) -> Result<Vec<Entry
     Ok(copies)
 }
 
-/// Equal entries, without those of reads.
+/// Equal entries, without those of reads, which share the bytes of frames.
 pub(crate) fn copy_ordering(alloc: Global, entries: &[Entry]) -> Result<Vec<Entry>, NoMemory>
     ensures { IfOk result (λ copies. copies.items ≡ without_reads entries.now) }
 {
@@ -109,9 +109,7 @@ fn copy_kind(alloc: Global, kind: &EntryKind) -> Result<EntryKind, NoMemory>
         EntryKind::Invoke(client, timestamp, op) => {
             Ok(EntryKind::Invoke(*client, *timestamp, op.copy_in(alloc)?))
         }
-        EntryKind::Got(party, bytes) => {
-            Ok(EntryKind::Got(*party, Vec::from_slice(alloc, bytes.as_slice())?))
-        }
+        EntryKind::Got(party, bytes) => Ok(EntryKind::Got(*party, bytes.share()?)),
         EntryKind::Tick(party) => Ok(EntryKind::Tick(*party)),
         EntryKind::Executed(replica, number, batch) => {
             let batch = Vec::from_slice(alloc, batch.as_slice())?;
@@ -120,9 +118,7 @@ fn copy_kind(alloc: Global, kind: &EntryKind) -> Result<EntryKind, NoMemory>
         EntryKind::Installed(replica, number, root) => {
             Ok(EntryKind::Installed(*replica, *number, *root))
         }
-        EntryKind::Sent(party, bytes) => {
-            Ok(EntryKind::Sent(*party, Vec::from_slice(alloc, bytes.as_slice())?))
-        }
+        EntryKind::Sent(party, bytes) => Ok(EntryKind::Sent(*party, bytes.share()?)),
         EntryKind::Accepted(client, timestamp, answer) => {
             Ok(EntryKind::Accepted(*client, *timestamp, answer.copy_in(alloc)?))
         }

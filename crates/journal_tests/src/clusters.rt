@@ -7,7 +7,7 @@ ghost use Rattle.protocol.specs.System.Trace.Entry.{Got, Tick};
 ghost use Rattle.journal_tests.specs.Calls.{AsksFirst, IsFirstCall, first_op};
 
 use authenticator::Ring;
-use events::{Config, Entry, EntryKind};
+use events::{Config, Entry, EntryKind, SharedBytes};
 use journal::{AppendFault, Journal, Naming, Opened, Share};
 use std::alloc::Global;
 use std::test::Fail;
@@ -111,7 +111,8 @@ pub fn tick<N: Naming>(
 fn got_entries(alloc: Global, party: Party, bytes: &[u8]) -> Result<Vec<Entry>, NoMemory>
     ensures { IfOk result (λ entries. entries.items ≡ Got (party_number party) bytes.now ∷ []) }
 {
-    let bytes = Vec::from_slice(alloc, bytes)?;
+    let copy = Vec::from_slice(alloc, bytes)?;
+    let bytes = SharedBytes::new(copy)?;
     let mut entries = Vec::new(alloc);
     entries.push(Entry::new(EntryKind::Got(party, bytes)))?;
     Ok(entries)
@@ -169,7 +170,8 @@ fn call_entries(alloc: Global, config: &Config, client: ClientId) -> Result<Vec<
     requires faults { config.now.faults ≡ 1 }
     ensures { IfOk result (λ entries. IsFirstCall config.now client.number entries.items) }
 {
-    let frame = first_frame(alloc, config, client)?;
+    let text = first_frame(alloc, config, client)?;
+    let frame = SharedBytes::new(text)?;
     let mut entries = Vec::new(alloc);
     entries.push(Entry::new(EntryKind::Invoke(client, Timestamp(1), new_op(alloc))))?;
     entries.push(Entry::new(EntryKind::Sent(Party::Client(client), frame)))?;

@@ -1,6 +1,6 @@
 //! The parts of a picture.
 
-use events::{Config, Entry, EntryKind};
+use events::{Config, Entry, EntryKind, SharedBytes};
 use hex::FromHexError;
 use picture::write_picture;
 use std::alloc::{AllocError, Global};
@@ -75,7 +75,7 @@ fn add(trace: &mut Vec<Entry>, kind: EntryKind) -> Result<(), AllocError> {
 }
 
 fn add_got(alloc: Global, trace: &mut Vec<Entry>, number: u8, digits: &str) -> Result<(), Fail> {
-    let frame = frame(alloc, digits)?;
+    let frame = SharedBytes::new(frame(alloc, digits)?)?;
     Ok(add(trace, EntryKind::Got(replica(number), frame))?)
 }
 
@@ -85,7 +85,7 @@ fn trace(alloc: Global) -> Result<Vec<Entry>, Fail> {
     let mut trace = Vec::new(alloc);
     let call = op(alloc, b"out (1)")?;
     add(&mut trace, EntryKind::Invoke(CLIENT, Timestamp(1), call))?;
-    let sent = frame(alloc, FIRST)?;
+    let sent = SharedBytes::new(frame(alloc, FIRST)?)?;
     add(&mut trace, EntryKind::Sent(Party::Client(CLIENT), sent))?;
     add_got(alloc, &mut trace, 0, FIRST)?;
     add_got(alloc, &mut trace, 1, FIRST)?;
@@ -98,6 +98,7 @@ fn trace(alloc: Global) -> Result<Vec<Entry>, Fail> {
 fn add_rest(alloc: Global, trace: &mut Vec<Entry>) -> Result<(), Fail> {
     let mut byte = Vec::new(alloc);
     byte.push(7)?;
+    let byte = SharedBytes::new(byte)?;
     add(trace, EntryKind::Got(replica(3), byte))?;
     add(trace, EntryKind::Tick(replica(3)))?;
     let mut null = Vec::new(alloc);

@@ -14,7 +14,7 @@ use crate::receivers::other_replicas;
 use crate::sealing::{seal_for_one, seal_for_others};
 use crate::signing_frames::sign_message;
 use authenticator::{Ring, SealFault};
-use events::Output;
+use events::{Output, SharedBytes};
 use signing::{PublicKeys, Signer};
 use std::alloc::Global;
 use std::marker::Model;
@@ -163,7 +163,8 @@ impl Endpoint {
         ensures posts { IfOk result (PostsFrame self.now frame.now) }
     {
         let receivers = other_replicas(alloc, 3 * self.faults + 1, self.me)?;
-        let frame = Vec::from_slice(alloc, frame)?;
+        let copy = Vec::from_slice(alloc, frame)?;
+        let frame = SharedBytes::new(copy)?;
         Ok(Output::Send(receivers, frame))
     }
 }

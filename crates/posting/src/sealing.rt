@@ -11,7 +11,7 @@ ghost use Rattle.posting.specs.Frames.{SealsMessage};
 
 use crate::receivers::{only, other_replicas};
 use authenticator::{Ring, SealFault};
-use events::Output;
+use events::{Output, SharedBytes};
 use std::alloc::Global;
 use terms::{Party, ReplicaId};
 use wire::{Body, Message};
@@ -76,7 +76,8 @@ fn seal_for(
     ensures fits { FitsFrame (message_data message) → result ≢ Err SealFault.TooLarge }
     ensures same { ring.new ≡ ring.old }
 {
-    let frame = seal_message(ring, alloc, me, message, receivers.as_slice())?;
+    let text = seal_message(ring, alloc, me, message, receivers.as_slice())?;
+    let frame = SharedBytes::new(text)?;
     Ok(Output::Send(receivers, frame))
 }
 

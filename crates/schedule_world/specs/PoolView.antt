@@ -6,7 +6,7 @@ use Rattle.schedule_world.specs.declared.pool.Pool.TheInside.{Inside}
 use Rattle.schedule_world.specs.Pooled.{Frame}
 
 abbrev pub frame_of : Made → Frame
-frame_of m = record { bytes = m.bytes.items; waiting = map party_number m.waiting.items }
+frame_of m = record { bytes = m.bytes; waiting = map party_number m.waiting.items }
 
 abbrev pub frames_of : Inside → List Frame
 frames_of p = map frame_of p.frames.items

@@ -16,7 +16,7 @@
 //! # How it is made
 //!
 //! - `run` plays steps on a `Stage` (`src/stage.rt`): the correct replicas and clients, the trace, and a `Pool` of
-//!   frames. Each frame has the correct receivers that didn't get it yet.
+//!   frames. Each frame has the correct receivers that didn't get it yet, and shares its bytes with the trace.
 //! - A step either moves the stage as the definitions' `World` moves (`Takes` in `specs/Moving.antt`, over `Goes` of
 //!   the protocol's `Schedule.antt`), or may not come (`IsAllowed`).
 //! - Beside the stage lies a tree of keys for each faulty replica that has signed (`ReplicaKeys` in `src/making.rt`).

@@ -4,6 +4,7 @@ ghost use Rattle.std.specs.Prelude.{◌≡◌, ◌≤◌, [], map, length, All, 
 ghost use Rattle.terms.specs.Parties.{party_number};
 ghost use Rattle.schedule_world.specs.Pooled.{HasBytes, IsNext, IsServed, added, noted, others};
 
+use events::SharedBytes;
 use std::alloc::Global;
 use std::marker::Model;
 use terms::{NoMemory, Party};
@@ -11,7 +12,7 @@ use terms::{NoMemory, Party};
 // A frame that was made, and the correct receivers that didn't get it yet, ascending.
 #[derive(Drop)]
 struct Made {
-    bytes: Vec<u8>,
+    bytes: SharedBytes,
     waiting: Vec<Party>,
 }
 
@@ -48,8 +49,8 @@ impl Pool {
     }
 
     /// Adds a frame for these correct receivers, which ascend. An `Err` adds none.
-    pub(crate) fn add(&mut self, bytes: Vec<u8>, waiting: Vec<Party>) -> Result<(), NoMemory>
-        ensures ok { OnOk result (self.new ≡ added self.old bytes.items (map party_number waiting.items)) }
+    pub(crate) fn add(&mut self, bytes: SharedBytes, waiting: Vec<Party>) -> Result<(), NoMemory>
+        ensures ok { OnOk result (self.new ≡ added self.old bytes (map party_number waiting.items)) }
         ensures err { OnErr result (self.new ≡ self.old) }
     {
         self.frames.push(Made { bytes, waiting })?;
@@ -57,10 +58,10 @@ impl Pool {
     }
 
     /// The bytes of the frame of this number, from 0, if it was made.
-    pub(crate) fn bytes(&self, frame: usize) -> Option<&[u8]>
+    pub(crate) fn bytes(&self, frame: usize) -> Option<&SharedBytes>
         ensures { MatchOption result (length self.now ≤ frame) (λ bytes. HasBytes self.now frame bytes.now) }
     {
-        Some(self.frames.get(frame)?.bytes.as_slice())
+        Some(&self.frames.get(frame)?.bytes)
     }
 
     /// The party no longer waits for the frame.

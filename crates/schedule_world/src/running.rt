@@ -15,7 +15,7 @@ use crate::making::{ReplicaKeys, seal_bytes, sign_bytes};
 use crate::receivers::{is_correct, is_party, is_replica, may_receive};
 use crate::report::Report;
 use crate::stage::Stage;
-use events::Config;
+use events::{Config, SharedBytes};
 use points::points;
 use schedule_text::Step;
 use signing::LEAVES;
@@ -208,7 +208,8 @@ fn feed(
     if !is_correct(config, party) {
         return Ok(false);
     }
-    stage.feed(alloc, config, party, Vec::from_slice(alloc, bytes)?)?;
+    let copy = Vec::from_slice(alloc, bytes)?;
+    stage.feed(alloc, config, party, SharedBytes::new(copy)?)?;
     Ok(true)
 }
 

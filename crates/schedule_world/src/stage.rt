@@ -23,7 +23,7 @@ use crate::receivers::{correct_of, correct_receivers};
 use crate::report::Acceptance;
 use authenticator::Ring;
 use client_cert::{Client, Event as ClientEvent};
-use events::{Config, Entry, EntryKind, Output, Outputs};
+use events::{Config, Entry, EntryKind, Output, Outputs, SharedBytes};
 use replica::{Event, Replica};
 use signing::PublicKeys;
 use std::alloc::Global;
@@ -115,19 +115,19 @@ impl Stage {
         ensures seated { OnOk result (IsSeated config.now self.new) }
         ensures delivers { OnOk result (Delivers config.now frame (party_number party) self.old self.new) }
     {
-        let bytes = self.copy_frame(alloc, frame)?;
+        let bytes = self.share_frame(frame)?;
         self.pool.note_delivered(frame, party);
         self.feed(alloc, config, party, bytes)?;
         Ok(())
     }
 
     // The bytes of a frame.
-    fn copy_frame(&self, alloc: Global, frame: usize) -> Result<Vec<u8>, NoMemory>
+    fn share_frame(&self, frame: usize) -> Result<SharedBytes, NoMemory>
         requires made { frame < length self.now.pool }
-        ensures { IfOk result (λ bytes. HasBytes self.now.pool frame bytes.items) }
+        ensures { IfOk result (λ bytes. HasBytes self.now.pool frame bytes) }
     {
         match self.pool.bytes(frame) {
-            Some(bytes) => Ok(Vec::from_slice(alloc, bytes)?),
+            Some(bytes) => bytes.share(),
             None => unreachable!(),
         }
     }
@@ -138,12 +138,12 @@ impl Stage {
         alloc: Global,
         config: &Config,
         party: Party,
-        bytes: Vec<u8>,
+        bytes: SharedBytes,
     ) -> Result<(), NoMemory>
         requires seated { IsSeated config.now self.old }
         requires correct { is_correct config.now (party_number party) ≡ true }
         ensures seated { OnOk result (IsSeated config.now self.new) }
-        ensures comes { OnOk result (Comes config.now (Got (party_number party) bytes.items) self.old self.new) }
+        ensures comes { OnOk result (Comes config.now (Got (party_number party) bytes) self.old self.new) }
     {
         let outputs = match party {
             Party::Replica(replica) => {
@@ -192,7 +192,7 @@ impl Stage {
         ensures frames { OnOk result (FramesFor config.now bytes.items receivers.now self.old self.new) }
     {
         let waiting = correct_of(alloc, config, receivers)?;
-        self.pool.add(bytes, waiting)?;
+        self.pool.add(SharedBytes::new(bytes)?, waiting)?;
         Ok(())
     }
 
@@ -422,14 +422,13 @@ impl Stage {
         alloc: Global,
         config: &Config,
         party: Party,
-        frame: Vec<u8>,
+        frame: SharedBytes,
     ) -> Result<(), NoMemory>
-        ensures adds { OnOk result (Adds config.now (Sent (party_number party) frame.items) self.old self.new) }
+        ensures adds { OnOk result (Adds config.now (Sent (party_number party) frame) self.old self.new) }
         ensures kept { KeepsParties self.old self.new }
     {
         let waiting = correct_receivers(alloc, config, party, frame.as_slice())?;
-        let bytes = Vec::from_slice(alloc, frame.as_slice())?;
-        self.pool.add(bytes, waiting)?;
+        self.pool.add(frame.share()?, waiting)?;
         self.trace.push(Entry::new(EntryKind::Sent(party, frame)))?;
         Ok(())
     }

@@ -24,6 +24,7 @@ use Rattle.tuple_codec.specs.contracts.operations.Op as op
 use Rattle.tuple_codec.specs.contracts.operations.Answer as answer
 use Rattle.tuple_codec.specs.contracts.operations.Tuples as tuples
 use Rattle.tuple_codec.specs.contracts.operations.Tuples.TheInside as in_tuples
+use Rattle.events.proofs.shared_bytes.SharedBytes.TheSendSync.{the_send as shared_send}
 use Rattle.events.specs.contracts.entry.EntryKind as entry_kind
 use Rattle.events.specs.contracts.entry.Entry as entry
 use Rattle.events.specs.contracts.entry.Entry.TheInside as in_entry
@@ -121,7 +122,7 @@ entry_kind_send : IsSend entry_kind.the_row
 entry_kind_send = variants_send entry_kind.enum (
   (search sendable, (search sendable, (op_send, tt))),
   (
-    (search (sendable, party_send), (bytes_field, tt)),
+    (search (sendable, party_send), (search (sendable, shared_send), tt)),
     (
       (search (sendable, party_send), tt),
       (
@@ -129,7 +130,7 @@ entry_kind_send = variants_send entry_kind.enum (
         (
           (search sendable, (search sendable, (search sendable, tt))),
           (
-            (search (sendable, party_send), (bytes_field, tt)),
+            (search (sendable, party_send), (search (sendable, shared_send), tt)),
             (
               (search sendable, (search sendable, (answer_send, tt))),
               tt,

@@ -50,7 +50,7 @@ IsIdle s = s.stopped ≡ false → is_some (open_call s.history) ≡ false
 
 -- the entry that begins the party's event
 abbrev pub input_of : ℕ → Input → Entry
-input_of p (inputs.Got bytes from) = Got p bytes.items
+input_of p (inputs.Got bytes from) = Got p bytes
 input_of p inputs.Tick = Tick p
 
 -- an event of the party may begin with this entry

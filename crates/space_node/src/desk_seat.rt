@@ -10,7 +10,7 @@ use crate::entries::entries_of;
 use crate::input::Given;
 use crate::recording::record;
 use bumpalo::Bump;
-use events::{Entry, EntryKind};
+use events::{Entry, EntryKind, SharedBytes};
 use journal::{Journal, Naming, Share};
 use read_only::asks_read;
 use replica::Desk;
@@ -81,11 +81,11 @@ impl<N: Naming> DeskSeat<N> {
         alloc: Global,
         arena: &mut Bump,
         journal: &Mutex<Journal<N>>,
-        bytes: Vec<u8>,
+        bytes: SharedBytes,
         from: u64,
     ) -> Option<Given>
         ensures given { IfSome result
-            (λ given. self.new ≡ seat_after self.old (Got self.old.party bytes.items) given.outputs.items) }
+            (λ given. self.new ≡ seat_after self.old (Got self.old.party bytes) given.outputs.items) }
     {
         if !asks_read(bytes.as_slice()) {
             return None;

@@ -116,7 +116,7 @@ fn answer_reads<N: Naming, R: Wait>(
             Ok(Note::End) | Err(_) => break,
         };
         if let Some(Output::Send(receivers, frame)) = &output {
-            shared.send_frame(rt, alloc, receivers.as_slice(), frame.as_slice(), 0);
+            shared.send_frame(rt, receivers.as_slice(), frame, 0);
         }
         if arena.reset().is_err() {
             arena = Bump::new(alloc);

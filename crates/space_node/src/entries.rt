@@ -10,7 +10,7 @@ use events::{Entry, EntryKind, Output};
 use std::alloc::Global;
 use terms::{NoMemory, Party};
 
-/// The entries of a party's event: its input, and its outputs.
+/// The entries of a party's event: its input, and its outputs. They share the bytes of frames.
 pub(crate) fn entries_of(
     alloc: Global,
     party: Party,
@@ -34,10 +34,7 @@ fn output_entry(alloc: Global, party: Party, output: &Output) -> Result<Entry, N
     ensures own { IfOk result (λ entry. IsOutputOf (party_number party) entry) }
 {
     match (party, output) {
-        (_, Output::Send(_, frame)) => {
-            let frame = Vec::from_slice(alloc, frame.as_slice())?;
-            Ok(Entry::new(EntryKind::Sent(party, frame)))
-        }
+        (_, Output::Send(_, frame)) => Ok(Entry::new(EntryKind::Sent(party, frame.share()?))),
         (Party::Replica(replica), Output::Executed(number, batch)) => {
             let batch = Vec::from_slice(alloc, batch.as_slice())?;
             Ok(Entry::new(EntryKind::Executed(replica, *number, batch)))

@@ -127,7 +127,7 @@ impl<N: Naming> ClientHandle<N> {
         ensures refused { OnErr result (Refused self.old self.new) }
     {
         let request = self.seat.invoke(rt, alloc, &self.shared.journal, op)?;
-        self.shared.send(rt, alloc, &request);
+        self.shared.send(rt, &request);
         wait_answer(rt, alloc, &mut self.seat, &self.shared, &self.inbox)
     }
 }
@@ -156,7 +156,7 @@ fn wait_answer<N: Naming, R: Wait>(
         let (turn, first) = seat.take(rt, alloc, &shared.journal, input)?;
         match turn {
             Turn::Answered(answer) => return Ok(answer),
-            Turn::Waits(outputs) => shared.send(rt, alloc, &Given { outputs, first }),
+            Turn::Waits(outputs) => shared.send(rt, &Given { outputs, first }),
         }
     }
     unreachable!()

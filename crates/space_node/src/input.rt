@@ -4,14 +4,14 @@ ghost use Rattle.std.specs.Prelude.{◌≡◌};
 ghost use Rattle.terms.specs.Parties.{party_number};
 ghost use Rattle.space_node.specs.Seats.{input_of};
 
-use events::{Entry, EntryKind, Outputs};
+use events::{Entry, EntryKind, Outputs, SharedBytes};
 use terms::Party;
 
 /// An input that a party takes from its inbox.
 #[derive(Drop)]
 pub(crate) enum Input {
     /// The bytes of a frame, and the position in the journal at which it was sent.
-    Got(Vec<u8>, u64),
+    Got(SharedBytes, u64),
     /// Time went by.
     Tick,
 }

@@ -38,7 +38,8 @@
 //! - An `OrderSeat` has the orderer, and a `DeskSeat` the desk with the share. Contracts see of a seat a party, a
 //!   history and whether it stopped (`Seated`).
 //! - If memory or the journal refuses, or a test's gate says so, the parts stop and nothing is sent. A frame goes into
-//!   an inbox with the position at which it was sent.
+//!   an inbox with the position at which it was sent. Its bytes lie in memory once, for the trace, the shares and all
+//!   receivers.
 //! - A faulty replica has the same inboxes, and no seat. Its threads do its drill (`src/drilling.rt`), which takes what
 //!   comes, or answers reads from the empty space. Its frames name a faulty sender, so no position is asked of them.
 //! - A new cluster has a handle of each client, and one that is handed out is new.

@@ -1,6 +1,7 @@
 //! The contents of inboxes.
 
 use crossbeam_channel::{SendError, Sender};
+use events::SharedBytes;
 use std::sync::Wait;
 use std::thread;
 
@@ -8,7 +9,7 @@ use std::thread;
 #[derive(Drop)]
 pub(crate) enum Note {
     /// The bytes of a frame, and the position in the journal at which it was sent.
-    Frame(Vec<u8>, u64),
+    Frame(SharedBytes, u64),
     /// Time went by.
     Pulse,
     /// The cluster ends.

@@ -34,7 +34,7 @@ pub(crate) fn serve_orders<N: Naming, G: Gate, R: Wait>(
         let given = order_event(rt, alloc, node, journal, gate, replica, event_no, input);
         event_no = event_no.wrapping_add(1);
         if let Some(given) = given {
-            shared.send(rt, alloc, &given);
+            shared.send(rt, &given);
         }
     }
 }
@@ -82,7 +82,7 @@ pub(crate) fn serve_reads<N: Naming, R: Wait>(
             Ok(Note::End) | Err(_) => break,
         };
         if let Some(given) = given {
-            shared.send(rt, alloc, &given);
+            shared.send(rt, &given);
         }
         if arena.reset().is_err() {
             arena = Bump::new(alloc);

@@ -5,10 +5,9 @@ use crate::input::Given;
 use crate::note::{Note, end};
 use crate::order_seat::OrderSeat;
 use crossbeam_channel::Sender;
-use events::Output;
+use events::{Output, SharedBytes};
 use journal::{Journal, Naming};
 use read_only::asks_read;
-use std::alloc::Global;
 use std::sync::{Mutex, Wait};
 use terms::{Party, ReplicaId};
 
@@ -68,14 +67,14 @@ impl<N: Naming> Shared<N> {
         count
     }
 
-    /// Puts a copy of each frame into the inbox of each of its receivers. If there is no memory for a copy, it is
-    /// lost.
-    pub(crate) fn send<R: Wait>(&self, rt: &R, alloc: Global, given: &Given) {
+    /// Puts each frame into the inbox of each of its receivers, who share its bytes. If there is no memory for a note,
+    /// it is lost.
+    pub(crate) fn send<R: Wait>(&self, rt: &R, given: &Given) {
         let mut at = given.first;
         for output in &given.outputs {
             at = at.saturating_add(1);
             if let Output::Send(receivers, frame) = output {
-                self.send_frame(rt, alloc, receivers.as_slice(), frame.as_slice(), at);
+                self.send_frame(rt, receivers.as_slice(), frame, at);
             }
         }
     }
@@ -84,19 +83,18 @@ impl<N: Naming> Shared<N> {
     pub(crate) fn send_frame<R: Wait>(
         &self,
         rt: &R,
-        alloc: Global,
         receivers: &[Party],
-        frame: &[u8],
+        frame: &SharedBytes,
         at: u64,
     ) {
-        let is_read = asks_read(frame);
+        let is_read = asks_read(frame.as_slice());
         for receiver in receivers {
             let inbox = if is_read {
                 self.read_inbox(*receiver)
             } else {
                 self.inbox(*receiver)
             };
-            if let (Some(inbox), Ok(bytes)) = (inbox, Vec::from_slice(alloc, frame)) {
+            if let (Some(inbox), Ok(bytes)) = (inbox, frame.share()) {
                 let _ = inbox.send(rt, Note::Frame(bytes, at));
             }
         }

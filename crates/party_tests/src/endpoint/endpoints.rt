@@ -32,11 +32,11 @@ pub fn new_endpoint(alloc: Global, me: u8) -> Result<Box<Endpoint>, NoMemory>
     Ok(Box::new(alloc, Endpoint::new(me, 1, ring, publics, signer))?)
 }
 
-// The bytes that an output sends; none of another one.
-fn sent(alloc: Global, output: Output) -> Vec<u8> {
+// A copy of the bytes that an output sends; none of another one.
+fn sent(alloc: Global, output: Output) -> Result<Vec<u8>, NoMemory> {
     match output {
-        Output::Send(_, frame) => frame,
-        _ => Vec::new(alloc),
+        Output::Send(_, frame) => Ok(Vec::from_slice(alloc, frame.as_slice())?),
+        _ => Ok(Vec::new(alloc)),
     }
 }
 
@@ -50,7 +50,7 @@ pub fn frame_for_others(
     requires unsigned { is_signed (message_data message) ≡ false }
 {
     match endpoint.post_to_others(alloc, message) {
-        Ok(output) => Ok(sent(alloc, output)),
+        Ok(output) => sent(alloc, output),
         Err(SealFault::NoMemory) => Err(NoMemory),
         Err(SealFault::TooLarge) => Ok(Vec::new(alloc)),
     }

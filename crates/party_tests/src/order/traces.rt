@@ -2,7 +2,7 @@
 
 use crate::answers::{all_hold, spells_answer, spells_op};
 use crate::order::frames::{Request, put_batch, reply_frame};
-use events::{Config, Entry, EntryKind};
+use events::{Config, Entry, EntryKind, SharedBytes};
 use points::{Point, points};
 use std::alloc::Global;
 use terms::{ClientId, NoMemory, Number, Party, ReplicaId, Timestamp};
@@ -113,7 +113,7 @@ fn get(
     }
     put(
         trace,
-        EntryKind::Got(Party::Client(client_of(client)), frame),
+        EntryKind::Got(Party::Client(client_of(client)), SharedBytes::new(frame)?),
     )
 }
 

@@ -1,6 +1,6 @@
 //! Entries and their texts.
 
-use events::{Entry, EntryKind};
+use events::{Entry, EntryKind, SharedBytes};
 use std::alloc::Global;
 use std::test::Fail;
 use terms::{ClientId, NoMemory, Number, Party, ReplicaId, Timestamp};
@@ -63,7 +63,8 @@ fn shows_tick(alloc: Global) -> Result<bool, NoMemory> {
 }
 
 fn shows_no_frame(alloc: Global) -> Result<bool, NoMemory> {
-    let got = EntryKind::Got(Party::Replica(ReplicaId(3)), Vec::new(alloc));
+    let none = SharedBytes::new(Vec::new(alloc))?;
+    let got = EntryKind::Got(Party::Replica(ReplicaId(3)), none);
     is_shown(alloc, got, b"got r3 0 bytes that are no frame")
 }
 

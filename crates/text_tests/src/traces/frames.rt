@@ -1,6 +1,6 @@
 //! Frames of each message, whose texts come from an implementation of these lines in Python.
 
-use events::{Entry, EntryKind};
+use events::{Entry, EntryKind, SharedBytes};
 use hex::FromHexError;
 use std::alloc::{AllocError, Global};
 use std::test::Fail;
@@ -339,7 +339,7 @@ fn has_line(alloc: Global, kind: EntryKind, line: &str) -> Result<bool, NoMemory
 
 fn is_got(alloc: Global, frame: &[u8], text: &str) -> Result<bool, NoMemory> {
     let line = format!(in alloc; "got r1 {text}")?;
-    let frame = frame.to_vec(alloc)?;
+    let frame = SharedBytes::new(frame.to_vec(alloc)?)?;
     has_line(
         alloc,
         EntryKind::Got(Party::Replica(ReplicaId(1)), frame),
@@ -349,7 +349,7 @@ fn is_got(alloc: Global, frame: &[u8], text: &str) -> Result<bool, NoMemory> {
 
 fn is_sent(alloc: Global, frame: &[u8], text: &str, receivers: &str) -> Result<bool, NoMemory> {
     let line = format!(in alloc; "sent r1 {text} to {receivers}")?;
-    let frame = frame.to_vec(alloc)?;
+    let frame = SharedBytes::new(frame.to_vec(alloc)?)?;
     has_line(
         alloc,
         EntryKind::Sent(Party::Replica(ReplicaId(1)), frame),
@@ -434,8 +434,8 @@ fn shows_batches(rt: HostRuntime) -> Result<(), Fail> {
     Ok(())
 }
 
-fn sent_batch(alloc: Global) -> Result<Entry, AllocError> {
-    let frame = sealed(alloc, &SEALED[3])?;
+fn sent_batch(alloc: Global) -> Result<Entry, NoMemory> {
+    let frame = SharedBytes::new(sealed(alloc, &SEALED[3])?)?;
     Ok(Entry::new(EntryKind::Sent(Party::Replica(ReplicaId(2)), frame)))
 }
 
@@ -458,7 +458,7 @@ fn with_line_feed(alloc: Global) -> Result<Vec<u8>, AllocError> {
 }
 
 // The entry, at the second try if memory ran out at the first one.
-fn sent_batch_again(alloc: Global) -> Result<Entry, AllocError> {
+fn sent_batch_again(alloc: Global) -> Result<Entry, NoMemory> {
     match sent_batch(alloc) {
         Ok(entry) => Ok(entry),
         Err(_) => sent_batch(alloc),

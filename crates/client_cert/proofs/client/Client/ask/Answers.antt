@@ -5,9 +5,9 @@ use Rattle.client_cert.proofs.client.Client.ask.Goals as goal
 
 pub returns-clause-asked : goal.returns-clause-asked
 returns-clause-asked c =
-    let asks = rw c.in_ok-text.was at c.request-call.ensures.sealed in
+    let asks = rw (c.in_ok-text.was, ← c.in_ok-frame.ensures) at c.request-call.ensures.sealed in
     IfOk-weaker c.sole.result _ _ (λ outs is. rw (← c.self.view_is) (record {
-      text = c.in_ok-text.text.items;
+      text = c.in_ok-frame.frame;
       call = c.in-Some.call;
       given = rw is refl;
       was = sym c.take.ensures.value ∙ c.in-Some.is;
@@ -19,5 +19,5 @@ returns-clause-asked c =
         call_is = c.put.ensures ∙ ap Some c.request-call.ensures.went;
       };
       meant = rw is
-          (λ k known. (request_goes c.self.inside.ring _ _ c.self.inside.faults _ _ _ c.in_ok-text.text.items c.self.invariant.0 c.in_ok-receivers.ensures asks k known, tt));
+          (λ k known. (request_goes c.self.inside.ring _ _ c.self.inside.faults _ _ _ c.in_ok-frame.frame c.self.invariant.0 c.in_ok-receivers.ensures asks k known, tt));
     })) c.sole.ensures

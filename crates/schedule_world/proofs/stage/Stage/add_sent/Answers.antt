@@ -9,7 +9,7 @@ use Rattle.schedule_world.proofs.stage.Stage.add_sent.Goals as goal
 
 pub returns-clause-adds : goal.returns-clause-adds
 returns-clause-adds c =
-    adds_sent c.args.config.now (party_number c.args.party) c.args.frame.items (map party_number c.in_ok-waiting.waiting.items) c.args.self.now _
+    adds_sent c.args.config.now (party_number c.args.party) c.args.frame (map party_number c.in_ok-waiting.waiting.items) c.args.self.now _
     (c.in_ok-waiting.ensures ∙ ap (λ b. filter (is_correct c.args.config.now) (receivers_in c.args.config.now (party_number c.args.party) b)) c.as_slice.ensures.value)
     (c.in_ok-push.ensures.items ∙ ap (λ e. c.args.self.now.trace.items ++ e ∷ []) c.new.ensures.says)
-    (c.in_ok-add.ensures.ok ∙ ap (λ b. added c.args.self.now.pool b (map party_number c.in_ok-waiting.waiting.items)) (c.in_ok-bytes.ensures.items ∙ c.as_slice-2.ensures.value)) refl
+    (c.in_ok-add.ensures.ok ∙ ap (λ b. added c.args.self.now.pool b (map party_number c.in_ok-waiting.waiting.items)) c.in_ok-share.ensures) refl

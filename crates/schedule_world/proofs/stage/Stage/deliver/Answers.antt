@@ -13,5 +13,5 @@ returns-clause-delivers c =
       trace = c.args.self.now.trace;
       accepted = c.args.self.now.accepted;
     } in
-    delivers c.args.config.now c.args.self.now mid c.feed.new.self c.args.frame (party_number c.args.party) c.in_ok-bytes.bytes.items c.in_ok-bytes.ensures c.note_delivered.ensures refl refl refl refl
+    delivers c.args.config.now c.args.self.now mid c.feed.new.self c.args.frame (party_number c.args.party) c.in_ok-bytes.bytes c.in_ok-bytes.ensures c.note_delivered.ensures refl refl refl refl
     c.in_ok-feed.ensures.comes
