@@ -31,7 +31,8 @@ pub(crate) struct Desk {
     pub(crate) ring: Ring,
     // The number of batches from one checkpoint to the next, 1 to 16.
     pub(crate) period: u8,
-    pub(crate) executed: Executed,
+    /// It is over two kilobytes, with the digests of its tree. So it stays in its place when a part moves.
+    pub(crate) executed: Box<Executed>,
     pub(crate) snapshots: Snapshots,
     pub(crate) transfer: Option<OpenTransfer>,
     pub(crate) waiting: Waiting,
@@ -67,11 +68,19 @@ impl Desk {
             me,
             ring,
             period: config.period(),
-            executed,
+            executed: Box::new(alloc, executed)?,
             snapshots,
             transfer: None,
             waiting: Waiting::new(alloc),
         })
+    }
+
+    /// The number of the last executed batch, 0 before the first.
+    pub(crate) fn number(&self) -> Number
+        ensures value { result.0 ≡ self.now.executed.state.number }
+        ensures fits { result.0 < 2 ^ 48 }
+    {
+        self.executed.number()
     }
 
     // Tells a proof the invariant of a desk.
@@ -110,13 +119,15 @@ impl Desk {
     {
         self.snapshots.are_few();
         // Tells a proof that the state has a place for the reply to each client. So no request runs twice.
-        self.executed.is_state();
-        let _clients = self.executed.clients();
-        let ran = self.executed.execute(text)?;
+        let executed = &mut *self.executed;
+        executed.is_state();
+        let _clients = executed.clients();
+        let ran = executed.execute(text)?;
         self.keep_due()?;
         let copy = Vec::from_slice(alloc, text)?;
-        give(outputs, Output::Executed(self.executed.number(), copy))?;
-        self.waiting.forget(&self.executed);
+        let executed = &*self.executed;
+        give(outputs, Output::Executed(executed.number(), copy))?;
+        self.waiting.forget(executed);
         self.close_reached();
         Ok(ran)
     }

@@ -51,7 +51,7 @@ impl Joined {
             (ExecutesTurn self.old outputs.old.items self.new outputs.new.items) }
         ensures endpoint { self.new.orderer.endpoint ≡ self.old.orderer.endpoint }
     {
-        let next = Number(self.desk.executed.number().0 + 1);
+        let next = Number(self.desk.number().0 + 1);
         let Some(batch) = self.orderer.log.next_batch(next) else {
             return Ok(false);
         };

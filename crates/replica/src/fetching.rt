@@ -96,7 +96,7 @@ impl Desk {
         }
         match &mut self.transfer {
             None => {
-                let open = OpenTransfer::start(alloc, entry, &mut self.executed)?;
+                let open = OpenTransfer::start(alloc, entry, &mut *self.executed)?;
                 self.transfer = Some(open);
             }
             Some(open) => open.move_to(entry),
@@ -147,7 +147,7 @@ impl Desk {
         let Some(open) = &mut self.transfer else {
             return Ok(false);
         };
-        let Some(_place) = open.next_fetch(&mut self.executed)? else {
+        let Some(_place) = open.next_fetch(&mut *self.executed)? else {
             return Ok(false);
         };
         Ok(true)
@@ -165,14 +165,14 @@ impl Desk {
         let Some(open) = &self.transfer else {
             return Ok(None);
         };
-        if !open.install(&mut self.executed)? {
+        if !open.install(&mut *self.executed)? {
             return Ok(None);
         }
         let entry = open.entry();
         self.transfer = None;
         self.snapshots.clear();
         self.keep_state()?;
-        self.waiting.forget(&self.executed);
+        self.waiting.forget(&*self.executed);
         Ok(Some(entry))
     }
 

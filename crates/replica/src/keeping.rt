@@ -35,8 +35,9 @@ impl Desk {
         ensures ok { OnOk result (self.new ≡ keeping_state self.old) }
         ensures err { OnErr result (self.new ≡ self.old) }
     {
-        let number = self.executed.number();
-        let pages = pages_of(&mut self.executed)?;
+        let executed = &mut *self.executed;
+        let number = executed.number();
+        let pages = pages_of(executed)?;
         self.snapshots.keep(number, pages)
     }
 

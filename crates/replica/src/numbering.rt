@@ -60,7 +60,7 @@ impl Joined {
         if !self.orderer.log.is_active() {
             return self.orderer.say_change_again(alloc, outputs);
         }
-        let executed = self.desk.executed.number();
+        let executed = self.desk.number();
         self.orderer.say_again(alloc, executed, outputs)
     }
 
@@ -131,7 +131,7 @@ impl Joined {
         if log.is_active()
             && log.me().0 == log.primary(log.view()).0
             && log.is_in_marks(number)
-            && number.0 <= self.desk.executed.number().0 + AHEAD
+            && number.0 <= self.desk.number().0 + AHEAD
         {
             Some(number)
         } else {

@@ -52,9 +52,10 @@ impl Desk {
         let Some(request) = hear_read(&mut self.ring, self.me, bytes) else {
             return Ok(());
         };
+        let executed = &*self.executed;
         let shelf = Shelf {
-            space: self.executed.space(),
-            number: self.executed.number(),
+            space: executed.space(),
+            number: executed.number(),
         };
         let reply = match answer(alloc, &shelf, &request, arena) {
             Ok(reply) => reply,

@@ -3,6 +3,7 @@ use Rattle.wire.specs.Headers.{IsFrame}
 use Rattle.wire.specs.Lists.{Each}
 use Rattle.wire.proofs.Appending.{each_at}
 use Rattle.execution.specs.Calls.{call_data}
+use Rattle.execution.specs.Executed.{ExecutedData}
 use Rattle.execution.proofs.Calling.{requests_are_frames}
 use Rattle.protocol.specs.System.Configuration.{Configuration}
 use Rattle.protocol.specs.Replica.State.{call_of}
@@ -27,7 +28,7 @@ loop-frame-preserved c =
     let clients = c.args.self.now.executed.clients in
     let frames = c.as_slice-frame-items.result.now in
     let i = c.loop-frame.frame-index in
-    let known : c.clients.result ≡ clients = c.clients.ensures.value ∙ ap (λ (d : DeskData). d.executed.clients) c.self.view_is in
+    let known : c.clients.result ≡ clients = c.clients.ensures.value ∙ ap (λ (e : ExecutedData). e.clients) c.deref.ensures ∙ ap (λ (d : DeskData). d.executed.clients) c.self.view_is in
     let found : (k : Configuration) → k.clients ≡ clients → call_of k (get_or frames i _).now ≡ option_map call_data c.in_ok-call.field-0 = λ k e. c.in_ok-call.ensures.found k (e ∙ sym known) in
     let old = c.args.calls.now.items in
     let new = c.loop-frame.calls.items in

@@ -4,6 +4,7 @@ use Rattle.tuple_codec.specs.OperationView.{outcome_of}
 use Rattle.reply_cache.specs.Replies.{Kept}
 use Rattle.reply_cache.specs.ReplyView as reply_view
 use Rattle.protocol.specs.Replica.State.{kept_of}
+use Rattle.execution.specs.Executed.{ExecutedData}
 use Rattle.replica.specs.State.{DeskData}
 use Rattle.replica.specs.Desking.{SaysReply}
 use Rattle.replica.proofs.Desking.{pays_again}
@@ -12,7 +13,7 @@ use Rattle.replica.proofs.desk.Desk.reply_again.Goals as goal
 pub returns-clause-has : goal.returns-clause-has
 returns-clause-has c = (
   reply_view.kept_of c.in-Some.kept.now,
-  ap (λ (d : DeskData). kept_of d.executed.state c.args.client.number) (sym c.self.view_is) ∙ sym c.last.ensures ∙ ap (option_map (λ r. reply_view.kept_of r.now)) c.in-Some.is,
+  ap (λ (d : DeskData). kept_of d.executed.state c.args.client.number) (sym c.self.view_is) ∙ ap (λ (e : ExecutedData). kept_of e.state c.args.client.number) (sym c.deref.ensures) ∙ sym c.last.ensures ∙ ap (option_map (λ r. reply_view.kept_of r.now)) c.in-Some.is,
   c.if-kept-timestamp.true,
 )
 
@@ -20,7 +21,7 @@ pub returns-clause-pays : goal.returns-clause-pays
 returns-clause-pays c =
     let time : c.in-Some.kept.now.timestamp ≡ c.args.timestamp.0 = c.if-kept-timestamp.true in
     pays_again c.args.self.now c.args.client c.args.timestamp.0 (reply_view.kept_of c.in-Some.kept.now) c.args.outputs.now.items c.reply.new.outputs.items
-    (ap (λ (d : DeskData). kept_of d.executed.state c.args.client.number) (sym c.self.view_is) ∙ sym c.last.ensures ∙ ap (option_map (λ r. reply_view.kept_of r.now)) c.in-Some.is)
+    (ap (λ (d : DeskData). kept_of d.executed.state c.args.client.number) (sym c.self.view_is) ∙ ap (λ (e : ExecutedData). kept_of e.state c.args.client.number) (sym c.deref.ensures) ∙ sym c.last.ensures ∙ ap (option_map (λ r. reply_view.kept_of r.now)) c.in-Some.is)
     time
     (subst (λ (k : Kept). SaysReply c.args.self.now c.args.client k c.args.outputs.now.items c.reply.new.outputs.items)
     (ap (λ (t : ℕ). record { timestamp = t; number = c.in-Some.kept.now.number; outcome = outcome_of c.in_ok-copy_in-in-Some.field-0 }) (sym time)

@@ -29,5 +29,5 @@ returns-clause-ok c =
     (all_again (joined_data c.self.inside) new o before after
     (ap (λ r. r.orderer.log.active) (sym c.self-inside.view_is) ∙ sym c.if-not-is_active.ensures)
     (subst (λ (n : ℕ). SaysLastAlso true 0 (PostsAll n) (joined_data c.self.inside).orderer before o after)
-    (c.number-executed.ensures.value ∙ ap (λ r. r.desk.executed.state.number) c.self-inside.view_is) says) refl))
+    c.number-executed.ensures.value says) refl))
     c.say_again.ensures.ok
