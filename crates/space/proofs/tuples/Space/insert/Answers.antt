@@ -53,7 +53,7 @@ invariant_of-self-in-Err g c =
     (record { counts = h.counts; indexed = c.prune.ensures.kept es (c.reserve.ensures.kept es h.indexed) })
 
 pub add-requires-clause-key : goal.add-requires-clause-key
-add-requires-clause-key g c = c.key_of_tuple-first.ensures
+add-requires-clause-key g c = c.put_tuple_key.ensures
 
 pub add-requires-clause-room : goal.add-requires-clause-room
 add-requires-clause-room g c = (c.in_ok-reserve.ensures {u = tt}).ok
