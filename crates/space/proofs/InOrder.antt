@@ -209,7 +209,7 @@ longer (e ∷ es) b t h = elim (cases_lt b e.0) [
   ]
 ]
 
-absent : (b : ℕ) (es : List Entry) → AllByRecursion (λ k. (b == k) ≡ false) (keys_of es) → lookup (λ k. b == k) es ≡ None
+pub absent : (b : ℕ) (es : List Entry) → AllByRecursion (λ k. (b == k) ≡ false) (keys_of es) → lookup (λ k. b == k) es ≡ None
 absent b [] h = refl
 absent b (e ∷ es) h = ap (λ a. cond a (Some e.1) (lookup (λ k. b == k) es)) h.0 ∙ absent b es h.1
 
@@ -225,6 +225,11 @@ newest es rest e h k d l =
     let long : length es < length (es ++ e ∷ rest) = omega (arith, length-append es (e ∷ rest)) in
     let p : (get_or (es ++ e ∷ rest) k d).0 < (get_or (es ++ e ∷ rest) (length es) d).0 = h k (length es) d l long in
     subst (λ x. x.0 < e.0) (get_or_append_left es (e ∷ rest) d k l) (subst (λ x. (get_or (es ++ e ∷ rest) k d).0 < x.0) (get_or_at es e rest d (length es) refl) p)
+
+pub next_is_newest : (all es rest more : List Entry) (e : Entry) → AllPairs (λ e f. e.0 < f.0) all → es ++ rest ≡ all → rest ≡ e ∷ more → All (λ x. x.0 < e.0) es
+next_is_newest all es rest more e h is next =
+    let whole : es ++ e ∷ more ≡ all = ap (λ xs. es ++ xs) (sym next) ∙ is in
+    newest es more e (subst (AllPairs (λ e f. e.0 < f.0)) (sym whole) h)
 
 pub one_more : (all es new rest more : List Entry) (e : Entry) → AllPairs (λ e f. e.0 < f.0) all → es ++ rest ≡ all → rest ≡ e ∷ more → new ≡ insert_entry nat_cmp es e.0 e.1 → new ++ more ≡ all
 one_more all es new rest more e h is next put =

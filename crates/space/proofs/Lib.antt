@@ -24,3 +24,4 @@ pub mod Answering
 pub mod Taking
 pub mod Touching
 pub mod InOrder
+pub mod Places

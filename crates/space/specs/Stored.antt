@@ -1,8 +1,11 @@
 -- What callers see of the stored tuples: their births in order of age, wherever they lie.
-use Rattle.std.specs.Prelude.{List, [], ◌∷◌, refl}
+use Rattle.std.specs.Prelude.{◌≡◌, ℕ, ◌<◌, ◌==◌, List, [], ◌∷◌, length, slice_index_or, Option, Some, None, refl}
+use Rattle.std.specs.List.{IsDistinct}
+use Rattle.std.specs.Map.{keys_of, lookup}
 use Rattle.std.specs.Coded.{Coded, code_by, coded×, coded_list, coded_ℕ}
 use Rattle.std.specs.Ordering.{nat_cmp}
 use Rattle.std.specs.BTreeMap.{insert_entry}
+use Rattle.tuple_tree.specs.Items.{none}
 use Rattle.tuple_tree.specs.ValuesCode.{tuple_code}
 use Rattle.space.specs.Births.{Entry}
 
@@ -18,3 +21,17 @@ pub record StoredTuples : Type 0 where
 -- stored tuples as the list of their entries
 abbrev pub stored_code : Coded StoredTuples
 stored_code = code_by (List Entry) (coded_list (coded× coded_ℕ tuple_code)) (λ s. s.entries) (λ es. record { entries = es }) (λ _. refl)
+
+-- The entry at this place has this birth.
+pub record LiesAt (es : List Entry) (birth place : ℕ) : Type 0 where
+  pub within : place < length es
+  pub birth_there : (slice_index_or es place (birth, none)).0 ≡ birth
+
+-- The place of a birth's entry, or none if there is no such entry.
+abbrev pub LeadsTo : Option ℕ → ℕ → List Entry → Type 0
+LeadsTo (Some place) birth es = LiesAt es birth place
+LeadsTo None birth es = lookup (λ k. birth == k) es ≡ None
+
+-- No birth has two entries.
+abbrev pub AreApart : List Entry → Type 0
+AreApart es = IsDistinct ◌==◌ (keys_of es)

@@ -7,8 +7,9 @@ ghost use Rattle.space.specs.Keys.{tuple_key};
 
 use crate::birth_table::BirthTable;
 use crate::births::PAGES;
-use crate::keys::{Key, key_of_template, key_of_tuple};
+use crate::keys::{Key, put_template_key, put_tuple_key};
 use crate::lists::Lists;
+use arrayvec::ArrayVec;
 use std::alloc::{Allocator, Global};
 use std::collections::BTreeMap;
 use terms::NoMemory;
@@ -40,7 +41,8 @@ impl Index {
     {
         let mut index = Index::new(alloc);
         for (birth, tuple) in tuples {
-            let first = key_of_tuple(tuple);
+            let mut first = ArrayVec::new();
+            put_tuple_key(tuple, &mut first);
             index.reserve(*birth, tuple, &first)?;
             index.add(*birth, tuple, &first);
         }
@@ -89,7 +91,8 @@ impl Index {
     {
         self.pages.remove(page_of(birth), birth);
         self.lengths.remove(tuple.len(), birth);
-        let first = key_of_tuple(tuple);
+        let mut first = ArrayVec::new();
+        put_tuple_key(tuple, &mut first);
         self.firsts.remove(first.as_slice(), birth);
     }
 
@@ -105,9 +108,11 @@ impl Index {
     pub fn candidates<A: Allocator>(&self, template: &Template<A>) -> &[u64]
         ensures { FindsCandidates template.now self.now result.now }
     {
-        match key_of_template(template) {
-            Some(key) => self.firsts.get(key.as_slice()),
-            None => self.lengths.get(template.len()),
+        let mut key = ArrayVec::new();
+        if put_template_key(template, &mut key) {
+            self.firsts.get(key.as_slice())
+        } else {
+            self.lengths.get(template.len())
         }
     }
 }

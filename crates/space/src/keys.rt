@@ -1,6 +1,6 @@
 //! Keys of bytes.
 
-ghost use Rattle.std.specs.Prelude.{◌≡◌, ◌+◌, ◌≤◌, ◌<◌, ◌++◌, ◌∷◌, length, option_map};
+ghost use Rattle.std.specs.Prelude.{◌≡◌, ◌+◌, ◌≤◌, ◌<◌, ◌++◌, ◌∷◌, [], length, Some, None, if◌then◌else◌};
 ghost use Rattle.tuple_tree.specs.Values.{datum_length, IsTemplate};
 ghost use Rattle.tuple_tree.specs.AtomView.{datum_of};
 ghost use Rattle.tuple_codec.specs.Spelling.{datum_spelling, string as string_spelling, wide_bytes as wide_spelling};
@@ -16,46 +16,51 @@ pub const KEY_LEN: usize = 1026;
 /// The bytes that stand for a number of fields and a first value. There are none if no value is first, or a tuple is.
 pub type Key = ArrayVec<u8, KEY_LEN>;
 
-/// The key of a tuple.
-pub fn key_of_tuple<A: Allocator>(tuple: &Tuple<A>) -> Key
-    ensures { result.items ≡ tuple_key tuple.now }
+/// Fills in the key of a tuple. It is filled in place, since a return would copy its 1,026 bytes.
+pub fn put_tuple_key<A: Allocator>(tuple: &Tuple<A>, key: &mut Key)
+    requires { key.old.items ≡ [] }
+    ensures { key.new.items ≡ tuple_key tuple.now }
 {
     match tuple.values().first() {
-        Some(Value::Atom(atom)) => key_of(tuple.len(), atom),
-        _ => ArrayVec::new(),
+        Some(Value::Atom(atom)) => put_key(tuple.len(), atom, key),
+        _ => {}
     }
 }
 
-/// The key of the tuples that a template may match, if its first field is an actual.
-pub fn key_of_template<A: Allocator>(template: &Template<A>) -> Option<Key>
-    ensures value { option_map (λ key. key.items) result ≡ template_key template.now }
+/// Fills in the key of the tuples that a template may match, if its first field is an actual, and says whether it is.
+pub fn put_template_key<A: Allocator>(template: &Template<A>, key: &mut Key) -> bool
+    requires { key.old.items ≡ [] }
+    ensures value { (if result then Some key.new.items else None) ≡ template_key template.now }
     ensures valid { IsTemplate template.now }
 {
     match template.fields().first() {
-        Some(Field::Actual(atom)) => Some(key_of(template.len(), atom)),
-        _ => None,
+        Some(Field::Actual(atom)) => {
+            put_key(template.len(), atom, key);
+            true
+        }
+        _ => false,
     }
 }
 
-fn key_of<A: Allocator>(count: usize, first: &Atom<A>) -> Key
+fn put_key<A: Allocator>(count: usize, first: &Atom<A>, key: &mut Key)
+    requires empty { key.old.items ≡ [] }
     requires few { count ≤ 32 }
     requires fits { datum_length (datum_of first.now) ≤ 1024 }
-    ensures { result.items ≡ count ∷ datum_spelling (datum_of first.now) }
+    ensures { key.new.items ≡ count ∷ datum_spelling (datum_of first.now) }
 {
-    let mut key = ArrayVec::new();
     key.push(count as u8);
     match first {
         Atom::Number(number) => {
             key.push(1);
-            put(&mut key, &number.to_be_bytes());
+            put(key, &number.to_be_bytes());
         }
         Atom::Text(text) => {
             key.push(2);
-            put_string(&mut key, text.as_bytes());
+            put_string(key, text.as_bytes());
         }
         Atom::Bytes(bytes) => {
             key.push(3);
-            put_string(&mut key, bytes.as_slice());
+            put_string(key, bytes.as_slice());
         }
         Atom::Truth(truth) => {
             key.push(4);
@@ -63,10 +68,9 @@ fn key_of<A: Allocator>(count: usize, first: &Atom<A>) -> Key
         }
         Atom::Wide(number) => {
             key.push(6);
-            put(&mut key, &wide_bytes(*number));
+            put(key, &wide_bytes(*number));
         }
     }
-    key
 }
 
 #[tactic(auto, unfolding(tuple_codec::specs::Spelling::wide_bytes))]

@@ -12,15 +12,16 @@ use terms::NoMemory;
 use tuple_codec::{MAX_ANSWERS, Max, Tuples};
 use tuple_tree::{Template, Tuple};
 
-// The tuple of this birth, if it matches.
+// The tuple of this birth, if it matches. It is looked for at `near` first, which then is the place behind it.
 fn match_at<'a, A: Allocator>(
     tuples: &'a Stored,
     birth: u64,
+    near: &mut usize,
     template: &Template<A>,
 ) -> Option<&'a Tuple<Global>>
     ensures { IsMatchAt template.now tuples.now.entries birth result }
 {
-    match tuples.get(birth) {
+    match tuples.get_near(birth, near) {
         Some(tuple) => {
             if matches(template, tuple) {
                 Some(tuple)
@@ -40,8 +41,9 @@ pub fn oldest_match<'a, A: Allocator>(
 ) -> Option<(u64, &'a Tuple<Global>)>
     ensures { IsOldestAt template.now tuples.now.entries births.now result }
 {
+    let mut near = 0;
     for birth in births {
-        if let Some(tuple) = match_at(tuples, *birth, template) {
+        if let Some(tuple) = match_at(tuples, *birth, &mut near, template) {
             return Some((*birth, tuple));
         }
     }
@@ -60,11 +62,12 @@ pub fn copies_of_matches<A: Allocator>(
     ensures memory { OnErr result (matches_at template.now tuples.now.entries births.now ≢ []) }
 {
     let mut copies = Tuples::new_in(alloc);
+    let mut near = 0;
     for birth in births {
         if copies.len() >= max.count as usize {
             return Ok(copies);
         }
-        if let Some(tuple) = match_at(tuples, *birth, template) {
+        if let Some(tuple) = match_at(tuples, *birth, &mut near, template) {
             let copy = tuple.copy_in(alloc)?;
             copies.push(copy)?;
         }
@@ -83,11 +86,12 @@ pub fn births_of_matches<A: Allocator>(
         ≡ oldest_births max.count template.now (entries_at tuples.now.entries births.now) }
 {
     let mut matched = ArrayVec::new();
+    let mut near = 0;
     for birth in births {
         if matched.len() >= max.count as usize {
             return matched;
         }
-        if let Some(_tuple) = match_at(tuples, *birth, template) {
+        if let Some(_tuple) = match_at(tuples, *birth, &mut near, template) {
             matched.push(*birth);
         }
     }

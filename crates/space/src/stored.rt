@@ -1,10 +1,11 @@
 //! The stored tuples.
 
-ghost use Rattle.std.specs.Prelude.{◌≡◌, ◌<◌, [], length, AllPairs, OnOk, OnErr, IfOk, IfNone};
+ghost use Rattle.std.specs.Prelude.{◌≡◌, ◌<◌, [], length, All, AllPairs, OnOk, OnErr, IfOk, IfNone, IsTrue};
 ghost use Rattle.std.specs.Option.{option_copied};
 ghost use Rattle.std.specs.Ordering.{nat_cmp};
 ghost use Rattle.std.specs.Map.{lookup, remove_entry};
 ghost use Rattle.std.specs.BTreeMap.{is_at, insert_entry};
+ghost use Rattle.space.specs.Stored.{LiesAt, LeadsTo};
 
 use std::alloc::Global;
 use std::collections::{BTreeMap, HashMap};
@@ -12,20 +13,26 @@ use std::marker::Model;
 use terms::NoMemory;
 use tuple_tree::Tuple;
 
-/// The stored tuples. One is found by the hash of its birth, in the same time however many there are.
+/// The stored tuples. One is found by the hash of its birth, in the same time however many there are. If births are
+/// asked for in the order in which their tuples were put in, mostly each lies behind the one before.
 #[derive(Drop)]
 pub struct Stored {
-    tuples: HashMap<u64, Tuple<Global>>,
+    // In the order in which they were put in, but for the last one, which takes the place of one that is taken.
+    entries: Vec<(u64, Tuple<Global>)>,
+    // Where the tuple of a birth lies. Each place is looked at before it is believed.
+    places: HashMap<u64, usize>,
 }
 
 impl Model for Stored {
-    ghost use Rattle.space.specs.Stored.{StoredTuples, stored_code, in_order};
+    ghost use Rattle.space.specs.Stored.{StoredTuples, stored_code, in_order, AreApart};
 
     ghost Value = { StoredTuples };
 
     ghost coded = { stored_code };
 
-    ghost view = { λ a. record { entries = in_order a.tuples.entries } };
+    ghost view = { λ a. record { entries = in_order a.entries.items } };
+
+    ghost invariant = { λ a. AreApart a.entries.items };
 }
 
 impl Stored {
@@ -34,7 +41,8 @@ impl Stored {
         ensures empty { result.entries ≡ [] }
     {
         Stored {
-            tuples: HashMap::new(alloc),
+            entries: Vec::new(alloc),
+            places: HashMap::new(alloc),
         }
     }
 
@@ -54,24 +62,44 @@ impl Stored {
     pub fn len(&self) -> usize
         ensures { result ≡ length self.now.entries }
     {
-        self.tuples.len()
+        self.entries.len()
     }
 
     /// The tuple of a birth.
     pub fn get(&self, birth: u64) -> Option<&Tuple<Global>>
         ensures value { option_copied result ≡ lookup (is_at (nat_cmp birth)) self.now.entries }
     {
-        self.tuples.get(&birth)
+        let mut near = 0;
+        self.get_near(birth, &mut near)
     }
 
-    /// Puts a tuple in at a birth. An `Err` changes nothing.
+    /// The tuple of a birth. It is looked for at the place `near` first, which then is the place behind it.
+    pub fn get_near(&self, birth: u64, near: &mut usize) -> Option<&Tuple<Global>>
+        ensures value { option_copied result ≡ lookup (is_at (nat_cmp birth)) self.now.entries }
+    {
+        match place_of(self.entries.as_slice(), &self.places, birth, *near) {
+            Some(place) => {
+                *near = place.saturating_add(1);
+                Some(&self.entries[place].1)
+            }
+            None => None,
+        }
+    }
+
+    /// Puts a tuple in at a birth above all others. An `Err` changes nothing.
     pub fn insert(&mut self, birth: u64, tuple: Tuple<Global>) -> Result<(), NoMemory>
+        requires { All (λ e. e.0 < birth) self.old.entries }
         ensures entries { OnOk result
             (self.new.entries ≡ insert_entry nat_cmp self.old.entries birth tuple) }
         ensures err { OnErr result (self.new ≡ self.old) }
     {
-        match self.tuples.insert(birth, tuple) {
-            Ok(_) => Ok(()),
+        self.entries.reserve(1)?;
+        let place = self.entries.len();
+        match self.places.insert(birth, place) {
+            Ok(_) => {
+                self.entries.push_reserved((birth, tuple));
+                Ok(())
+            }
             Err(_) => Err(NoMemory),
         }
     }
@@ -82,6 +110,70 @@ impl Stored {
         ensures entries { self.new.entries ≡ remove_entry (is_at (nat_cmp birth)) self.old.entries }
         ensures absent { IfNone result (self.new ≡ self.old) }
     {
-        self.tuples.remove(&birth)
+        match place_of(self.entries.as_slice(), &self.places, birth, 0) {
+            Some(place) => {
+                let (_, tuple) = self.entries.swap_remove(place);
+                move_place(&mut self.places, birth, self.entries.as_slice(), place);
+                Some(tuple)
+            }
+            None => None,
+        }
     }
+}
+
+// Forgets a birth, and notes which entry lies at its place now.
+fn move_place(
+    places: &mut HashMap<u64, usize>,
+    birth: u64,
+    entries: &[(u64, Tuple<Global>)],
+    place: usize,
+) {
+    places.remove(&birth);
+    if place < entries.len() {
+        if let Some(noted) = places.get_mut(&entries[place].0) {
+            *noted = place;
+        }
+    }
+}
+
+// The place of a birth's entry, which may be `near`, and else is mostly the one that was noted.
+fn place_of(
+    entries: &[(u64, Tuple<Global>)],
+    places: &HashMap<u64, usize>,
+    birth: u64,
+    near: usize,
+) -> Option<usize>
+    ensures { LeadsTo result birth entries.now }
+{
+    if lies_at(entries, birth, near) {
+        return Some(near);
+    }
+    match places.get(&birth) {
+        Some(place) => {
+            if lies_at(entries, birth, *place) {
+                return Some(*place);
+            }
+            search(entries, birth)
+        }
+        None => search(entries, birth),
+    }
+}
+
+// Whether the entry at this place has this birth.
+fn lies_at(entries: &[(u64, Tuple<Global>)], birth: u64, place: usize) -> bool
+    ensures { IsTrue result → LiesAt entries.now birth place }
+{
+    place < entries.len() && entries[place].0 == birth
+}
+
+// The place of a birth's entry, of which no place was noted.
+fn search(entries: &[(u64, Tuple<Global>)], birth: u64) -> Option<usize>
+    ensures { LeadsTo result birth entries.now }
+{
+    for place in 0..entries.len() {
+        if entries[place].0 == birth {
+            return Some(place);
+        }
+    }
+    None
 }

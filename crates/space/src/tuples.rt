@@ -20,7 +20,7 @@ ghost use Rattle.space.specs.Births.{IsState, Follows, TuplesFollow, WantsMemory
 
 use crate::births::{PAGES, empty_pages, next_birth};
 use crate::index::Index;
-use crate::keys::key_of_tuple;
+use crate::keys::put_tuple_key;
 use crate::matching::{births_of_matches, copies_of_matches, oldest_match};
 use crate::pages::{HEADER_LEN, header_of, text_of};
 use crate::reading::{read_header, read_page};
@@ -258,7 +258,8 @@ impl Space {
         note_tuple(tuple);
         let copy = tuple.copy_in(self.alloc)?;
         let birth = next_birth(&self.page_counts, self.next);
-        let first = key_of_tuple(tuple);
+        let mut first = ArrayVec::new();
+        put_tuple_key(tuple, &mut first);
         self.index.reserve(birth, tuple, &first)?;
         if let Err(_) = self.tuples.insert(birth, copy) {
             self.index.prune(&first);

@@ -18,6 +18,7 @@ pub mod LineAgain
 pub mod Judging
 pub mod LiteralCharacters
 pub mod LiteralTexts
+pub mod PlainText
 pub mod LiteralBytes
 pub mod Writing
 pub mod WrittenAgain

@@ -1,12 +1,14 @@
 -- The written text is a text of its value, and the old bytes stay.
-use Rattle.std.proofs.Common.{◌≡◌, ℕ, zero, suc, ◌+◌, ◌≤◌, ◌<◌, List, [], ◌∷◌, ◌++◌, length, take, drop, get_or, Result, Ok, Err, refl, ap, sym, ◌∙◌, append_assoc, append-nil, add-one, arith}
+use Rattle.std.proofs.Common.{◌≡◌, ℕ, zero, suc, ◌+◌, ◌≤◌, ◌<◌, ◌==◌, nat_lt, Bool, true, false, ◌||◌, if◌then◌else◌, List, [], ◌∷◌, ◌++◌, length, take, drop, get_or, Result, Ok, Err, refl, ap, sym, subst, ◌∙◌, append_assoc, append-nil, add-one, arith}
 use Rattle.std.specs.List.{flat_map}
-use Rattle.std.proofs.lemmas.List.{take_at}
-use Rattle.std.proofs.Math.Seq.{drop-cons}
+use Rattle.std.proofs.lemmas.Bool.{eqb-true}
+use Rattle.std.proofs.lemmas.Grind.{flat_map-append}
+use Rattle.std.proofs.lemmas.List.{take_at, take-append-drop}
+use Rattle.std.proofs.Math.Seq.{drop-cons, drop-nil}
 use Rattle.tuple_tree.specs.Items.{Item, leaf, inner, Items, none, item, item_levels, levels_in, items_of}
-use Rattle.tuple_text.specs.Texts.{ItemText, ItemsText, MoreText}
+use Rattle.tuple_text.specs.Texts.{ItemText, ItemsText, MoreText, escaped, hex_pair}
 use Rattle.tuple_tree.specs.Values.{TupleTree}
-use Rattle.tuple_text.specs.Written.{item_written, items_written, more_written, tuple_written, tuples_written, Appends}
+use Rattle.tuple_text.specs.Written.{item_written, items_written, more_written, tuple_written, tuples_written, is_escaped, Appends}
 
 module _ {L : Type 0} (leaf_text : L → List ℕ) where
   mutual
@@ -115,3 +117,42 @@ module _ {X L : Type 0} (view : X → Item L) where
       let h : item_levels (view (get_or xs i x)) ≤ levels_in (items_of view xs) = levels_at xs i x p in
       let a : item_levels (view x) ≡ item_levels (view (get_or xs i x)) = ap (λ z. item_levels (view z)) q in
       omega (arith, h, a)
+
+-- a byte of a text that stands for itself
+plain_by : (quote slash control feed : Bool) (b : ℕ) → (control || (quote || slash)) ≡ false → (feed ≡ true → control ≡ true)
+    → (if quote then 92 ∷ 34 ∷ [] else (if slash then 92 ∷ 92 ∷ [] else (if feed then 92 ∷ 110 ∷ [] else (if control then 92 ∷ 120 ∷ hex_pair b else b ∷ [])))) ≡ b ∷ []
+plain_by false false false false b h k = refl
+plain_by false false false true b h k = absurd (cc (k refl))
+plain_by quote slash true feed b h k = absurd (cc)
+plain_by true slash false feed b h k = absurd (cc)
+plain_by false true false feed b h k = absurd (cc)
+
+feed_is_control : (b : ℕ) → (b == 10) ≡ true → nat_lt b 32 ≡ true
+feed_is_control b h = subst (λ x. nat_lt x 32 ≡ true) (sym (eqb-true b 10 h)) refl
+
+plain_byte : (b : ℕ) → is_escaped b ≡ false → escaped b ≡ b ∷ []
+plain_byte b h = plain_by (b == 34) (b == 92) (nat_lt b 32) (b == 10) b h (feed_is_control b)
+
+-- Bytes that stand for themselves are written as they are.
+pub plain_run : (xs : List ℕ) (n : ℕ) → n ≤ length xs → ((k : ℕ) → k < n → is_escaped (get_or xs k 0) ≡ false) → flat_map escaped (take n xs) ≡ take n xs
+plain_run xs zero h p = refl
+plain_run [] (suc n) h p = absurd (omega arith)
+plain_run (x ∷ xs) (suc n) h p =
+    ap (λ t. t ++ flat_map escaped (take n xs)) (plain_byte x (p 0 (omega arith)))
+    ∙ ap (λ t. x ∷ t) (plain_run xs n (omega arith) (λ k q. p (suc k) (omega arith)))
+
+drop_drop : (n i : ℕ) (xs : List ℕ) → drop n (drop i xs) ≡ drop (i + n) xs
+drop_drop n zero xs = let e : n ≡ 0 + n = omega arith in ap (λ (k : ℕ). drop k xs) e
+drop_drop n (suc i) [] = drop-nil n ∙ sym (drop-nil (suc i + n))
+drop_drop n (suc i) (x ∷ xs) = let e : suc (i + n) ≡ suc i + n = omega arith in drop_drop n i xs ∙ ap (λ (k : ℕ). drop k (x ∷ xs)) e
+
+-- the rest of a text, by some of its front
+pub flat_map_some : (f : ℕ → List ℕ) (xs : List ℕ) (i n : ℕ) → flat_map f (drop i xs) ≡ flat_map f (take n (drop i xs)) ++ flat_map f (drop (i + n) xs)
+flat_map_some f xs i n =
+    ap (flat_map f) (sym (take-append-drop n (drop i xs))) ∙ flat_map-append f (take n (drop i xs)) (drop n (drop i xs))
+    ∙ ap (λ t. flat_map f (take n (drop i xs)) ++ flat_map f t) (drop_drop n i xs)
+
+-- some more of a text
+pub some_more : (f : ℕ → List ℕ) (xs tail : List ℕ) (i n : ℕ) → flat_map f (drop i xs) ++ tail ≡ flat_map f (take n (drop i xs)) ++ (flat_map f (drop (i + n) xs) ++ tail)
+some_more f xs tail i n =
+    ap (λ t. t ++ tail) (flat_map_some f xs i n) ∙ append_assoc (flat_map f (take n (drop i xs))) (flat_map f (drop (i + n) xs)) tail

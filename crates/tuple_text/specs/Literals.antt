@@ -1,5 +1,5 @@
 -- Readers of the literals of texts and byte strings at the front of bytes.
-use Rattle.std.specs.Prelude.{ℕ, ◌+◌, ◌-◌, ◌*◌, ◌==◌, nat_le, nat_lt, ◌≡◌, Bool, ◌&&◌, ◌||◌, if◌then◌else◌, List, [], ◌∷◌, ◌++◌, Option, None, Some, MatchOption}
+use Rattle.std.specs.Prelude.{ℕ, ◌+◌, ◌-◌, ◌*◌, ◌==◌, nat_le, nat_lt, ◌≡◌, Bool, not, ◌&&◌, ◌||◌, if◌then◌else◌, List, [], ◌∷◌, ◌++◌, Option, None, Some, MatchOption}
 use Rattle.tuple_text.specs.Read.{got, stop, Reading}
 use Rattle.tuple_text.specs.declared.reader.Stop.TheVariants.{BadByte}
 use Rattle.tuple_text.specs.declared.literals.Expected.{Expected}
@@ -69,6 +69,14 @@ text_from e s (b ∷ bs) = stepped (step e b) s (stop BadByte (b ∷ bs)) (got s
 -- the rest of a text after its first quote
 abbrev pub text_rest : Reading (List ℕ)
 text_rest bs = text_from Character [] bs
+
+-- whether a byte stands for itself in a text
+abbrev pub is_plain : ℕ → Bool
+is_plain b = is_between 32 127 b && not (b == 34 || b == 92)
+
+-- The bytes are passed as the front of a text.
+abbrev pub PassesPlain : List ℕ → List ℕ → List ℕ → Type 0
+PassesPlain s old new = text_from Character s new ≡ text_from Character [] old
 
 unfoldable pub text_literal : Reading (List ℕ)
 text_literal [] = stop BadByte []

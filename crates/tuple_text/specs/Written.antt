@@ -1,12 +1,13 @@
 -- The text that the program writes: one blank between items and none at the parentheses.
-use Rattle.std.specs.Prelude.{◌≡◌, ℕ, List, [], ◌∷◌, ◌++◌, length, codes, Result, Ok, Err}
+use Rattle.std.specs.Prelude.{◌≡◌, ℕ, ◌<◌, ◌≤◌, ◌==◌, nat_lt, Bool, ◌||◌, List, [], ◌∷◌, ◌++◌, length, take, codes, Result, Ok, Err}
+use Rattle.std.specs.List.{flat_map}
 use Rattle.std.specs.Fmt.{decimal}
 use Rattle.tuple_tree.specs.Items.{Item, leaf, inner, Items, none, item}
 use Rattle.tuple_tree.specs.Values.{Datum, Slot, TupleTree, TemplateTree}
 use Rattle.tuple_codec.specs.Operations.{Operation, out, rdp, inp, cas, rd_all, in_all, upgrade, Outcome, done, found, absent, swapped, all, full, refused}
 use Rattle.tuple_codec.specs.OperationView.{outcome_of}
 use Rattle.tuple_codec.specs.declared.operations.Answer.{Answer}
-use Rattle.tuple_text.specs.Texts.{datum_text, slot_text, truth_text}
+use Rattle.tuple_text.specs.Texts.{datum_text, slot_text, truth_text, escaped}
 
 module _ {L : Type 0} (leaf_text : L → List ℕ) where
   abbrev mutual
@@ -84,3 +85,12 @@ answer_text answer = outcome_text (outcome_of answer)
 abbrev pub Appends : {V E : Type 0} → Result V E → List ℕ → List ℕ → List ℕ → Type 0
 Appends (Ok v) old text new = new ≡ old ++ text
 Appends (Err e) old text new = (more : List ℕ) × (new ≡ old ++ more)
+
+-- whether a byte of a text doesn't stand for itself
+abbrev pub is_escaped : ℕ → Bool
+is_escaped b = nat_lt b 32 || (b == 34 || b == 92)
+
+-- So many bytes of a text, one at least, follow the old ones as a literal has them. After an error some bytes may.
+abbrev pub PutsSome : {E : Type 0} → Result ℕ E → List ℕ → List ℕ → List ℕ → Type 0
+PutsSome (Ok n) text old new = (0 < n) × (n ≤ length text) × (new ≡ old ++ flat_map escaped (take n text))
+PutsSome (Err e) text old new = (more : List ℕ) × (new ≡ old ++ more)

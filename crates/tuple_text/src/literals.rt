@@ -1,8 +1,8 @@
 //! The reader of text literals and byte string literals.
 
-ghost use Rattle.std.specs.Prelude.{◌≡◌, ◌+◌, ◌++◌, ◌∷◌, ◌<◌, [], None, Some, true, IfOk, IfErr, IfSome, IfNone, OnOk, string_bytes};
+ghost use Rattle.std.specs.Prelude.{◌≡◌, ◌+◌, ◌++◌, ◌∷◌, ◌<◌, ◌≤◌, ℕ, [], None, Some, true, length, slice_index, IfOk, IfErr, IfSome, IfNone, OnOk, string_bytes};
 ghost use Rattle.std.specs.Str.{IsUtf8};
-ghost use Rattle.tuple_text.specs.Literals.{is_hex, hex_value, led, step, text_rest, text_literal, PassesDigit, pairs, bytes_literal};
+ghost use Rattle.tuple_text.specs.Literals.{is_hex, hex_value, led, step, is_plain, text_rest, PassesPlain, text_literal, PassesDigit, pairs, bytes_literal};
 ghost use Rattle.tuple_text.specs.Parts.{Reads};
 
 use crate::reader::{Reader, Stop};
@@ -116,13 +116,50 @@ fn push_byte(bytes: &mut Vec<u8>, byte: u8) -> Result<(), Stop>
     }
 }
 
+// How many bytes at the front stand for themselves in a text literal.
+fn plain_len(bytes: &[u8]) -> usize
+    ensures within { result ≤ length bytes.now }
+    ensures plain { (k : ℕ) → k < result → is_plain (slice_index bytes.now k) ≡ true }
+{
+    match bytes.iter().position(|byte| *byte < b' '
+        || *byte > 127
+        || *byte == b'"'
+        || *byte == b'\\')
+    {
+        Some(place) => place,
+        None => bytes.len(),
+    }
+}
+
+// A copy of these bytes.
+fn copy_of(alloc: Global, bytes: &[u8]) -> Result<Vec<u8>, Stop>
+    ensures ok { IfOk result (λ v. v.items ≡ bytes.now) }
+    ensures err { IfErr result (λ s. s ≡ Stop.NoMemory) }
+{
+    match Vec::from_slice(alloc, bytes) {
+        Ok(copy) => Ok(copy),
+        Err(_full) => Err(Stop::NoMemory),
+    }
+}
+
 impl<'a> Reader<'a> {
+    // Passes the bytes at the front that stand for themselves, all at once, and gives them.
+    fn plain_bytes(&mut self, alloc: Global) -> Result<Vec<u8>, Stop>
+        ensures ok { IfOk result (λ v. PassesPlain v.items self.old.rest.now self.new.rest.now) }
+        ensures err { IfErr result (λ s. s ≡ Stop.NoMemory) }
+    {
+        let (front, rest) = self.rest.split_at(plain_len(self.rest));
+        let bytes = copy_of(alloc, front)?;
+        self.rest = rest;
+        Ok(bytes)
+    }
+
     // The rest of a text after its first quote.
     fn text_bytes(&mut self, alloc: Global) -> Result<Vec<u8>, Stop>
         ensures gives { Reads (λ v. v.items) result text_rest self.old self.new }
         ensures utf8 { IfOk result (λ v. IsUtf8 v.items) }
     {
-        let mut bytes = Vec::new(alloc);
+        let mut bytes = self.plain_bytes(alloc)?;
         let mut expected = Expected::Character;
         while let [byte, rest @ ..] = self.rest {
             match expected.step(*byte) {

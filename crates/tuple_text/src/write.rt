@@ -1,6 +1,6 @@
 //! From values to text.
 
-ghost use Rattle.std.specs.Prelude.{◌≡◌, ◌+◌, ◌<◌, ◌++◌, ◌∷◌, OnOk, OnErr, ℕ, List};
+ghost use Rattle.std.specs.Prelude.{◌≡◌, ◌+◌, ◌<◌, ◌≤◌, ◌++◌, ◌∷◌, false, length, slice_index, OnOk, OnErr, ℕ, List};
 ghost use Rattle.std.specs.List.{flat_map};
 ghost use Rattle.std.specs.Fmt.{signed_decimal};
 ghost use Rattle.tuple_tree.specs.Values.{TupleTree, TemplateTree};
@@ -11,7 +11,7 @@ ghost use Rattle.tuple_text.specs.Laws.{TuplesAreLines, TemplatesAreLines};
 ghost use Rattle.tuple_text.specs.Lines.{IsLine};
 ghost use Rattle.tuple_text.specs.Texts.{TupleText, TemplateText, datum_text, quoted_text, truth_text, escaped, hex_pair};
 ghost use Rattle.tuple_text.specs.Texts as Texts;
-ghost use Rattle.tuple_text.specs.Written.{value_written, values_written, tuple_written, template_written, counted_written, answer_text, Appends};
+ghost use Rattle.tuple_text.specs.Written.{value_written, values_written, tuple_written, template_written, counted_written, answer_text, is_escaped, Appends, PutsSome};
 
 use itoa::Buffer;
 use std::alloc::Allocator;
@@ -203,10 +203,40 @@ fn put_text<B: Allocator>(text: &[u8], out: &mut Vec<u8, B>) -> Result<(), NoMem
     ensures { Appends result out.old.items (quoted_text text.now) out.new.items }
 {
     append(b"\"", out)?;
-    for byte in text {
-        put_escaped(*byte, out)?;
+    let mut done = 0;
+    while done < text.len() {
+        let (_, rest) = text.split_at(done);
+        done += put_some(rest, out)?;
     }
     append(b"\"", out)
+}
+
+// The bytes up to the first that is escaped, as they are, or if that comes first its escape. Gives how many it put.
+fn put_some<B: Allocator>(text: &[u8], out: &mut Vec<u8, B>) -> Result<usize, NoMemory>
+    requires { 0 < length text.now }
+    ensures { PutsSome result text.now out.old.items out.new.items }
+{
+    let plain = plain_len(text);
+    if plain == 0 {
+        put_escaped(text[0], out)?;
+        return Ok(1);
+    }
+    append(&text[..plain], out)?;
+    Ok(plain)
+}
+
+// How many bytes stand before the first that is escaped, or how many there are.
+fn plain_len(text: &[u8]) -> usize
+    ensures within { result ≤ length text.now }
+    ensures plain { (k : ℕ) → k < result → is_escaped (slice_index text.now k) ≡ false }
+{
+    match text
+        .iter()
+        .position(|byte| *byte < b' ' || *byte == b'"' || *byte == b'\\')
+    {
+        Some(place) => place,
+        None => text.len(),
+    }
 }
 
 fn put_escaped<B: Allocator>(byte: u8, out: &mut Vec<u8, B>) -> Result<(), NoMemory>
@@ -229,8 +259,10 @@ fn put_bytes<B: Allocator>(bytes: &[u8], out: &mut Vec<u8, B>) -> Result<(), NoM
     ensures { Appends result out.old.items (120 ∷ flat_map hex_pair bytes.now) out.new.items }
 {
     append(b"x", out)?;
+    out.reserve(2 * bytes.len())?;
     for byte in bytes {
-        append(&[hex_digit(*byte / 16), hex_digit(*byte % 16)], out)?;
+        out.push_reserved(hex_digit(*byte / 16));
+        out.push_reserved(hex_digit(*byte % 16));
     }
     Ok(())
 }

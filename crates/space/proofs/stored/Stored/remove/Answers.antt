@@ -1,16 +1,48 @@
-use Rattle.std.proofs.Common.{ap, sym, ◌∙◌}
+use Rattle.std.proofs.Common.{◌≡◌, ℕ, None, ap, sym, subst, ◌∙◌}
+use Rattle.std.specs.Prelude.{◌==◌}
 use Rattle.std.specs.Ordering.{nat_cmp}
 use Rattle.std.specs.Map.{lookup, remove_entry}
 use Rattle.std.specs.BTreeMap.{is_at}
-use Rattle.space.proofs.InOrder.{lookup-in_order, removed_in_order}
+use Rattle.space.specs.Stored.{LiesAt, AreApart}
+use Rattle.space.proofs.InOrder.{Puts, lookup-in_order, removed_in_order}
+use Rattle.space.proofs.Places.{there, found_there, taken_out, distinct_left, nothing_out}
 use Rattle.space.proofs.stored.Stored.remove.Goals as goal
 
-pub returns-clause-value : goal.returns-clause-value
-returns-clause-value c =
-    c.remove.ensures.value ∙ sym (lookup-in_order c.self.inside.tuples.entries c.args.birth)
-    ∙ ap (λ s. lookup (is_at (nat_cmp c.args.birth)) s.entries) c.self.view_is
+pub invariant_of-self : goal.invariant_of-self
+invariant_of-self c =
+    let es = c.self.inside.entries.items in
+    let here : LiesAt es c.args.birth c.in-Some.place = subst (λ xs. LiesAt xs c.args.birth c.in-Some.place) c.as_slice.ensures.value c.in-Some.ensures in
+    subst AreApart (sym c.swap_remove-tuple.ensures.items)
+    (distinct_left es c.in-Some.place c.swap_remove-tuple.result c.self.invariant here.within c.swap_remove-tuple.ensures.value)
 
-pub returns-clause-entries : goal.returns-clause-entries
-returns-clause-entries c =
-    removed_in_order c.self.inside.tuples.entries c.remove.new.self.entries c.args.birth c.remove.ensures.updates.0
+pub returns-in-Some-clause-value : goal.returns-in-Some-clause-value
+returns-in-Some-clause-value c =
+    let es = c.self.inside.entries.items in
+    let here : LiesAt es c.args.birth c.in-Some.place = subst (λ xs. LiesAt xs c.args.birth c.in-Some.place) c.as_slice.ensures.value c.in-Some.ensures in
+    sym (found_there es c.in-Some.place c.args.birth c.swap_remove-tuple.result c.self.invariant here c.swap_remove-tuple.ensures.value)
+    ∙ sym (lookup-in_order es c.args.birth) ∙ ap (λ s. lookup (is_at (nat_cmp c.args.birth)) s.entries) c.self.view_is
+
+pub returns-in-Some-clause-entries : goal.returns-in-Some-clause-entries
+returns-in-Some-clause-entries c =
+    let es = c.self.inside.entries.items in
+    let e = c.swap_remove-tuple.result in
+    let new = c.swap_remove-tuple.new.self.items in
+    let here : LiesAt es c.args.birth c.in-Some.place = subst (λ xs. LiesAt xs c.args.birth c.in-Some.place) c.as_slice.ensures.value c.in-Some.ensures in
+    let taken : Puts es new e.0 None =
+    subst (λ xs. Puts es xs e.0 None) (sym c.swap_remove-tuple.ensures.items) (taken_out es c.in-Some.place e c.self.invariant here.within c.swap_remove-tuple.ensures.value) in
+    removed_in_order es new c.args.birth
+    (subst (λ (n : ℕ). Puts es new n None) (there es c.in-Some.place c.args.birth e here c.swap_remove-tuple.ensures.value) taken)
     ∙ ap (λ s. remove_entry (is_at (nat_cmp c.args.birth)) s.entries) c.self.view_is
+
+pub returns-in-None-clause-value : goal.returns-in-None-clause-value
+returns-in-None-clause-value c =
+    let es = c.self.inside.entries.items in
+    let no : lookup (λ k. c.args.birth == k) es ≡ None = subst (λ xs. lookup (λ k. c.args.birth == k) xs ≡ None) c.as_slice.ensures.value c.in-None.ensures in
+    sym no ∙ sym (lookup-in_order es c.args.birth) ∙ ap (λ s. lookup (is_at (nat_cmp c.args.birth)) s.entries) c.self.view_is
+
+pub returns-in-None-clause-entries : goal.returns-in-None-clause-entries
+returns-in-None-clause-entries c =
+    let es = c.self.inside.entries.items in
+    let no : lookup (λ k. c.args.birth == k) es ≡ None = subst (λ xs. lookup (λ k. c.args.birth == k) xs ≡ None) c.as_slice.ensures.value c.in-None.ensures in
+    subst (λ s. s.entries ≡ remove_entry (is_at (nat_cmp c.args.birth)) s.entries) c.self.view_is
+    (removed_in_order es es c.args.birth (nothing_out es c.args.birth no))

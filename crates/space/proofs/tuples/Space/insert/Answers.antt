@@ -40,6 +40,14 @@ overflow_add-self-2 g c =
     let soon = birth_soon c.self.inside.version c.self.inside.tuples.entries c.self.inside.next c.self.inside.page_counts c.self.invariant.counts c.next_birth-birth.result c.next_birth-birth.ensures room in
     omega arith
 
+pub insert-requires : goal.insert-requires
+insert-requires g c = λ k d l.
+    let state = c.self.invariant.counts.state in
+    let under = state.below_next k d l in
+    let room = subst (λ s. length s.entries < most_tuples s.version) (sym c.self.view_is) c.requires.room in
+    let newest = birth_from c.self.inside.version c.self.inside.tuples.entries c.self.inside.next c.self.inside.page_counts c.self.invariant.counts c.next_birth-birth.result c.next_birth-birth.ensures room in
+    omega arith
+
 pub invariant_of-self : goal.invariant_of-self
 invariant_of-self g c =
     let h = c.self.invariant in
@@ -53,7 +61,7 @@ invariant_of-self-in-Err g c =
     (record { counts = h.counts; indexed = c.prune.ensures.kept es (c.reserve.ensures.kept es h.indexed) })
 
 pub add-requires-clause-key : goal.add-requires-clause-key
-add-requires-clause-key g c = c.key_of_tuple-first.ensures
+add-requires-clause-key g c = c.put_tuple_key.ensures
 
 pub add-requires-clause-room : goal.add-requires-clause-room
 add-requires-clause-room g c = (c.in_ok-reserve.ensures {u = tt}).ok

@@ -1,0 +1,29 @@
+-- Bytes that stand for themselves in a text literal are read all at once.
+use Rattle.std.proofs.Common.{◌≡◌, ℕ, zero, suc, ◌≤◌, ◌<◌, ◌==◌, Bool, true, false, not, ◌&&◌, ◌||◌, if◌then◌else◌, List, [], ◌∷◌, ◌++◌, length, take, drop, get_or, refl, ap, sym, ◌∙◌, append_assoc, append-nil, arith}
+use Rattle.tuple_text.specs.Literals.{is_between, is_plain, led, step, stepped, text_from, PassesPlain}
+use Rattle.tuple_text.specs.Read.{got, stop}
+use Rattle.tuple_text.specs.declared.reader.Stop.TheVariants.{BadByte}
+use Rattle.tuple_text.specs.declared.literals.Expected.TheVariants.{Character, Escape}
+use Rattle.tuple_text.specs.declared.literals.Step.TheVariants.{Ends, Passes, Adds}
+
+adds_by : (quote slash between : Bool) (b : ℕ) → (between && not (quote || slash)) ≡ true
+    → (if quote then Ends else (if slash then Passes Escape else (if between then Adds b Character else led b))) ≡ Adds b Character
+adds_by false false true b h = refl
+adds_by quote slash false b h = absurd (cc)
+adds_by true slash true b h = absurd (cc)
+adds_by false true true b h = absurd (cc)
+
+plain_step : (b : ℕ) → is_plain b ≡ true → step Character b ≡ Adds b Character
+plain_step b h = adds_by (b == 34) (b == 92) (is_between 32 127 b) b h
+
+read_plain : (bs s : List ℕ) (n : ℕ) → n ≤ length bs → ((k : ℕ) → k < n → is_plain (get_or bs k 0) ≡ true)
+    → text_from Character (s ++ take n bs) (drop n bs) ≡ text_from Character s bs
+read_plain bs s zero h p = ap (λ t. text_from Character t bs) (append-nil s)
+read_plain [] s (suc n) h p = absurd (omega arith)
+read_plain (b ∷ bs) s (suc n) h p =
+    ap (λ t. text_from Character t (drop n bs)) (sym (append_assoc s (b ∷ []) (take n bs)))
+    ∙ read_plain bs (s ++ b ∷ []) n (omega arith) (λ k q. p (suc k) (omega arith))
+    ∙ ap (λ x. stepped x s (stop BadByte (b ∷ bs)) (got s bs) (λ f t. text_from f t bs)) (sym (plain_step b (p 0 (omega arith))))
+
+pub passes_plain : (bs : List ℕ) (n : ℕ) → n ≤ length bs → ((k : ℕ) → k < n → is_plain (get_or bs k 0) ≡ true) → PassesPlain (take n bs) bs (drop n bs)
+passes_plain bs n h p = read_plain bs [] n h p
