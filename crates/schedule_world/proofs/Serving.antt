@@ -93,11 +93,11 @@ pub map_filter : {X Y : Type 0} (f : X → Y) (p : Y → Bool) (xs : List X) →
 map_filter f p [] = refl
 map_filter f p (x ∷ xs) = map_case f x (filter (λ y. p (f y)) xs) (p (f x)) (filter p (map f xs)) (map_filter f p xs)
 
-pub noted_set : (ms : List Made) (i p : ℕ) (m d : Made) → i < length ms → d ≡ get_or ms i d → m.bytes.items ≡ d.bytes.items
+pub noted_set : (ms : List Made) (i p : ℕ) (m d : Made) → i < length ms → d ≡ get_or ms i d → m.bytes ≡ d.bytes
     → map party_number m.waiting.items ≡ others p (map party_number d.waiting.items) → map frame_of (set ms i m) ≡ noted (map frame_of ms) i p
 noted_set [] i p m d within e b w = absurd (omega arith)
 noted_set (x ∷ ms) zero p m d within e b w =
-    let bytes : m.bytes.items ≡ x.bytes.items = b ∙ ap (λ t. t.bytes.items) e in
+    let bytes : m.bytes ≡ x.bytes = b ∙ ap (λ t. t.bytes) e in
     let waiting : map party_number m.waiting.items ≡ others p (map party_number x.waiting.items) = w ∙ ap (λ t. others p (map party_number t.waiting.items)) e in
     λ t. record { bytes = bytes t; waiting = waiting t } ∷ map frame_of ms
 noted_set (x ∷ ms) (suc i) p m d within e b w = ap (λ fs. frame_of x ∷ fs) (noted_set ms i p m d (omega arith) e b w)
