@@ -1,8 +1,11 @@
 -- The values that a replica's desk owns may go to another thread: its replies, its space, and its executed batches.
-use denote.Builtin.{u64}
+use mathlib.Core.List.{List, [], ◌∷◌}
+use denote.RattleType.{RattleType}
+use denote.Builtin.{u64, usize}
 use denote.Param.Send.{IsSend, sendable}
 use denote.Param.SendFields.{as_row_send, declared_send}
 use denote.Struct.Field.{row_field}
+use denote.Struct.Tuple.{Tuple, tuple_type}
 use Rattle.std.specs.contracts.alloc.Global as heap
 use Rattle.std.below.std_heap.specs.contracts.GlobalAllocator.TheImpl.{ghosts}
 use Rattle.std.specs.contracts.hash.BuildHasherDefault as hashing
@@ -51,12 +54,24 @@ replies_send = search (sendable, in_replies_send)
 
 -- ---- the space
 
+-- a birth and its tuple
+abbrev entry_parts : List RattleType
+entry_parts = u64 ∷ tuple.the_row heap.the_row ghosts ∷ []
+
+entry_send : IsSend (Tuple entry_parts)
+entry_send = declared_send (tuple_type entry_parts) (
+  as_row_send (row_field u64) (search sendable),
+  (as_row_send (row_field (tuple.the_row heap.the_row ghosts)) tuple_send, tt),
+)
+
 in_stored_send : IsSend in_stored.the_row
 in_stored_send = declared_send in_stored.the_type (
-  as_row_send (row_field _) (map_send u64 (tuple.the_row heap.the_row ghosts) (hashing.the_row folding.the_row)
-      heap.the_row folding.the_row _ _ _ _ _ (search sendable) tuple_send
-      (hashing_send folding.the_row (search (sendable, folding_send))) heap_send heap_frees),
-  tt,
+  vec_field (Tuple entry_parts) entry_send,
+  (
+    as_row_send (row_field _) (map_send u64 usize (hashing.the_row folding.the_row) heap.the_row folding.the_row _ _ _ _ _
+        (search sendable) (search sendable) (hashing_send folding.the_row (search (sendable, folding_send))) heap_send heap_frees),
+    tt,
+  ),
 )
 
 stored_send : IsSend stored.the_row
