@@ -1,25 +1,27 @@
 -- Looking through the entries of an authenticator.
-use Rattle.std.proofs.Common.{◌≡◌, arith, true, zero, Contains, refl, [], ◌∷◌, ◌++◌, take, ◌<◌, ℕ, suc, ◌+◌, Bool, ◌||◌, List, map, length, drop, get_or, ap, add-one}
-use Rattle.std.proofs.Math.Seq.{drop-cons}
+use Rattle.std.proofs.Common.{◌≡◌, arith, true, false, zero, Contains, refl, [], ◌∷◌, ◌++◌, take, ◌<◌, ℕ, suc, ◌+◌, Bool, ◌||◌, List, map, length, drop, get_or, slice_get, Some, ◌≤◌, ap, sym}
 use Rattle.std.proofs.Math.Bool.{or-true}
 use Rattle.std.proofs.lemmas.Bool.{and_from, eq-eqb}
 use Rattle.std.proofs.lemmas.Slice.Eq.{bytes_eq-Decides}
-use Rattle.std.proofs.lemmas.List.{map-append, take_more}
+use Rattle.std.proofs.lemmas.List.{map-append, take_more, drop_all}
 use Rattle.terms.specs.declared.parties.Party.{Party}
 use Rattle.authenticator.specs.Keys.{mac_between}
 use Rattle.authenticator.specs.Sealing.{entry_for}
 use Rattle.wire.specs.declared.frames.ReceiverMac.{ReceiverMac}
 use Rattle.terms.specs.Parties.{party_number}
+use Rattle.wire.specs.Messages.{MacData}
 use Rattle.wire.specs.Views.{mac_data}
+use Rattle.wire.proofs.Entries.{drop_more}
 use Rattle.authenticator.specs.Authentic.{has_mac, is_mac_for}
 
 -- the test of an entry, and of those after it
-pub has_mac-step : (party : ℕ) (mac : List ℕ) (entries : List ReceiverMac) (i : ℕ) (entry : ReceiverMac) (found : Bool) → i < length entries
-    → entry ≡ get_or entries i entry → found ≡ is_mac_for party mac (mac_data entry)
-    → has_mac party mac (map mac_data (drop i entries)) ≡ (found || has_mac party mac (map mac_data (drop (i + 1) entries)))
-has_mac-step party mac entries i entry found within here is =
-    let e : is_mac_for party mac (mac_data (get_or entries i entry)) ≡ found = rw (← here, is) in
-    rw (add-one, drop-cons entries i entry) (ap (λ b. b || has_mac party mac (map mac_data (drop (suc i) entries))) e)
+pub has_mac-step : (party : ℕ) (mac : List ℕ) (entries : List MacData) (i : ℕ) (entry : MacData) (found : Bool) → slice_get entries i ≡ Some entry → found ≡ is_mac_for party mac entry
+    → has_mac party mac (drop i entries) ≡ (found || has_mac party mac (drop (i + 1) entries))
+has_mac-step party mac entries i entry found here is = rw (drop_more entries i entry here) (ap (λ b. b || has_mac party mac (drop (i + 1) entries)) (sym is))
+
+-- none is left
+pub has_mac-end : (party : ℕ) (mac : List ℕ) (entries : List MacData) (i : ℕ) → length entries ≤ i → has_mac party mac (drop i entries) ≡ false
+has_mac-end party mac entries i over = ap (has_mac party mac) (drop_all i entries over)
 
 -- one more entry is made
 pub entries-push : (seed : List ℕ) (sender : ℕ) (text : List ℕ) (old : List ReceiverMac) (receivers : List Party) (i : ℕ) (receiver : Party) (mac : List ℕ)

@@ -20,8 +20,8 @@ use std::alloc::Global;
 use terms::{NoMemory, Party};
 use thiserror::Error;
 use wire::{
-    Authenticator, AuthenticatorBytes, Body, Frame, Header, MAX_RECEIVERS, NoFrame, ReceiverMac,
-    WireFault, begin_frame, body_bytes, decode_judged, judge, put_authenticator,
+    Authenticator, AuthenticatorBytes, Body, Frame, Header, MAX_RECEIVERS, MacBytes, NoFrame,
+    ReceiverMac, WireFault, begin_frame, body_bytes, decode_judged, judge, put_authenticator,
 };
 
 /// Why a frame was refused.
@@ -195,11 +195,11 @@ impl Ring {
 }
 
 // Whether an entry for the party is this MAC.
-fn has_mac(entries: &[ReceiverMac], party: u16, mac: &[u8; 32]) -> bool
-    ensures { result ≡ has_mac party mac.now (map mac_data entries.now) }
+fn has_mac(entries: &MacBytes<'_>, party: u16, mac: &[u8; 32]) -> bool
+    ensures { result ≡ has_mac party mac.now entries.now }
 {
-    for entry in entries {
-        if is_mac_for(entry, party, mac) {
+    for i in 0..entries.len() {
+        if is_mac_for(&entries.get(i), party, mac) {
             return true;
         }
     }

@@ -7,7 +7,7 @@ use Rattle.terms.specs.declared.parties.ClientId.{ClientId}
 use Rattle.tuple_codec.specs.declared.operations.Answer.{Answer}
 use Rattle.tuple_codec.specs.OperationView.{outcome_of}
 use Rattle.tuple_codec.specs.Spelling.{outcome_spelling}
-use Rattle.wire.specs.declared.frames.Frame.{Frame}
+use Rattle.wire.specs.declared.messages.Body.{Body as WireBody}
 use Rattle.wire.specs.declared.messages.Reply.{Reply}
 use Rattle.wire.specs.Messages.{BodyData as Body, reply as says}
 use Rattle.wire.specs.Views.{body_data}
@@ -16,9 +16,6 @@ use Rattle.signing.specs.Heard.{heard}
 use Rattle.protocol.specs.Client.RightClient.{vote_of}
 use Rattle.client_cert.specs.State.{Ballot}
 use Rattle.client_cert.specs.declared.hearing.Heard.{Heard}
-
-abbrev pub frame_body : Frame → Body
-frame_body f = body_data f.body
 
 -- the body of a reply to the client's call of this timestamp
 abbrev pub body_of : ℕ → ℕ → Heard → Body
@@ -45,10 +42,10 @@ Answers me timestamp sender r (Some h) = body_of me timestamp h ≡ reply_body s
 
 -- ---- of the client with this number, for Rust values
 
--- the client hears this frame from the bytes, or none
-abbrev pub HearsFrame : Membership → ClientId → List ℕ → Option Frame → Type 0
-HearsFrame m client bytes frame =
-    heard m (256 + client.number) bytes ≡ option_map frame_body frame
+-- the client hears this body from the bytes, or none
+abbrev pub HearsBody : Membership → ClientId → List ℕ → Option WireBody → Type 0
+HearsBody m client bytes body =
+    heard m (256 + client.number) bytes ≡ option_map body_data body
 
 -- the client hears this reply to its call from the bytes, or none
 abbrev pub HearsReply : Membership → ClientId → Timestamp → List ℕ → Option Heard → Type 0

@@ -2,7 +2,7 @@
 
 ghost use Rattle.std.specs.Prelude.{◌≡◌, ◌+◌, ◌==◌, ◌≤◌, IfOk, slice_index};
 ghost use Rattle.client_cert.specs.Steps.{TurnsTo};
-ghost use Rattle.client_cert.specs.Hearing.{Answers, HearsFrame, HearsReply, IsBallotOf};
+ghost use Rattle.client_cert.specs.Hearing.{Answers, HearsBody, HearsReply, IsBallotOf};
 
 use crate::ballots::Ballot;
 use crate::call::{Call, Next};
@@ -12,7 +12,7 @@ use signing::{HearFault, HeardFrame, PublicKeys, hear};
 use std::alloc::Global;
 use terms::{ClientId, Mode, Number, Party, Timestamp};
 use tuple_codec::{Answer, encode_result};
-use wire::{Body, Frame, Message, Reply};
+use wire::{Body, Message, Reply};
 
 /// A reply to the open call.
 #[derive(Drop)]
@@ -85,13 +85,9 @@ fn hear_reply(
     if !has_reply_type(bytes) {
         return Ok(None);
     }
-    match hear_frame(ring, publics, alloc, client, bytes)? {
+    match hear_body(ring, publics, alloc, client, bytes)? {
         None => Ok(None),
-        Some(frame) => {
-            let Frame {
-                body,
-                authenticator: _,
-            } = frame;
+        Some(body) => {
             let Body { sender, message } = body;
             match message {
                 Message::Reply(reply) => Ok(reply_to(client, timestamp, sender.number(), reply)),
@@ -111,22 +107,22 @@ fn has_reply_type(bytes: &[u8]) -> bool
     }
 }
 
-// The frame that the client hears from the bytes, if any.
-fn hear_frame(
+// The body that the client hears from the bytes, if any.
+fn hear_body(
     ring: &mut Ring,
     publics: &PublicKeys,
     alloc: Global,
     client: ClientId,
     bytes: &[u8],
-) -> Result<Option<Frame>, Stop>
+) -> Result<Option<Body>, Stop>
     requires keys { publics.now ≡ ring.old.seed }
-    ensures heard { IfOk result (HearsFrame ring.old client bytes.now) }
+    ensures heard { IfOk result (HearsBody ring.old client bytes.now) }
     ensures same { ring.new ≡ ring.old }
 {
     match hear(alloc, ring, publics, bytes, Party::Client(client)) {
         Ok(heard) => {
-            let HeardFrame { bytes: _, frame } = heard;
-            Ok(Some(frame))
+            let HeardFrame { bytes: _, body } = heard;
+            Ok(Some(body))
         }
         Err(fault) => match fault {
             HearFault::NoMemory => Err(Stop::NoMemory),

@@ -1,11 +1,10 @@
 -- The calls of frames.
-use Rattle.std.proofs.Common.{◌≡◌, ℕ, ◌^◌, ◌<◌, ◌≤◌, List, [], ◌∷◌, length, Option, refl, sym, ap, ◌∙◌, subst, arith}
+use Rattle.std.proofs.Common.{◌≡◌, ℕ, ◌^◌, ◌<◌, ◌≤◌, List, [], ◌∷◌, length, Option, Some, refl, sym, ap, ◌∙◌, subst, arith}
 use Rattle.std.specs.Prelude.{option_and_then}
 use Rattle.tuple_tree.specs.Values.{AreBytes}
-use Rattle.wire.specs.Headers.{IsFrame}
+use Rattle.wire.specs.Headers.{IsFrame, HasBody}
 use Rattle.wire.specs.Lists.{Each}
-use Rattle.wire.specs.Messages.{FrameData, pre_prepare}
-use Rattle.wire.specs.Spelling.{SpellsFrame}
+use Rattle.wire.specs.Messages.{BodyData, pre_prepare}
 use Rattle.wire.specs.Words.{requests_of}
 use Rattle.wire.proofs.Saying.{reads_said}
 use Rattle.wire.proofs.Telling.{carries_frames, reads_batches}
@@ -13,9 +12,9 @@ use Rattle.protocol.specs.Replica.State.{Call, call_in}
 use Rattle.execution.specs.Calls.{IsCallIn, IsCallOf}
 
 -- the call of a frame is that of its body
-pub call_said : (clients : ℕ) (frame : List ℕ) (f : FrameData) (call : Option Call)
-    → SpellsFrame frame f → IsCallIn clients f.body call → IsCallOf clients frame call
-call_said clients frame f call s h = λ c e. ap (option_and_then (call_in c)) (reads_said frame f s) ∙ h c e
+pub call_said : (clients : ℕ) (frame : List ℕ) (body : BodyData) (call : Option Call)
+    → HasBody frame body → IsCallIn clients body call → IsCallOf clients frame call
+call_said clients frame body call s h = λ c e. ap (option_and_then (call_in c)) (reads_said frame s.0 s.1 ∙ ap Some s.2) ∙ h c e
 
 -- the requests of a batch are frames
 pub requests_are_frames : (text : List ℕ) → AreBytes text → Each IsFrame (requests_of text)

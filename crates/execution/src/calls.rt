@@ -8,7 +8,7 @@ ghost use Rattle.execution.specs.Calls.{call_data, IsCallIn, IsCallOf};
 use std::alloc::Global;
 use terms::{ClientId, Mode, NoMemory, Party, Timestamp};
 use tuple_codec::Op;
-use wire::{Body, Frame, Message, decode_judged};
+use wire::{Body, Message, decode_judged_body};
 
 /// An ordered request of one of the clients.
 #[derive(Drop)]
@@ -24,10 +24,7 @@ pub fn read_call(alloc: Global, frame: &[u8], clients: u16) -> Result<Option<Cal
     ensures found { IfOk result (λ call. IsCallOf clients frame.now (option_map call_data call)) }
     ensures client { IfOk result (λ found. IfSome found (λ call. call.client.number < clients)) }
 {
-    let Frame {
-        body,
-        authenticator: _,
-    } = decode_judged(alloc, frame)?;
+    let body = decode_judged_body(alloc, frame)?;
     Ok(call_in(body, clients))
 }
 

@@ -22,7 +22,7 @@ use std::alloc::Global;
 use std::collections::BTreeMap;
 use terms::{ClientId, Mode, NoMemory, Number, Party, Timestamp};
 use tuple_codec::Answer;
-use wire::{Body, Frame, Message, Reply};
+use wire::{Body, Message, Reply};
 
 /// The reads that clients accepted by read-only replies, in a trace whose oldest entry stands first.
 pub(crate) fn find_reads(
@@ -127,35 +127,29 @@ fn read_number(
         ≡ read_number ring.old (256 + client.number) timestamp.0 bytes.now) }
     ensures same { ring.new ≡ ring.old }
 {
-    match hear_frame(alloc, ring, publics, client, bytes)? {
+    match hear_body(alloc, ring, publics, client, bytes)? {
         None => Ok(None),
-        Some(frame) => {
-            let Frame {
-                body,
-                authenticator: _,
-            } = frame;
-            Ok(number_in(body, client, timestamp))
-        }
+        Some(body) => Ok(number_in(body, client, timestamp)),
     }
 }
 
-// The frame in the bytes, if it is authentic to the client.
-fn hear_frame(
+// The body that the client hears from the bytes, if any.
+fn hear_body(
     alloc: Global,
     ring: &mut Ring,
     publics: &PublicKeys,
     client: ClientId,
     bytes: &[u8],
-) -> Result<Option<Frame>, NoMemory>
+) -> Result<Option<Body>, NoMemory>
     requires keys { publics.now ≡ ring.old.seed }
-    ensures heard { IfOk result (λ frame. heard ring.old (256 + client.number) bytes.now
-        ≡ option_map (λ f. body_data f.body) frame) }
+    ensures heard { IfOk result (λ body. heard ring.old (256 + client.number) bytes.now
+        ≡ option_map body_data body) }
     ensures same { ring.new ≡ ring.old }
 {
     match hear(alloc, ring, publics, bytes, Party::Client(client)) {
         Ok(heard) => {
-            let HeardFrame { bytes: _, frame } = heard;
-            Ok(Some(frame))
+            let HeardFrame { bytes: _, body } = heard;
+            Ok(Some(body))
         }
         Err(fault) => match fault {
             HearFault::NoMemory => Err(NoMemory),

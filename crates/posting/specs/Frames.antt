@@ -4,7 +4,6 @@ use Rattle.std.specs.Borrow.{Bor}
 use Rattle.std.specs.declared.alloc.Global.{Global}
 use Rattle.terms.specs.declared.parties.Party.{Party}
 use Rattle.terms.specs.declared.parties.ReplicaId.{ReplicaId}
-use Rattle.wire.specs.declared.frames.Frame.{Frame}
 use Rattle.wire.specs.declared.messages.Body.{Body}
 use Rattle.wire.specs.Messages.{BodyData, FrameData, MessageData as Message, signature}
 use Rattle.wire.specs.Spelling.{SpellsFrame, body_spelling, frame_limit, piece}
@@ -13,9 +12,6 @@ use Rattle.authenticator.specs.Membership.{Membership}
 use Rattle.authenticator.specs.Sealing.{sealed_for}
 use Rattle.signing.specs.Signatures.{Verifies, public_key}
 use Rattle.posting.specs.Endpoint.{numbers, says}
-
-abbrev pub frame_body : Frame → BodyData
-frame_body frame = body_data frame.body
 
 -- the bytes of slices
 abbrev pub texts : List (Bor (List ℕ)) → List (List ℕ)

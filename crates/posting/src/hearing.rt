@@ -4,13 +4,13 @@ ghost use Rattle.std.specs.Prelude.{◌≡◌, IfOk, option_map};
 ghost use Rattle.wire.specs.Views.{body_data};
 ghost use Rattle.signing.specs.Heard.{heard};
 ghost use Rattle.posting.specs.Endpoint.{are_heard};
-ghost use Rattle.posting.specs.Frames.{frame_body, texts};
+ghost use Rattle.posting.specs.Frames.{texts};
 
 use authenticator::Ring;
 use signing::{HearFault, HeardFrame, PublicKeys, hear, hears};
 use std::alloc::Global;
 use terms::{NoMemory, Party, ReplicaId};
-use wire::{Body, Frame};
+use wire::Body;
 
 /// The body that the replica hears from the bytes, if it hears one.
 pub(crate) fn hear_body(
@@ -24,15 +24,15 @@ pub(crate) fn hear_body(
     ensures heard { IfOk result (λ b. heard ring.old me.0 bytes.now ≡ option_map body_data b) }
     ensures same { ring.new ≡ ring.old }
 {
-    match hear_frame(ring, publics, alloc, me, bytes)? {
-        None => Ok(None),
-        Some(frame) => {
-            let Frame {
-                body,
-                authenticator: _,
-            } = frame;
+    match hear(alloc, ring, publics, bytes, Party::Replica(me)) {
+        Ok(heard) => {
+            let HeardFrame { bytes: _, body } = heard;
             Ok(Some(body))
         }
+        Err(fault) => match fault {
+            HearFault::NoMemory => Err(NoMemory),
+            _ => Ok(None),
+        },
     }
 }
 
@@ -53,28 +53,4 @@ pub(crate) fn hears_all(
         }
     }
     true
-}
-
-// The frame that the replica hears from the bytes, if it hears one.
-fn hear_frame(
-    ring: &mut Ring,
-    publics: &PublicKeys,
-    alloc: Global,
-    me: ReplicaId,
-    bytes: &[u8],
-) -> Result<Option<Frame>, NoMemory>
-    requires keys { publics.now ≡ ring.old.seed }
-    ensures heard { IfOk result (λ f. heard ring.old me.0 bytes.now ≡ option_map frame_body f) }
-    ensures same { ring.new ≡ ring.old }
-{
-    match hear(alloc, ring, publics, bytes, Party::Replica(me)) {
-        Ok(heard) => {
-            let HeardFrame { bytes: _, frame } = heard;
-            Ok(Some(frame))
-        }
-        Err(fault) => match fault {
-            HearFault::NoMemory => Err(NoMemory),
-            _ => Ok(None),
-        },
-    }
 }

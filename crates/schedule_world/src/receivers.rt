@@ -96,7 +96,7 @@ fn correct_meant(
         IfOk result (AreCorrectOf config.now meant) }
 {
     match authenticator {
-        AuthenticatorBytes::Macs(macs) => correct_of_macs(alloc, config, macs.as_slice()),
+        AuthenticatorBytes::Macs(macs) => correct_of_macs(alloc, config, macs.copied().as_slice()),
         AuthenticatorBytes::Signature(_) => correct_others(alloc, config, sender),
     }
 }

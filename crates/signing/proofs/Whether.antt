@@ -3,8 +3,7 @@ use Rattle.std.proofs.Common.{◌≡◌, ℕ, true, false, List, Option, Some, N
 use Rattle.std.specs.Prelude.{is_some}
 use Rattle.std.proofs.lemmas.Bool.{false≢true}
 use Rattle.wire.specs.Messages.{BodyData, FrameData}
-use Rattle.wire.specs.Headers.{IsFrame}
-use Rattle.wire.specs.Spelling.{SpellsFrame}
+use Rattle.wire.specs.Headers.{IsFrame, HasBody}
 use Rattle.wire.proofs.Whole.{one_frame}
 use Rattle.authenticator.specs.Membership.{Membership}
 use Rattle.signing.specs.Heard.{heard}
@@ -37,7 +36,7 @@ module _ (m : Membership) (party : ℕ) (bytes : List ℕ) where
         let w = heard_was_opened m party bytes something_heard.0 something_heard.1 in (w.frame, w.opens.spelled)
 
     -- bytes that are heard spell one frame, whose body is heard
-    pub heard_of_frame : (frame : FrameData) → SpellsFrame bytes frame → heard m party bytes ≡ Some frame.body
-    heard_of_frame frame spelled =
+    pub heard_of_body : (body : BodyData) → HasBody bytes body → heard m party bytes ≡ Some body
+    heard_of_body body has =
         let w = heard_was_opened m party bytes something_heard.0 something_heard.1 in
-        something_heard.1 ∙ ap Some (sym w.body_is) ∙ ap (λ (f : FrameData). Some f.body) (one_frame bytes w.frame frame w.opens.spelled spelled)
+        something_heard.1 ∙ ap Some (sym w.body_is) ∙ ap (λ (f : FrameData). Some f.body) (one_frame bytes w.frame has.0 w.opens.spelled has.1) ∙ ap Some has.2

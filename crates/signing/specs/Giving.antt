@@ -15,14 +15,14 @@ use Rattle.signing.specs.Heard.{heard}
 use Rattle.signing.specs.Signatures.{public_key, path_digests, IsSignature, Verifies}
 use Rattle.signing.specs.Signing.{HasNodes}
 
--- the party hears the body of this frame
+-- the party hears this body
 abbrev pub IsHeard : Membership → Party → List ℕ → HeardFrame → Type 0
-IsHeard m party bytes h = heard m (party_number party) bytes ≡ Some (body_data h.frame.body)
+IsHeard m party bytes h = heard m (party_number party) bytes ≡ Some (body_data h.body)
 
 -- if the party hears a body, it is given, unless memory runs out
 abbrev pub HearsEach : Membership → Party → List ℕ → Result HeardFrame HearFault → Type 0
 HearsEach m party bytes result =
-    GivesEach faults.NoMemory (λ h. body_data h.frame.body)
+    GivesEach faults.NoMemory (λ h. body_data h.body)
     (λ (body : BodyData). heard m (party_number party) bytes ≡ Some body) result
 
 -- the public key of a replica

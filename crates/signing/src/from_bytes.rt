@@ -13,11 +13,11 @@ use crate::public_keys::PublicKeys;
 use authenticator::Ring;
 use std::alloc::Global;
 use terms::Party;
-use wire::{AuthenticatorBytes, Header, decode_judged, judge};
+use wire::{AuthenticatorBytes, Header, decode_judged_body, judge};
 
 /// What `me` hears from the bytes: a frame of another party, which takes part and may send such a message, with the
-/// right MAC for `me`, or signed by its sender where it is a view change or a new view. The keys and the ring are of
-/// one seed.
+/// right MAC for `me`, or signed by its sender where it is a view change or a new view. Its body alone is decoded. The
+/// keys and the ring are of one seed.
 ///
 /// # Errors
 ///
@@ -38,8 +38,8 @@ pub fn hear<'b>(
     ensures ring { ring.new ≡ ring.old }
 {
     authenticate(ring, publics, bytes, me)?;
-    let frame = decode_judged(alloc, bytes)?;
-    Ok(HeardFrame { bytes, frame })
+    let body = decode_judged_body(alloc, bytes)?;
+    Ok(HeardFrame { bytes, body })
 }
 
 /// Whether `me` hears something from the bytes: then [`hear`] gives a frame, unless memory runs out. The bytes are judged

@@ -1,14 +1,14 @@
 //! A frame that a party hears.
 
-ghost use Rattle.wire.specs.Spelling.{SpellsFrame};
-ghost use Rattle.wire.specs.Views.{frame_data};
+ghost use Rattle.wire.specs.Headers.{HasBody};
+ghost use Rattle.wire.specs.Views.{body_data};
 
-use wire::Frame;
+use wire::Body;
 
-/// A frame that a party hears, with its bytes, so that whoever carries it on need not write it again.
+/// A frame that a party hears: the body, and the bytes, so that whoever carries it on need not write it again.
 #[derive(Drop)]
 pub struct HeardFrame<'b> {
     pub bytes: &'b [u8],
-    pub frame: Frame,
-    ghost spelled: { ∥ SpellsFrame bytes.now (frame_data frame) ∥₁ },
+    pub body: Body,
+    ghost spelled: { ∥ HasBody bytes.now (body_data body) ∥₁ },
 }

@@ -9,7 +9,7 @@
 //! Each signature that a `Signer` makes verifies, it uses no leaf twice, and `verify` is exactly its definition.
 //! `hearing` says that a party hears exactly the frames of others that open and, if they have to be signed, have
 //! their sender's signature. A view change or new view is heard by all others or by none. `hear` goes from the bytes
-//! to the frame in one call, or gives the first refusal that applies; refused bytes take no memory. `hears` says
+//! to the body in one call, or gives the first refusal that applies; refused bytes take no memory. `hears` says
 //! whether a party hears the bytes, and decodes nothing. No proof claims that nobody else can sign.
 #![tactic(auto)]
 

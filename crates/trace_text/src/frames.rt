@@ -47,7 +47,7 @@ pub(crate) fn put_to(alloc: Global, bytes: &[u8], out: &mut Vec<u8>) -> Result<(
 {
     match judge(bytes) {
         Ok(header) => match &header.authenticator {
-            AuthenticatorBytes::Macs(macs) => put_receivers(alloc, macs.as_slice(), out),
+            AuthenticatorBytes::Macs(macs) => put_receivers(alloc, macs.copied().as_slice(), out),
             AuthenticatorBytes::Signature(_) => append(b"all", out),
         },
         Err(_) => append(b"all", out),

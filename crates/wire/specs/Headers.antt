@@ -4,8 +4,7 @@ use Rattle.terms.specs.Parties.{party_number}
 use Rattle.wire.specs.declared.headers.Header.{Header}
 use Rattle.wire.specs.declared.headers.AuthenticatorBytes.{AuthenticatorBytes}
 use Rattle.wire.specs.declared.headers.AuthenticatorBytes.TheVariants as authenticator_bytes
-use Rattle.wire.specs.Messages.{MessageData, request, AuthenticatorData, signature, FrameData}
-use Rattle.wire.specs.Views.{macs_of}
+use Rattle.wire.specs.Messages.{MessageData, request, BodyData, AuthenticatorData, macs, signature, FrameData}
 use Rattle.wire.specs.Spelling.{body_spelling, SpellsFrame}
 
 pub record HeaderData : Type 0 where
@@ -32,6 +31,10 @@ header_of f =
 abbrev pub IsFrame : List ℕ → Type 0
 IsFrame bytes = (frame : FrameData) × SpellsFrame bytes frame
 
+-- The bytes spell a frame with this body.
+abbrev pub HasBody : List ℕ → BodyData → Type 0
+HasBody bytes body = (frame : FrameData) × SpellsFrame bytes frame × (frame.body ≡ body)
+
 -- The bytes spell a frame with this header.
 abbrev pub HasHeader : List ℕ → HeaderData → Type 0
 HasHeader bytes header = (frame : FrameData) × SpellsFrame bytes frame × (header ≡ header_of frame)
@@ -39,7 +42,7 @@ HasHeader bytes header = (frame : FrameData) × SpellsFrame bytes frame × (head
 -- ---- of Rust values
 
 abbrev pub authenticator_bytes_data : AuthenticatorBytes → AuthenticatorData
-authenticator_bytes_data (authenticator_bytes.Macs ms) = macs_of ms.items
+authenticator_bytes_data (authenticator_bytes.Macs ms) = macs ms
 authenticator_bytes_data (authenticator_bytes.Signature s) = signature s.now
 
 abbrev pub header_data : Header → HeaderData

@@ -1,7 +1,6 @@
 //! The sender and the proof of a frame, before the frame is read into memory.
 
-use crate::frames::{MAX_RECEIVERS, ReceiverMac};
-use arrayvec::ArrayVec;
+use crate::mac_bytes::MacBytes;
 use terms::Party;
 
 /// The sender and the proof of a frame, as they stand in its bytes.
@@ -19,6 +18,6 @@ pub struct Header<'b> {
 #[derive(Drop)]
 pub enum AuthenticatorBytes<'b> {
     /// For 1 to 10 receivers, ascending by their numbers.
-    Macs(ArrayVec<ReceiverMac, MAX_RECEIVERS>),
+    Macs(MacBytes<'b>),
     Signature(&'b [u8]),
 }

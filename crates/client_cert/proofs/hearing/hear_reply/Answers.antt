@@ -1,10 +1,9 @@
 use Rattle.std.proofs.Common.{ℕ, ◌+◌, ◌≡◌, Some, sym, ap, ◌∙◌}
 use Rattle.wire.specs.Messages.{BodyData, MessageData}
 use Rattle.wire.specs.declared.messages.Message.TheVariants.{Reply}
-use Rattle.wire.specs.Views.{message_data}
+use Rattle.wire.specs.Views.{body_data, message_data}
 use Rattle.terms.specs.Parties.{party_number}
 use Rattle.signing.specs.Heard.{heard}
-use Rattle.client_cert.specs.Hearing.{frame_body}
 use Rattle.client_cert.proofs.Hearings.{hears_no_type, hears_none, hears_other, hears_reply, other_votes}
 use Rattle.client_cert.proofs.hearing.hear_reply.Goals as goal
 
@@ -18,17 +17,17 @@ returns-then-not-has_reply_type-clause-hears c =
 pub returns-in-None-clause-hears : goal.returns-in-None-clause-hears
 returns-in-None-clause-hears c =
     hears_none (256 + c.args.client.number) c.args.timestamp.0 (heard c.args.ring.now (256 + c.args.client.number) c.args.bytes.now)
-    (rw c.in-None.is at c.in_ok-hear_frame.ensures.heard)
+    (rw c.in-None.is at c.in_ok-hear_body.ensures.heard)
 
 pub returns-in-Reply-clause-hears : goal.returns-in-Reply-clause-hears
 returns-in-Reply-clause-hears c =
     hears_reply (256 + c.args.client.number) c.args.timestamp.0 (heard c.args.ring.now (256 + c.args.client.number) c.args.bytes.now) c.number.result c.in-Reply.reply c.reply_to.result
-    ((rw c.in-Some.is at c.in_ok-hear_frame.ensures.heard)
-    ∙ ap Some (body_is c.number.result (party_number c.in-Some.frame.body.sender) (message_data c.in-Some.frame.body.message) (message_data (Reply c.in-Reply.reply)) c.number.ensures (ap message_data c.in-Reply.is)))
+    ((rw c.in-Some.is at c.in_ok-hear_body.ensures.heard)
+    ∙ ap Some (body_is c.number.result (party_number c.in-Some.body.sender) (message_data c.in-Some.body.message) (message_data (Reply c.in-Reply.reply)) c.number.ensures (ap message_data c.in-Reply.is)))
     c.reply_to.ensures
 
 pub returns-clause-hears : goal.returns-clause-hears
 returns-clause-hears c =
-    hears_other (256 + c.args.client.number) c.args.timestamp.0 (heard c.args.ring.now (256 + c.args.client.number) c.args.bytes.now) (frame_body c.in-Some.frame)
-    (rw c.in-Some.is at c.in_ok-hear_frame.ensures.heard)
-    (λ s. other_votes (256 + c.args.client.number) c.args.timestamp.0 s (party_number c.in-Some.frame.body.sender) c.in-Some.frame.body.message c.in_default.not-Reply)
+    hears_other (256 + c.args.client.number) c.args.timestamp.0 (heard c.args.ring.now (256 + c.args.client.number) c.args.bytes.now) (body_data c.in-Some.body)
+    (rw c.in-Some.is at c.in_ok-hear_body.ensures.heard)
+    (λ s. other_votes (256 + c.args.client.number) c.args.timestamp.0 s (party_number c.in-Some.body.sender) c.in-Some.body.message c.in_default.not-Reply)

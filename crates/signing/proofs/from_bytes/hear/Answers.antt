@@ -1,29 +1,29 @@
 use Rattle.std.proofs.Common.{◌≡◌, ◌∙◌, Some, sym}
 use Rattle.std.proofs.lemmas.Result.{err_from_is_err_and}
 use Rattle.terms.specs.Parties.{party_number}
-use Rattle.wire.specs.Views.{body_data, frame_data}
-use Rattle.signing.proofs.Whether.{nothing_heard, something_heard, heard_frame, heard_of_frame}
+use Rattle.wire.specs.Views.{body_data}
+use Rattle.signing.proofs.Whether.{nothing_heard, something_heard, heard_frame, heard_of_body}
 use Rattle.signing.proofs.from_bytes.hear.Goals as goal
 
 pub returns-in_err-authenticate-clause-all : goal.returns-in_err-authenticate-clause-all
 returns-in_err-authenticate-clause-all c body e =
     absurd (nothing_heard c.args.ring.now (party_number c.args.me) c.args.bytes.now c.in_err-authenticate.ensures.heard body e)
 
-pub decode_judged-requires : goal.decode_judged-requires
-decode_judged-requires c =
+pub decode_judged_body-requires : goal.decode_judged_body-requires
+decode_judged_body-requires c =
     heard_frame c.args.ring.now (party_number c.args.me) c.args.bytes.now c.in_ok-authenticate.ensures.heard
 
-pub returns-in_err-frame-clause-refused : goal.returns-in_err-frame-clause-refused
-returns-in_err-frame-clause-refused c =
-    let p = err_from_is_err_and c.from_residual-in_err-frame.result c.from_residual-in_err-frame.ensures.1 in
+pub returns-in_err-body-clause-refused : goal.returns-in_err-body-clause-refused
+returns-in_err-body-clause-refused c =
+    let p = err_from_is_err_and c.from_residual-in_err-body.result c.from_residual-in_err-body.ensures.1 in
     rw (p.1, p.2) (something_heard c.args.ring.now (party_number c.args.me) c.args.bytes.now c.in_ok-authenticate.ensures.heard)
 
 pub returns-clause-heard : goal.returns-clause-heard
 returns-clause-heard c =
-    heard_of_frame c.args.ring.now (party_number c.args.me) c.args.bytes.now c.in_ok-authenticate.ensures.heard (frame_data c.in_ok-frame.frame) c.in_ok-frame.ensures
+    heard_of_body c.args.ring.now (party_number c.args.me) c.args.bytes.now c.in_ok-authenticate.ensures.heard (body_data c.in_ok-body.body) c.in_ok-body.ensures
 
 pub returns-clause-all : goal.returns-clause-all
 returns-clause-all c body e =
-    let mine = heard_of_frame c.args.ring.now (party_number c.args.me) c.args.bytes.now c.in_ok-authenticate.ensures.heard (frame_data c.in_ok-frame.frame) c.in_ok-frame.ensures in
-    let same : Some (body_data c.in_ok-frame.frame.body) ≡ Some body = sym mine ∙ e in
+    let mine = heard_of_body c.args.ring.now (party_number c.args.me) c.args.bytes.now c.in_ok-authenticate.ensures.heard (body_data c.in_ok-body.body) c.in_ok-body.ensures in
+    let same : Some (body_data c.in_ok-body.body) ≡ Some body = sym mine ∙ e in
     cc

@@ -1,6 +1,7 @@
 use Rattle.std.proofs.Common.{ap, sym, ◌∙◌, subst}
 use Rattle.std.specs.Prelude.{codes}
 use Rattle.terms.specs.Parties.{party_number}
+use Rattle.wire.specs.Messages.{macs}
 use Rattle.wire.specs.Headers.{authenticator_bytes_data}
 use Rattle.trace_text.specs.Lists.{listed}
 use Rattle.trace_text.specs.Frames.{party_text}
@@ -14,7 +15,7 @@ returns-in-Macs c =
     let h = (c.in-Ok.ensures {u = tt}).found in
     subst (λ t. Appends c.put_receivers.result c.args.out.now.items t c.put_receivers.new.out.items)
     (ap (listed (codes ",") (codes "all") (λ mac. party_text (party_number mac.receiver))) c.as_slice.ensures.value
-    ∙ receivers_said c.args.bytes.now h.0 c.in-Macs.macs.items h.1 (sym (ap authenticator_bytes_data c.in-Macs.is) ∙ ap (λ x. x.authenticator) h.2))
+    ∙ receivers_said c.args.bytes.now h.0 c.copied.result.items h.1 (ap macs c.copied.ensures ∙ sym (ap authenticator_bytes_data c.in-Macs.is) ∙ ap (λ x. x.authenticator) h.2))
     c.put_receivers.ensures
 
 pub returns-in-Signature : goal.returns-in-Signature
