@@ -25,3 +25,4 @@ pub mod Taking
 pub mod Touching
 pub mod InOrder
 pub mod Places
+pub mod Printed

@@ -12,6 +12,7 @@ pub mod Keys
 pub mod Laws
 pub mod Marking
 pub mod Pages
+pub mod Prints
 pub mod Reading
 pub mod Stored
 pub mod VersionCode

@@ -1,5 +1,5 @@
 -- What callers see of the stored tuples: their births in order of age, wherever they lie.
-use Rattle.std.specs.Prelude.{◌≡◌, ℕ, ◌<◌, ◌==◌, List, [], ◌∷◌, length, slice_index_or, Option, Some, None, refl}
+use Rattle.std.specs.Prelude.{◌≡◌, ℕ, ◌<◌, ◌==◌, List, [], ◌∷◌, length, map, slice_index_or, Option, Some, None, refl}
 use Rattle.std.specs.List.{IsDistinct}
 use Rattle.std.specs.Map.{keys_of, lookup}
 use Rattle.std.specs.Coded.{Coded, code_by, coded×, coded_list, coded_ℕ}
@@ -8,6 +8,7 @@ use Rattle.std.specs.BTreeMap.{insert_entry}
 use Rattle.tuple_tree.specs.Items.{none}
 use Rattle.tuple_tree.specs.ValuesCode.{tuple_code}
 use Rattle.space.specs.Births.{Entry}
+use Rattle.space.specs.Prints.{entry_print}
 
 -- the entries in the order of births; of two with one birth the first counts
 abbrev pub in_order : List Entry → List Entry
@@ -35,3 +36,8 @@ LeadsTo None birth es = lookup (λ k. birth == k) es ≡ None
 -- No birth has two entries.
 abbrev pub AreApart : List Entry → Type 0
 AreApart es = IsDistinct ◌==◌ (keys_of es)
+
+-- No birth has two entries, and each entry's print is kept.
+pub record ArePrinted (es : List Entry) (prints : List ℕ) : Type 0 where
+  pub apart : AreApart es
+  pub kept : prints ≡ map entry_print es

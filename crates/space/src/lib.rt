@@ -38,6 +38,7 @@ mod laws;
 mod lists;
 mod matching;
 mod pages;
+mod prints;
 mod reading;
 mod stored;
 mod tuples;

@@ -4,6 +4,7 @@ ghost use Rattle.std.specs.Prelude.{◌≡◌, ◌≢◌, [], OnErr};
 ghost use Rattle.space.specs.Births.{oldest_births};
 ghost use Rattle.space.specs.Found.{IsMatchAt, IsOldestAt, AreOldestAt, matches_at, entries_at};
 
+use crate::prints::print_of_template;
 use crate::stored::Stored;
 use arrayvec::ArrayVec;
 use std::alloc::{Allocator, Global};
@@ -21,7 +22,7 @@ fn match_at<'a, A: Allocator>(
 ) -> Option<&'a Tuple<Global>>
     ensures { IsMatchAt template.now tuples.now.entries birth result }
 {
-    match tuples.get_near(birth, near) {
+    match tuples.get_like(birth, near, print_of_template(template)) {
         Some(tuple) => {
             if matches(template, tuple) {
                 Some(tuple)

@@ -1,12 +1,14 @@
 //! The stored tuples.
 
-ghost use Rattle.std.specs.Prelude.{◌≡◌, ◌<◌, [], length, All, AllPairs, OnOk, OnErr, IfOk, IfNone, IsTrue};
+ghost use Rattle.std.specs.Prelude.{◌≡◌, ◌<◌, [], length, All, AllPairs, vec_len, vec_capacity, OnOk, OnErr, IfOk, IfNone, IsTrue};
 ghost use Rattle.std.specs.Option.{option_copied};
 ghost use Rattle.std.specs.Ordering.{nat_cmp};
 ghost use Rattle.std.specs.Map.{lookup, remove_entry};
 ghost use Rattle.std.specs.BTreeMap.{is_at, insert_entry};
+ghost use Rattle.space.specs.Prints.{IsUnlike, FindsLike};
 ghost use Rattle.space.specs.Stored.{LiesAt, LeadsTo};
 
+use crate::prints::print_of_tuple;
 use std::alloc::Global;
 use std::collections::{BTreeMap, HashMap};
 use std::marker::Model;
@@ -19,12 +21,14 @@ use tuple_tree::Tuple;
 pub struct Stored {
     // In the order in which they were put in, but for the last one, which takes the place of one that is taken.
     entries: Vec<(u64, Tuple<Global>)>,
+    // The print of each tuple. Most that don't match are told by it, and not looked at.
+    prints: Vec<u64>,
     // Where the tuple of a birth lies. Each place is looked at before it is believed.
     places: HashMap<u64, usize>,
 }
 
 impl Model for Stored {
-    ghost use Rattle.space.specs.Stored.{StoredTuples, stored_code, in_order, AreApart};
+    ghost use Rattle.space.specs.Stored.{StoredTuples, stored_code, in_order, ArePrinted};
 
     ghost Value = { StoredTuples };
 
@@ -32,7 +36,7 @@ impl Model for Stored {
 
     ghost view = { λ a. record { entries = in_order a.entries.items } };
 
-    ghost invariant = { λ a. AreApart a.entries.items };
+    ghost invariant = { λ a. ArePrinted a.entries.items a.prints.items };
 }
 
 impl Stored {
@@ -42,6 +46,7 @@ impl Stored {
     {
         Stored {
             entries: Vec::new(alloc),
+            prints: Vec::new(alloc),
             places: HashMap::new(alloc),
         }
     }
@@ -86,6 +91,27 @@ impl Stored {
         }
     }
 
+    /// The tuple of a birth, as `get_near` finds it. `None` also if a print is wanted and the tuple has another one.
+    pub fn get_like(
+        &self,
+        birth: u64,
+        near: &mut usize,
+        wanted: Option<u64>,
+    ) -> Option<&Tuple<Global>>
+        ensures { FindsLike wanted birth self.now.entries result }
+    {
+        match place_of(self.entries.as_slice(), &self.places, birth, *near) {
+            Some(place) => {
+                *near = place.saturating_add(1);
+                if is_unlike(self.prints[place], wanted) {
+                    return None;
+                }
+                Some(&self.entries[place].1)
+            }
+            None => None,
+        }
+    }
+
     /// Puts a tuple in at a birth above all others. An `Err` changes nothing.
     pub fn insert(&mut self, birth: u64, tuple: Tuple<Global>) -> Result<(), NoMemory>
         requires { All (λ e. e.0 < birth) self.old.entries }
@@ -93,10 +119,11 @@ impl Stored {
             (self.new.entries ≡ insert_entry nat_cmp self.old.entries birth tuple) }
         ensures err { OnErr result (self.new ≡ self.old) }
     {
-        self.entries.reserve(1)?;
+        make_room(&mut self.entries, &mut self.prints)?;
         let place = self.entries.len();
         match self.places.insert(birth, place) {
             Ok(_) => {
+                self.prints.push_reserved(print_of_tuple(&tuple));
                 self.entries.push_reserved((birth, tuple));
                 Ok(())
             }
@@ -113,11 +140,33 @@ impl Stored {
         match place_of(self.entries.as_slice(), &self.places, birth, 0) {
             Some(place) => {
                 let (_, tuple) = self.entries.swap_remove(place);
+                self.prints.swap_remove(place);
                 move_place(&mut self.places, birth, self.entries.as_slice(), place);
                 Some(tuple)
             }
             None => None,
         }
+    }
+}
+
+// Makes room for one more entry and its print.
+fn make_room(entries: &mut Vec<(u64, Tuple<Global>)>, prints: &mut Vec<u64>) -> Result<(), NoMemory>
+    ensures entries { entries.new.items ≡ entries.old.items }
+    ensures prints { prints.new.items ≡ prints.old.items }
+    ensures room { OnOk result (vec_len entries.new < vec_capacity entries.new) }
+    ensures prints_room { OnOk result (vec_len prints.new < vec_capacity prints.new) }
+{
+    entries.reserve(1)?;
+    Ok(prints.reserve(1)?)
+}
+
+// Whether a print is wanted, and this is another one.
+fn is_unlike(print: u64, wanted: Option<u64>) -> bool
+    ensures { IsTrue result → IsUnlike wanted print }
+{
+    match wanted {
+        Some(wanted) => print != wanted,
+        None => false,
     }
 }
 

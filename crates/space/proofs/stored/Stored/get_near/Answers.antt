@@ -13,7 +13,7 @@ returns-in-Some c =
     let es = c.self.inside.entries.items in
     let here : LiesAt es c.args.birth c.in-Some.place = subst (λ xs. LiesAt xs c.args.birth c.in-Some.place) c.as_slice.ensures.value c.in-Some.ensures in
     record {
-      value = sym (found_there es c.in-Some.place c.args.birth c.index.result.now c.self.invariant here c.index.ensures)
+      value = sym (found_there es c.in-Some.place c.args.birth c.index.result.now c.self.invariant.apart here c.index.ensures)
           ∙ sym (lookup-in_order es c.args.birth) ∙ ap (λ s. lookup (is_at (nat_cmp c.args.birth)) s.entries) c.self.view_is;
     }
 

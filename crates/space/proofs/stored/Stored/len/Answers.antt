@@ -6,4 +6,4 @@ pub returns : goal.returns
 returns c =
     let es = c.self.inside.entries.items in
     let whole : c.len.result ≡ length es = omega arith in
-    whole ∙ sym (length-in_order es c.self.invariant) ∙ ap (λ s. length s.entries) c.self.view_is
+    whole ∙ sym (length-in_order es c.self.invariant.apart) ∙ ap (λ s. length s.entries) c.self.view_is

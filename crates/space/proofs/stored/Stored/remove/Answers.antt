@@ -1,25 +1,41 @@
-use Rattle.std.proofs.Common.{◌≡◌, ℕ, None, ap, sym, subst, ◌∙◌}
+use Rattle.std.proofs.Common.{◌≡◌, ℕ, None, map, arith, ap, sym, subst, ◌∙◌}
 use Rattle.std.specs.Prelude.{◌==◌}
 use Rattle.std.specs.Ordering.{nat_cmp}
 use Rattle.std.specs.Map.{lookup, remove_entry}
 use Rattle.std.specs.BTreeMap.{is_at}
+use Rattle.space.specs.Prints.{entry_print}
 use Rattle.space.specs.Stored.{LiesAt, AreApart}
 use Rattle.space.proofs.InOrder.{Puts, lookup-in_order, removed_in_order}
+use Rattle.space.proofs.Printed.{as_many, prints_left}
 use Rattle.space.proofs.Places.{there, found_there, taken_out, distinct_left, nothing_out}
 use Rattle.space.proofs.stored.Stored.remove.Goals as goal
+
+pub swap_remove-requires : goal.swap_remove-requires
+swap_remove-requires c =
+    let es = c.self.inside.entries.items in
+    let here : LiesAt es c.args.birth c.in-Some.place = subst (λ xs. LiesAt xs c.args.birth c.in-Some.place) c.as_slice.ensures.value c.in-Some.ensures in
+    let many = as_many es c.self.inside.prints.items c.self.invariant.kept in
+    let within = here.within in
+    omega arith
 
 pub invariant_of-self : goal.invariant_of-self
 invariant_of-self c =
     let es = c.self.inside.entries.items in
     let here : LiesAt es c.args.birth c.in-Some.place = subst (λ xs. LiesAt xs c.args.birth c.in-Some.place) c.as_slice.ensures.value c.in-Some.ensures in
-    subst AreApart (sym c.swap_remove-tuple.ensures.items)
-    (distinct_left es c.in-Some.place c.swap_remove-tuple.result c.self.invariant here.within c.swap_remove-tuple.ensures.value)
+    record {
+      apart =
+          subst AreApart (sym c.swap_remove-tuple.ensures.items)
+          (distinct_left es c.in-Some.place c.swap_remove-tuple.result c.self.invariant.apart here.within c.swap_remove-tuple.ensures.value);
+      kept =
+          c.swap_remove.ensures.items ∙ prints_left es c.self.inside.prints.items c.in-Some.place c.swap_remove-tuple.result c.swap_remove.result c.self.invariant.kept here.within
+          ∙ ap (map entry_print) (sym c.swap_remove-tuple.ensures.items);
+    }
 
 pub returns-in-Some-clause-value : goal.returns-in-Some-clause-value
 returns-in-Some-clause-value c =
     let es = c.self.inside.entries.items in
     let here : LiesAt es c.args.birth c.in-Some.place = subst (λ xs. LiesAt xs c.args.birth c.in-Some.place) c.as_slice.ensures.value c.in-Some.ensures in
-    sym (found_there es c.in-Some.place c.args.birth c.swap_remove-tuple.result c.self.invariant here c.swap_remove-tuple.ensures.value)
+    sym (found_there es c.in-Some.place c.args.birth c.swap_remove-tuple.result c.self.invariant.apart here c.swap_remove-tuple.ensures.value)
     ∙ sym (lookup-in_order es c.args.birth) ∙ ap (λ s. lookup (is_at (nat_cmp c.args.birth)) s.entries) c.self.view_is
 
 pub returns-in-Some-clause-entries : goal.returns-in-Some-clause-entries
@@ -29,7 +45,7 @@ returns-in-Some-clause-entries c =
     let new = c.swap_remove-tuple.new.self.items in
     let here : LiesAt es c.args.birth c.in-Some.place = subst (λ xs. LiesAt xs c.args.birth c.in-Some.place) c.as_slice.ensures.value c.in-Some.ensures in
     let taken : Puts es new e.0 None =
-    subst (λ xs. Puts es xs e.0 None) (sym c.swap_remove-tuple.ensures.items) (taken_out es c.in-Some.place e c.self.invariant here.within c.swap_remove-tuple.ensures.value) in
+    subst (λ xs. Puts es xs e.0 None) (sym c.swap_remove-tuple.ensures.items) (taken_out es c.in-Some.place e c.self.invariant.apart here.within c.swap_remove-tuple.ensures.value) in
     removed_in_order es new c.args.birth
     (subst (λ (n : ℕ). Puts es new n None) (there es c.in-Some.place c.args.birth e here c.swap_remove-tuple.ensures.value) taken)
     ∙ ap (λ s. remove_entry (is_at (nat_cmp c.args.birth)) s.entries) c.self.view_is
