@@ -1,5 +1,5 @@
 -- Prints of stored tuples.
-use Rattle.std.proofs.Common.{◌≡◌, ℕ, zero, suc, ◌+◌, ◌-◌, ◌<◌, Bool, true, false, cond, List, [], ◌∷◌, ◌++◌, length, take, set, get_or, map, Option, Some, None, refl, sym, ap, subst, ◌∙◌, arith}
+use Rattle.std.proofs.Common.{◌≡◌, ℕ, zero, suc, ◌-◌, ◌<◌, Bool, true, false, cond, List, [], ◌∷◌, ◌++◌, length, take, set, get_or, map, Option, Some, None, refl, sym, ap, subst, ◌∙◌, arith}
 use Rattle.std.specs.Prelude.{◌==◌, slice_get, find, option_to_list}
 use Rattle.std.specs.List.{swap_remove}
 use Rattle.std.specs.Ordering.{nat_cmp}
@@ -7,7 +7,7 @@ use Rattle.std.specs.Map.{lookup}
 use Rattle.std.specs.BTreeMap.{is_at}
 use Rattle.std.proofs.lemmas.List.{map-set, map-append, length-map, get_or_default}
 use Rattle.std.proofs.Math.ListN.{get_or-map}
-use Rattle.tuple_tree.specs.Items.{Item, leaf, inner, none, item, as_list}
+use Rattle.tuple_tree.specs.Items.{Item, leaf, none, item, as_list}
 use Rattle.tuple_tree.specs.Values.{Datum, Slot, actual, TupleTree, TemplateTree}
 use Rattle.template_match.specs.Matches.{Matches, FieldMatches}
 use Rattle.template_match.specs.Tests.{is_match}

@@ -1,9 +1,9 @@
-use Rattle.std.proofs.Common.{◌≡◌, ◌<◌, [], ◌∷◌, ◌++◌, Some, None, map, refl, ap, sym, subst, ◌∙◌, arith}
+use Rattle.std.proofs.Common.{◌≡◌, ◌<◌, [], ◌∷◌, ◌++◌, Some, None, map, refl, ap, sym, subst, ◌∙◌}
 use Rattle.std.specs.Prelude.{All, ◌==◌}
 use Rattle.std.specs.Map.{lookup}
 use Rattle.std.specs.Ordering.{nat_cmp}
 use Rattle.std.specs.BTreeMap.{insert_entry}
-use Rattle.space.specs.Prints.{tuple_print, entry_print}
+use Rattle.space.specs.Prints.{entry_print}
 use Rattle.space.specs.Stored.{AreApart}
 use Rattle.space.proofs.InOrder.{Puts, inserted_in_order}
 use Rattle.space.proofs.Places.{newest_is_new, put_last, distinct_more}
