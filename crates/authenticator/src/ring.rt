@@ -86,6 +86,15 @@ impl Ring {
         if let Some(key) = self.kept.get(&(from, to)) {
             return key.mac(text);
         }
+        self.first_mac(from, to, text)
+    }
+
+    // The code under a key that is not kept yet. A function pays for the size of its locals at each call, so the key is
+    // made here, apart from those that are kept.
+    fn first_mac(&mut self, from: u16, to: u16, text: &[u8]) -> [u8; 32]
+        ensures code { result ≡ mac_between self.old.seed from to text.now }
+        ensures same { self.new ≡ self.old }
+    {
         let key = Key::new(&self.source.mac(&key_text(from, to)));
         let code = key.mac(text);
         // If there is no room for a key, it is derived again at the next use.

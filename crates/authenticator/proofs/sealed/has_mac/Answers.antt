@@ -14,4 +14,4 @@ loop-i-preserved c =
     c.get.ensures (sym c.if-is_mac_for.false ∙ c.is_mac_for.ensures)
 
 pub returns : goal.returns
-returns c = sym (c.loop-i.invariant ∙ has_mac-end c.args.party c.args.mac.now c.args.entries.now c.loop-i.i (omega (arith, c.len.ensures.value)))
+returns c = sym (c.loop-i.invariant ∙ has_mac-end c.args.party c.args.mac.now c.args.entries.now c.loop-i.i (omega (arith, c.len-i-end.ensures.value)))
