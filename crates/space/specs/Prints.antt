@@ -1,6 +1,5 @@
 -- Prints of tuples, by which most tuples that don't match are told.
 use Rattle.std.specs.Prelude.{◌≡◌, ◌≢◌, ℕ, true, List, length, slice_get, unsigned_abs, Option, Some, None}
-use Rattle.std.specs.Borrow.{Bor}
 use Rattle.std.specs.Ordering.{nat_cmp}
 use Rattle.std.specs.Map.{lookup}
 use Rattle.std.specs.BTreeMap.{is_at}
@@ -38,7 +37,6 @@ IsUnlike (Some wanted) print = print ≢ wanted
 abbrev pub TellsMatches : TemplateTree → Option ℕ → Type 0
 TellsMatches p wanted = (t : TupleTree) → is_match p t ≡ true → IsUnlike wanted (tuple_print t) → ⊥
 
--- The tuple of a birth, or none if there is none with the wanted print.
-abbrev pub FindsLike : Option ℕ → ℕ → List Entry → Option (Bor TupleTree) → Type 0
-FindsLike wanted birth es (Some t) = lookup (is_at (nat_cmp birth)) es ≡ Some t.now
-FindsLike wanted birth es None = (t : TupleTree) → lookup (is_at (nat_cmp birth)) es ≡ Some t → IsUnlike wanted (tuple_print t)
+-- A birth has no tuple, or one with another print than the wanted one.
+abbrev pub HasOtherPrint : Option ℕ → ℕ → List Entry → Type 0
+HasOtherPrint wanted birth es = (t : TupleTree) → lookup (is_at (nat_cmp birth)) es ≡ Some t → IsUnlike wanted (tuple_print t)

@@ -2,6 +2,7 @@
 
 ghost use Rattle.std.specs.Prelude.{◌≡◌, ◌≢◌, [], OnErr};
 ghost use Rattle.space.specs.Births.{oldest_births};
+ghost use Rattle.space.specs.Prints.{TellsMatches};
 ghost use Rattle.space.specs.Found.{IsMatchAt, IsOldestAt, AreOldestAt, matches_at, entries_at};
 
 use crate::prints::print_of_template;
@@ -13,8 +14,28 @@ use terms::NoMemory;
 use tuple_codec::{MAX_ANSWERS, Max, Tuples};
 use tuple_tree::{Template, Tuple};
 
-// The tuple of this birth, if it matches. It is looked for at `near` first, which then is the place behind it.
+// The tuple of this birth, if it matches. It is looked for at `near` first, which then is the place behind it. Most
+// others are passed by their prints.
+#[inline(always)]
 fn match_at<'a, A: Allocator>(
+    tuples: &'a Stored,
+    birth: u64,
+    near: &mut usize,
+    template: &Template<A>,
+    wanted: Option<u64>,
+) -> Option<&'a Tuple<Global>>
+    requires { TellsMatches template.now wanted }
+    ensures { IsMatchAt template.now tuples.now.entries birth result }
+{
+    if tuples.passes(birth, near, wanted) {
+        return None;
+    }
+    match_found(tuples, birth, near, template)
+}
+
+// The same, by a look at the tuple.
+#[inline(never)]
+fn match_found<'a, A: Allocator>(
     tuples: &'a Stored,
     birth: u64,
     near: &mut usize,
@@ -22,7 +43,7 @@ fn match_at<'a, A: Allocator>(
 ) -> Option<&'a Tuple<Global>>
     ensures { IsMatchAt template.now tuples.now.entries birth result }
 {
-    match tuples.get_like(birth, near, print_of_template(template)) {
+    match tuples.get_near(birth, near) {
         Some(tuple) => {
             if matches(template, tuple) {
                 Some(tuple)
@@ -42,9 +63,10 @@ pub fn oldest_match<'a, A: Allocator>(
 ) -> Option<(u64, &'a Tuple<Global>)>
     ensures { IsOldestAt template.now tuples.now.entries births.now result }
 {
+    let wanted = print_of_template(template);
     let mut near = 0;
     for birth in births {
-        if let Some(tuple) = match_at(tuples, *birth, &mut near, template) {
+        if let Some(tuple) = match_at(tuples, *birth, &mut near, template, wanted) {
             return Some((*birth, tuple));
         }
     }
@@ -63,12 +85,13 @@ pub fn copies_of_matches<A: Allocator>(
     ensures memory { OnErr result (matches_at template.now tuples.now.entries births.now ≢ []) }
 {
     let mut copies = Tuples::new_in(alloc);
+    let wanted = print_of_template(template);
     let mut near = 0;
     for birth in births {
         if copies.len() >= max.count as usize {
             return Ok(copies);
         }
-        if let Some(tuple) = match_at(tuples, *birth, &mut near, template) {
+        if let Some(tuple) = match_at(tuples, *birth, &mut near, template, wanted) {
             let copy = tuple.copy_in(alloc)?;
             copies.push(copy)?;
         }
@@ -87,12 +110,13 @@ pub fn births_of_matches<A: Allocator>(
         ≡ oldest_births max.count template.now (entries_at tuples.now.entries births.now) }
 {
     let mut matched = ArrayVec::new();
+    let wanted = print_of_template(template);
     let mut near = 0;
     for birth in births {
         if matched.len() >= max.count as usize {
             return matched;
         }
-        if let Some(_tuple) = match_at(tuples, *birth, &mut near, template) {
+        if let Some(_tuple) = match_at(tuples, *birth, &mut near, template, wanted) {
             matched.push(*birth);
         }
     }

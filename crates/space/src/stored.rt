@@ -5,7 +5,7 @@ ghost use Rattle.std.specs.Option.{option_copied};
 ghost use Rattle.std.specs.Ordering.{nat_cmp};
 ghost use Rattle.std.specs.Map.{lookup, remove_entry};
 ghost use Rattle.std.specs.BTreeMap.{is_at, insert_entry};
-ghost use Rattle.space.specs.Prints.{IsUnlike, FindsLike};
+ghost use Rattle.space.specs.Prints.{IsUnlike, HasOtherPrint};
 ghost use Rattle.space.specs.Stored.{LiesAt, LeadsTo};
 
 use crate::prints::print_of_tuple;
@@ -91,25 +91,20 @@ impl Stored {
         }
     }
 
-    /// The tuple of a birth, as `get_near` finds it. `None` also if a print is wanted and the tuple has another one.
-    pub fn get_like(
-        &self,
-        birth: u64,
-        near: &mut usize,
-        wanted: Option<u64>,
-    ) -> Option<&Tuple<Global>>
-        ensures { FindsLike wanted birth self.now.entries result }
+    /// Passes the tuple of a birth if it lies at the place `near`, a print is wanted, and the tuple has another one.
+    /// Then `near` is the place behind it.
+    pub fn passes(&self, birth: u64, near: &mut usize, wanted: Option<u64>) -> bool
+        ensures { IsTrue result → HasOtherPrint wanted birth self.now.entries }
     {
-        match place_of(self.entries.as_slice(), &self.places, birth, *near) {
-            Some(place) => {
-                *near = place.saturating_add(1);
-                if is_unlike(self.prints[place], wanted) {
-                    return None;
-                }
-                Some(&self.entries[place].1)
-            }
-            None => None,
+        let place = *near;
+        if !lies_at(self.entries.as_slice(), birth, place) {
+            return false;
         }
+        if !is_unlike(self.prints[place], wanted) {
+            return false;
+        }
+        *near = place.saturating_add(1);
+        true
     }
 
     /// Puts a tuple in at a birth above all others. An `Err` changes nothing.
