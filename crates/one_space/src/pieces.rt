@@ -5,6 +5,7 @@ ghost use Rattle.std.specs.List.{list_all};
 ghost use Rattle.std.specs.Str.Lines.{strip_carriage_return};
 ghost use Rattle.one_space.specs.Pieces.{ReadsPiece, ReadsPart, piece_end_of};
 
+use memchr::memchr;
 use std::alloc::AllocError;
 use std::io::{self, BufRead, ErrorKind};
 
@@ -97,7 +98,7 @@ fn line_len(bytes: &[u8]) -> usize
     ensures before { (k : ℕ) → k < result → slice_index bytes.now k ≢ 10 }
     ensures found { result < length bytes.now → slice_index bytes.now result ≡ 10 }
 {
-    match bytes.iter().position(|byte| *byte == b'\n') {
+    match memchr(b'\n', bytes) {
         Some(place) => place,
         None => bytes.len(),
     }

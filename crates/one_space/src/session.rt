@@ -10,6 +10,7 @@ ghost use Rattle.one_space.specs.Moments.{moment_of, RunsLine, EndsLines, AddsRe
 
 use crate::input::{NextLine, NoLine, has_line, next_line};
 use crate::pieces::ReadFault;
+use memchr::memchr;
 use space::{Space, Version};
 use std::alloc::Global;
 use std::io::{self, BufReader, Read, Write};
@@ -244,7 +245,7 @@ fn write_due<W: Write>(
     if results.is_empty() {
         return Ok(());
     }
-    if results.len() < HELD && at_hand.contains(&b'\n') {
+    if results.len() < HELD && memchr(b'\n', at_hand).is_some() {
         return Ok(());
     }
     write_out(results, writer)
