@@ -1,8 +1,9 @@
 -- How many replicas vote: the count over a list of votes is the one over the replicas.
 use Rattle.std.proofs.Common.{◌≡◌, ℕ, zero, suc, ◌+◌, ◌≤◌, ◌<◌, Bool, true, false, cond, List, [], ◌∷◌, length, Option, Some, None, option_map, find, refl, sym, ap, ◌∙◌, arith, eqb-true, bytes_eq, count_by, ◌==◌}
 use Rattle.std.proofs.Math.Numerals.{one-add}
-use Rattle.std.proofs.lemmas.Bool.{eqb-false}
-use Rattle.std.proofs.lemmas.List.Sums.{sum_by-cons}
+use Rattle.std.proofs.lemmas.Bool.{eqb-false, lt-leb}
+use Rattle.std.proofs.lemmas.List.Sums.{count_by-le-length, sum_by-cons}
+use Rattle.std.specs.Prelude.{nat_le}
 use Rattle.quorum.specs.Quorum.{count_below}
 use Rattle.quorum.specs.Votes.{has_digest}
 use Rattle.quorum.proofs.Counting.{count_same}
@@ -61,6 +62,16 @@ voters_count n digest votes h = count_same (λ s. has_digest digest (vote_of vot
     same : (vote : Option (List ℕ)) → has_digest digest vote ≡ passes (bytes_eq digest) vote
     same None = refl
     same (Some d) = refl
+
+-- fewer votes than so many are not so many for any digest
+pub too_few : (n least : ℕ) (digest : List ℕ) (votes : List Vote) → AreVotes n votes → length votes < least → nat_le least (voters n digest votes) ≡ false
+too_few n least digest votes h l = lt-leb least (voters n digest votes) below
+  where
+    below : voters n digest votes < least
+    below =
+        let is = voters_count n digest votes h in
+        let most = count_by-le-length (λ (vote : Vote). bytes_eq digest vote.digest) votes in
+        omega (arith, is, most, l)
 
 -- there are no more votes than replicas
 pub no_more : (n : ℕ) (votes : List Vote) → AreVotes n votes → length votes ≤ n

@@ -1,5 +1,5 @@
 -- What a log answers in a later view.
-use Rattle.std.proofs.Common.{◌≡◌, ℕ, ◌<◌, Bool, true, false, cond, List, length, map, Option, None, refl, sym, ap, ◌∙◌, arith, slice_index_or}
+use Rattle.std.proofs.Common.{◌≡◌, ℕ, ◌<◌, Bool, true, false, cond, length, Option, None, refl, ap, ◌∙◌, arith}
 use Rattle.std.proofs.lemmas.List.{get_or-map}
 use Rattle.ordering.specs.Votes.{vote_of}
 use Rattle.ordering.specs.Log.{Row, no_row, LogData, replicas, is_in_marks, place, row_of, entered_row, row_decided, entered, committed_batch}

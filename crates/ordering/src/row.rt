@@ -121,7 +121,7 @@ impl Slot {
         ensures { (n : ℕ) → IsRow n self.now → result ≡ is_row_prepared faults n self.now }
     {
         match self.digest() {
-            Some(digest) => self.prepares.count(&digest) >= 2 * faults as usize,
+            Some(digest) => self.prepares.has(2 * faults as usize, &digest),
             None => false,
         }
     }
@@ -133,9 +133,9 @@ impl Slot {
         let Some(digest) = self.digest() else {
             return false;
         };
-        is_for(self.commits.vote_of(me), &digest)
-            && self.prepares.count(&digest) >= 2 * faults as usize
-            && self.commits.count(&digest) > 2 * faults as usize
+        self.commits.has(2 * faults as usize + 1, &digest)
+            && is_for(self.commits.vote_of(me), &digest)
+            && self.prepares.has(2 * faults as usize, &digest)
     }
 }
 

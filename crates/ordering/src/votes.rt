@@ -1,6 +1,6 @@
 //! The votes for one number.
 
-ghost use Rattle.std.specs.Prelude.{◌≡◌, ℕ, ◌<◌, [], count_by, bytes_eq};
+ghost use Rattle.std.specs.Prelude.{◌≡◌, ℕ, ◌<◌, [], count_by, bytes_eq, nat_le};
 ghost use Rattle.ordering.specs.Votes.{AreVotes, voters, vote_of, with_vote};
 
 use smallvec::SmallVec;
@@ -73,12 +73,14 @@ impl Votes {
         find_vote(self.cast.as_slice(), sender)
     }
 
-    /// How many replicas vote for the digest.
-    #[tactic(auto, using(crate::proofs::Counting::voters_count))]
-    pub fn count(&self, digest: &Digest) -> usize
-        ensures { (n : ℕ) → AreVotes n self.now → result ≡ voters n digest.now self.now }
+    /// Whether at least so many replicas vote for the digest.
+    #[tactic(auto, using(crate::proofs::Counting::voters_count, crate::proofs::Counting::too_few))]
+    pub fn has(&self, least: usize, digest: &Digest) -> bool
+        ensures { (n : ℕ) → AreVotes n self.now → result ≡ nat_le least (voters n digest.now self.now) }
     {
-        count_for(self.cast.as_slice(), digest)
+        let votes = self.cast.as_slice();
+        // Mostly there are too few votes for any digest yet.
+        votes.len() >= least && count_for(votes, digest) >= least
     }
 }
 
