@@ -1,6 +1,6 @@
 -- The parts of a replica fit the histories that their joined replica fits.
 use Rattle.std.proofs.Common.{◌≡◌, ℕ, zero, suc, ◌+◌, ◌*◌, ◌<◌, inr, Bool, true, false, List, [], ◌∷◌, refl, sym, ap, ◌∙◌, subst, Option, Some, None}
-use Rattle.std.specs.Prelude.{is_none, IsTrue}
+use Rattle.std.specs.Prelude.{is_none, IsTrue, option_map}
 use Rattle.authenticator.specs.Membership.{Membership}
 use Rattle.events.specs.declared.output.Output.{Output}
 use Rattle.events.specs.Outputs.{after_event, AreSentAsMeant}
@@ -19,7 +19,8 @@ use Rattle.view_change.proofs.Opening.{signed_is}
 use Rattle.replica.specs.declared.replica.Event.{Event}
 use Rattle.replica.specs.declared.replica.Event.TheVariants as events
 use Rattle.replica.specs.Fits.{EventLeads, SendsAsMeant}
-use Rattle.replica.specs.State.{MemberData, OrdererData, DeskData, OrdererPart, DeskPart, ReplicaData, IsOrdererPart, IsDeskPart, AreOne}
+use Rattle.replica.specs.State.{MemberData, OrdererData, DeskData, JoinedData, OrdererPart, DeskPart, ReplicaData, IsOrdererPart, IsDeskPart, AreOne}
+use Rattle.replica.specs.ReplicaView.{both_of}
 use Rattle.replica.specs.Desking.{IsNewDesk}
 use Rattle.replica.specs.Taking.{IsNewOrderer}
 use Rattle.replica.specs.Inputs.{input_of}
@@ -88,7 +89,7 @@ both_fit c m o d history one are mine members_are fits = (
 
 -- ---- a replica that begins
 
-one_new : (c : Configuration) (me : ℕ) (o : OrdererData) (d : DeskData) → IsNewOrderer c me o → IsNewDesk c me d → AreOne o d
+pub one_new : (c : Configuration) (me : ℕ) (o : OrdererData) (d : DeskData) → IsNewOrderer c me o → IsNewDesk c me d → AreOne o d
 one_new c me o d new_orderer new_desk = (
   ap (λ (x : DeskData). x.me) new_desk ∙ sym (ap (λ (x : OrdererData). x.endpoint.me) new_orderer.0),
   ap (λ (x : DeskData). x.membership) new_desk ∙ sym (ap (λ (x : OrdererData). x.endpoint.membership) new_orderer.0),
@@ -174,6 +175,21 @@ replica_leads r o d event outs same leads c history fits =
 pub replica_sends : (r : ReplicaData) (outs : List Output) → BothSendAsMeant r.orderer r.desk outs → SendsAsMeant r outs
 replica_sends r outs meant c history fits = meant c r.desk.member.me history fits
 
+-- an event of a replica that runs
+pub joined_steps : (m : MemberData) (h : Option JoinedData) (x later : JoinedData) (event : Event) (outs : List Output) → h ≡ Some x → IsOrdererPart (both_of m h).orderer → AreOne x.orderer x.desk
+    → joined_ones.EventLeads x event outs later → AreOne later.orderer later.desk → AreChanges later.orderer.received.held → later.orderer.endpoint ≡ x.orderer.endpoint
+    → EventLeads (both_of m h) event outs (both_of m (Some later)) × SendsAsMeant (both_of m h) outs
+joined_steps m h x later event outs is own one leads later_one are endpoint =
+    subst (λ (k : Option JoinedData). EventLeads (both_of m k) event outs (both_of m (Some later)) × SendsAsMeant (both_of m k) outs) (sym is) (
+      replica_leads (both_of m (Some x)) (orders m later.orderer) (answers m later.desk) event outs refl
+          (both_lead m m x.orderer later.orderer x.desk later.desk event outs refl mine.0 mine.1 one later_one are endpoint leads),
+      replica_sends (both_of m (Some x)) outs
+          (both_send m m x.orderer later.orderer x.desk later.desk event outs refl mine.0 mine.1 one later_one are endpoint leads),
+    )
+  where
+    mine : (x.orderer.endpoint.me ≡ m.me) × (x.orderer.endpoint.membership ≡ m.membership)
+    mine = own x.orderer (ap (option_map (λ (r : JoinedData). r.orderer)) is)
+
 -- ---- parts that are not together fit nothing
 
 same_members : (m n : MemberData) → m.me ≡ n.me → m.membership ≡ n.membership → m ≡ n
@@ -234,3 +250,9 @@ both_stop o stopped_o d stopped_d event same_o none_o same_d none_d c me history
   stopped_desk c me d stopped_d history (input_of me event ∷ history) same_d none_d fits_desk (stops_right c me event history fits_desk.right),
   stopped_orderer c me o stopped_o (without_reads history) (without_reads (input_of me event ∷ history)) same_o none_o fits_orderer,
 )
+
+-- a replica of which both parts have stopped, after an event
+pub joined_stops : (m : MemberData) (h : Option JoinedData) (event : Event) → EventLeads (both_of m h) event [] (both_of m None)
+joined_stops m h event =
+    replica_leads (both_of m h) (both_of m None).orderer (both_of m None).desk event [] refl
+    (both_stop (both_of m h).orderer (both_of m None).orderer (both_of m h).desk (both_of m None).desk event refl refl refl refl)

@@ -1,6 +1,20 @@
--- The model of a replica's fields.
+-- The model of a replica's fields. While it runs, its parts are joined.
+use Rattle.std.specs.Prelude.{Option, option_map}
 use Rattle.replica.specs.declared.replica.Replica.TheInside.{Inside}
-use Rattle.replica.specs.State.{ReplicaData}
+use Rattle.replica.specs.State.{JoinedData, MemberData, ReplicaData, IsOrdererPart}
+use Rattle.replica.specs.MemberView.{member_data}
+
+-- the member's parts, as they are joined, or both stopped
+abbrev pub both_of : MemberData → Option JoinedData → ReplicaData
+both_of m holds =
+    record {
+      orderer = record { member = m; holds = option_map (λ r. r.orderer) holds };
+      desk = record { member = m; holds = option_map (λ r. r.desk) holds };
+    }
 
 abbrev pub replica_data : Inside → ReplicaData
-replica_data r = record { orderer = r.orderer; desk = r.desk }
+replica_data r = both_of (member_data r.member) r.holds
+
+-- what it holds is the member's
+abbrev pub IsOwn : Inside → Type 0
+IsOwn r = IsOrdererPart (replica_data r).orderer

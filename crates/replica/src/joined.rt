@@ -2,6 +2,7 @@
 
 ghost use Rattle.std.specs.Prelude.{◌≡◌, [], IfOk, OnOk};
 ghost use Rattle.replica.specs.State.{AreOne};
+ghost use Rattle.replica.specs.Changing.{AreChanges};
 ghost use Rattle.replica.specs.Entering.{TakesInput};
 ghost use Rattle.replica.specs.FollowingUp.{ExecutesAndNumbers, FollowsUp};
 ghost use Rattle.replica.specs.Inputs.{input_of};
@@ -44,6 +45,21 @@ impl Joined {
         ensures { AreOne self.now.orderer self.now.desk }
     {
         let _period = self.desk.period;
+    }
+
+    /// The outputs of an event. Tells a proof that both parts are of one replica before it and after it.
+    pub(crate) fn step(&mut self, alloc: Global, event: Event<'_>) -> Result<Outputs, Stop>
+        ensures before { AreOne self.old.orderer self.old.desk }
+        ensures leads { IfOk result (λ outs. EventLeads self.old event.entry outs.items self.new) }
+        ensures endpoint { self.new.orderer.endpoint ≡ self.old.orderer.endpoint }
+        ensures after { IfOk result (λ _. AreOne self.new.orderer self.new.desk) }
+        ensures changes { IfOk result (λ _. AreChanges self.new.orderer.received.held) }
+    {
+        self.are_one();
+        let outputs = self.react(alloc, event)?;
+        self.are_one();
+        self.orderer.note_changes();
+        Ok(outputs)
     }
 
     // The outputs of an event: first those that the message itself asks for, then those that the log asks for. Last the

@@ -16,7 +16,7 @@
 //!
 //! [`Replica::split`] takes a replica apart for two threads. The [`Orderer`] numbers, votes and executes. The [`Desk`]
 //! has the state, the keys and the waiting requests, and answers reads by itself. A step of the whole is a step of its
-//! orderer on its own desk.
+//! orderer on its own desk. The whole keeps both joined, so that no event moves them.
 //!
 //! # What it keeps
 //!

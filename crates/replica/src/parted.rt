@@ -73,6 +73,15 @@ impl Orderer {
         }
     }
 
+    pub(crate) fn stopped(member: Member) -> Orderer
+        ensures { result ≡ record { member = member_data member; holds = None } }
+    {
+        Orderer {
+            member,
+            holds: None,
+        }
+    }
+
     /// Whether the orderer has stopped.
     pub fn is_stopped(&self) -> bool
         ensures { result ≡ is_none self.now.holds }
@@ -223,6 +232,15 @@ impl Desk {
         Desk {
             member,
             holds: Some(desk),
+        }
+    }
+
+    pub(crate) fn stopped(member: Member) -> Desk
+        ensures { result ≡ record { member = member_data member; holds = None } }
+    {
+        Desk {
+            member,
+            holds: None,
         }
     }
 

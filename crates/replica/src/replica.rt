@@ -6,6 +6,7 @@ ghost use Rattle.replica.specs.State.{IsReplicaData, has_stopped};
 ghost use Rattle.replica.specs.Fits.{EventLeads, Fits, SendsAsMeant, me_of};
 
 use crate::desk::Desk as DeskState;
+use crate::joined::Joined;
 use crate::member::Member;
 use crate::orderer::Orderer as OrdererState;
 use crate::parted::{Desk, Orderer};
@@ -24,16 +25,16 @@ pub enum Event<'a> {
     Timeout,
 }
 
-/// A replica: an orderer on its own desk.
+/// A replica: an orderer on its own desk, which stay joined from one event to the next.
 #[derive(Drop)]
 pub struct Replica {
-    orderer: Orderer,
-    desk: Desk,
+    member: Member,
+    holds: Option<Joined>,
 }
 
 impl Model for Replica {
-    ghost use Rattle.replica.specs.State.{ReplicaData, IsReplicaData};
-    ghost use Rattle.replica.specs.ReplicaView.{replica_data};
+    ghost use Rattle.replica.specs.State.{ReplicaData};
+    ghost use Rattle.replica.specs.ReplicaView.{replica_data, IsOwn};
     ghost use Rattle.std.specs.Coded.{codes};
     ghost use Rattle.execution.specs.Executed.{executed_code};
 
@@ -43,7 +44,7 @@ impl Model for Replica {
 
     ghost view = { replica_data };
 
-    ghost invariant = { λ r. IsReplicaData (replica_data r) };
+    ghost invariant = { IsOwn };
 }
 
 impl Replica {
@@ -52,6 +53,7 @@ impl Replica {
     /// # Errors
     ///
     /// NoMemory if memory runs out.
+    #[tactic(auto, using(crate::proofs::PartsLead::one_new))]
     pub fn new(
         alloc: Global,
         config: &Config,
@@ -69,8 +71,8 @@ impl Replica {
         orderer.note_changes();
         let desk = DeskState::new(alloc, config, me)?;
         Ok(Replica {
-            orderer: Orderer::new(member, orderer),
-            desk: Desk::new(member, desk),
+            member,
+            holds: Some(Joined { orderer, desk }),
         })
     }
 
@@ -78,7 +80,7 @@ impl Replica {
     pub fn is_stopped(&self) -> bool
         ensures value { result ≡ has_stopped self.now }
     {
-        self.orderer.is_stopped() || self.desk.is_stopped()
+        self.holds.is_none()
     }
 
     /// What the replica gives for its next input.
@@ -96,7 +98,14 @@ impl Replica {
         ensures before { (result ≡ Err Stop.Stopped) ↔ (has_stopped self.old ≡ true) }
         ensures number { me_of self.new ≡ me_of self.old }
     {
-        self.orderer.step(alloc, &mut self.desk, event)
+        let Some(joined) = &mut self.holds else {
+            return Err(Stop::Stopped);
+        };
+        let Ok(outputs) = joined.step(alloc, event) else {
+            self.holds = None;
+            return Err(Stop::NoMemory);
+        };
+        Ok(outputs)
     }
 
     /// Its two parts, which may lie behind two locks.
@@ -104,7 +113,13 @@ impl Replica {
         ensures orderer { result.0 ≡ self.orderer }
         ensures desk { result.1 ≡ self.desk }
     {
-        let Replica { orderer, desk } = self;
-        (orderer, desk)
+        let Replica { member, holds } = self;
+        match holds {
+            Some(Joined { orderer, desk }) => (
+                Orderer::new(member, orderer),
+                Desk::new(member, desk),
+            ),
+            None => (Orderer::stopped(member), Desk::stopped(member)),
+        }
     }
 }

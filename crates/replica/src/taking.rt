@@ -48,7 +48,7 @@ impl Joined {
             return self.on_read(alloc, bytes, outputs);
         }
         // A stored view change isn't verified again.
-        if self.orderer.received.has_frame(bytes) {
+        if has_type_of_view_changes(bytes) && self.orderer.received.has_frame(bytes) {
             self.orderer.judges();
             return Ok(Touched::Nothing);
         }
@@ -168,6 +168,14 @@ impl Joined {
             return Touched::Nothing;
         }
         Touched::Row(message.number)
+    }
+}
+
+// Bytes of another type are no view change, whatever is stored.
+fn has_type_of_view_changes(bytes: &[u8]) -> bool {
+    match bytes {
+        [_, _, _, _, 0x46, ..] => true,
+        _ => false,
     }
 }
 

@@ -1,21 +1,28 @@
-use Rattle.std.proofs.Common.{Result, Ok, Err, OnErr, []}
-use Rattle.replica.specs.ReplicaView.{replica_data}
-use Rattle.replica.proofs.PartsLead.{replica_leads, replica_sends}
-use Rattle.replica.proofs.Results.{if_ok_on}
+use Rattle.std.proofs.Common.{Option, [], sym, subst}
+use Rattle.replica.specs.State.{JoinedData}
+use Rattle.replica.specs.Fits.{EventLeads}
+use Rattle.replica.specs.MemberView.{member_data}
+use Rattle.replica.specs.ReplicaView.{both_of, replica_data}
+use Rattle.replica.proofs.PartsLead.{joined_steps, joined_stops}
 use Rattle.replica.proofs.replica.Replica.step.Goals as goal
 
-on_err : {A E P Q : Type 0} (r : Result A E) → (P → Q) → OnErr r P → OnErr r Q
-on_err (Ok x) f h = h
-on_err (Err e) f h = f h
+pub returns-in_default-clause-stops : goal.returns-in_default-clause-stops
+returns-in_default-clause-stops c =
+    rw (← c.self.view_is)
+    (subst (λ (h : Option JoinedData). EventLeads (replica_data c.self.inside) c.args.event [] (both_of (member_data c.self.inside.member) h)) (sym c.in_default.is)
+    (joined_stops (member_data c.self.inside.member) c.self.inside.holds c.args.event))
+
+pub returns-in_default-step-clause-stops : goal.returns-in_default-step-clause-stops
+returns-in_default-step-clause-stops c = rw (← c.self.view_is) (joined_stops (member_data c.self.inside.member) c.self.inside.holds c.args.event)
 
 pub returns-clause-leads : goal.returns-clause-leads
-returns-clause-leads c = rw (← c.self.view_is)
-    (if_ok_on _ _ c.step.result (λ outs. replica_leads (replica_data c.self.inside) c.step.new.self c.step.new.desk c.args.event outs.items c.step.ensures.desk_member) c.step.ensures.leads)
+returns-clause-leads c =
+    rw (← c.self.view_is)
+    (joined_steps (member_data c.self.inside.member) c.self.inside.holds c.in-Some.joined c.step.new.self c.args.event c.in-Ok.outputs.items c.in-Some.is c.self.invariant
+    c.in-Ok.ensures.before c.in-Ok.ensures.leads c.in-Ok.ensures.after c.in-Ok.ensures.changes c.in-Ok.ensures.endpoint).0
 
 pub returns-clause-meant : goal.returns-clause-meant
-returns-clause-meant c = rw (← c.self.view_is)
-    (if_ok_on _ _ c.step.result (λ outs. replica_sends (replica_data c.self.inside) outs.items) c.step.ensures.meant)
-
-pub returns-clause-stops : goal.returns-clause-stops
-returns-clause-stops c = rw (← c.self.view_is)
-    (on_err c.step.result (replica_leads (replica_data c.self.inside) c.step.new.self c.step.new.desk c.args.event [] c.step.ensures.desk_member) c.step.ensures.stops)
+returns-clause-meant c =
+    rw (← c.self.view_is)
+    (joined_steps (member_data c.self.inside.member) c.self.inside.holds c.in-Some.joined c.step.new.self c.args.event c.in-Ok.outputs.items c.in-Some.is c.self.invariant
+    c.in-Ok.ensures.before c.in-Ok.ensures.leads c.in-Ok.ensures.after c.in-Ok.ensures.changes c.in-Ok.ensures.endpoint).1
