@@ -1,6 +1,5 @@
 pub mod Changing
 pub mod Holding
-pub mod Joining
 pub mod Parting
 pub mod Renewing
 pub mod Standing

@@ -21,9 +21,5 @@ pub fn digest(text: &[u8]) -> Digest
 pub fn digest_of_children(children: &[Digest; CHILDREN]) -> Digest
     ensures { result ≡ spec.digest_of_children children.now }
 {
-    let mut hasher = Sha256::new();
-    for child in children {
-        hasher.update(child);
-    }
-    hasher.finalize()
+    digest(children.as_flattened())
 }
