@@ -1,6 +1,6 @@
 //! Entries, compared and copied.
 
-ghost use Rattle.std.specs.Prelude.{◌≡◌, ◌↔◌, IfOk, IsTrue};
+ghost use Rattle.std.specs.Prelude.{◌≡◌, ◌↔◌, ◌++◌, ◌∷◌, [], IfOk, OnOk, OnErr, IsTrue};
 ghost use Rattle.std.specs.List.{list_any};
 ghost use Rattle.terms.specs.Parties.{party_number};
 ghost use Rattle.tuple_codec.specs.OperationView.{operation_of, outcome_of};
@@ -72,28 +72,51 @@ pub(crate) fn have_ordering(entries: &[Entry]) -> bool
     entries.iter().any(|entry| orders(entry))
 }
 
-/// Equal entries, which share the bytes of frames.
-pub(crate) fn copy_entries(alloc: Global, entries: &[Entry]) -> Result<Vec<Entry>, NoMemory>
-    ensures { IfOk result (λ copies. copies.items ≡ entries.now) }
+/// Appends equal entries, which share the bytes of frames, or none if memory runs out.
+pub(crate) fn add_copies(
+    alloc: Global,
+    copies: &mut Vec<Entry>,
+    entries: &[Entry],
+) -> Result<(), NoMemory>
+    ensures added { OnOk result (copies.new.items ≡ copies.old.items ++ entries.now) }
+    ensures none { OnErr result (copies.new.items ≡ copies.old.items) }
 {
-    let mut copies = Vec::with_capacity(alloc, entries.len())?;
+    let before = copies.len();
     for entry in entries {
-        copies.push(copy_entry(alloc, entry)?)?;
-    }
-    Ok(copies)
-}
-
-/// Equal entries, without those of reads, which share the bytes of frames.
-pub(crate) fn copy_ordering(alloc: Global, entries: &[Entry]) -> Result<Vec<Entry>, NoMemory>
-    ensures { IfOk result (λ copies. copies.items ≡ without_reads entries.now) }
-{
-    let mut copies = Vec::new(alloc);
-    for entry in entries {
-        if orders(entry) {
-            copies.push(copy_entry(alloc, entry)?)?;
+        if add_copy(alloc, copies, entry).is_err() {
+            copies.truncate(before);
+            return Err(NoMemory);
         }
     }
-    Ok(copies)
+    Ok(())
+}
+
+/// The same for the entries of ordering among them.
+pub(crate) fn add_ordering(
+    alloc: Global,
+    copies: &mut Vec<Entry>,
+    entries: &[Entry],
+) -> Result<(), NoMemory>
+    ensures added { OnOk result (copies.new.items ≡ copies.old.items ++ without_reads entries.now) }
+    ensures none { OnErr result (copies.new.items ≡ copies.old.items) }
+{
+    let before = copies.len();
+    for entry in entries {
+        if orders(entry) && add_copy(alloc, copies, entry).is_err() {
+            copies.truncate(before);
+            return Err(NoMemory);
+        }
+    }
+    Ok(())
+}
+
+fn add_copy(alloc: Global, copies: &mut Vec<Entry>, entry: &Entry) -> Result<(), NoMemory>
+    ensures added { OnOk result (copies.new.items ≡ copies.old.items ++ entry.now ∷ []) }
+    ensures none { OnErr result (copies.new.items ≡ copies.old.items) }
+{
+    let copy = copy_entry(alloc, entry)?;
+    copies.push(copy)?;
+    Ok(())
 }
 
 fn copy_entry(alloc: Global, entry: &Entry) -> Result<Entry, NoMemory>

@@ -5,7 +5,7 @@ ghost use Rattle.terms.specs.Parties.{party_number};
 ghost use Rattle.protocol.specs.System.Reads.{without_reads};
 ghost use Rattle.journal.specs.Ties.{KeepsTies};
 
-use crate::entries::{copy_entries, copy_ordering};
+use crate::entries::{add_copies, add_ordering};
 use crate::front::Front;
 use crate::naming::Naming;
 use crate::tie::{Tie, tie_event};
@@ -30,13 +30,12 @@ pub(crate) fn grow_both<N: Naming>(
     ensures err_history { OnErr result (history.new.items ≡ history.old.items) }
     ensures err_tie { OnErr result (tie.new ≡ tie.old) }
 {
-    let mut twins = copy_entries(alloc, entries.as_slice())?;
-    trace.reserve(twins.len())?;
+    trace.reserve(entries.len())?;
     history.reserve(entries.len())?;
+    add_copies(alloc, trace, entries.as_slice())?;
     let (longer, front) = tie_event(mem::replace(tie, None), party, &entries);
     *tie = longer;
     let _ = history.append(&mut entries);
-    let _ = trace.append(&mut twins);
     Ok(front)
 }
 
@@ -59,9 +58,13 @@ pub(crate) fn grow_three<N: Naming>(
     ensures err_ordering { OnErr result (ordering.new.items ≡ ordering.old.items) }
     ensures err_tie { OnErr result (tie.new ≡ tie.old) }
 {
-    let mut some = copy_ordering(alloc, entries.as_slice())?;
-    ordering.reserve(some.len())?;
-    let front = grow_both(alloc, trace, history, tie, party, entries)?;
-    let _ = ordering.append(&mut some);
-    Ok(front)
+    let before = ordering.len();
+    add_ordering(alloc, ordering, entries.as_slice())?;
+    match grow_both(alloc, trace, history, tie, party, entries) {
+        Ok(front) => Ok(front),
+        Err(failed) => {
+            ordering.truncate(before);
+            Err(failed)
+        }
+    }
 }
