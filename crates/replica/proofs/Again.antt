@@ -35,7 +35,7 @@ use Rattle.replica_histories.proofs.ChangesPassing.{outputs_pass, batches_are_cl
 use Rattle.replica_histories.proofs.ChangesKept.{sent_keep}
 use Rattle.replica.specs.State.{OrdererData, JoinedData, IsOrderer}
 use Rattle.replica.specs.Desks.{given, changes_of, FitsEvent}
-use Rattle.replica.specs.Waiting.{unnumbered, with_numbered}
+use Rattle.desk.specs.Waiting.{unnumbered, with_numbered}
 use Rattle.replica.specs.Claiming.{LogsBatch}
 use Rattle.replica.specs.Saying.{AllAgain, AreBelow, GoesAgain, IsBelow, Posted, PostsAll, PostsBatch, PostsChange, PostsCheckpoint, PostsCommit, PostsNewView, PostsPrepare, PostsRow, Says, SaysAgain, SaysAlso, SaysBatch, SaysLastAgain, SaysLastAlso, row_place}
 use Rattle.replica.proofs.PostedAgain.{posted_now, batch_on, prepare_on, row_on, new_view_on}

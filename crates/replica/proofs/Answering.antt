@@ -34,7 +34,7 @@ use Rattle.wire.specs.Spelling.{is_signed}
 use Rattle.replica.specs.State.{JoinedData, AreOne}
 use Rattle.replica.specs.Desks.{given, FitsEvent}
 use Rattle.replica.specs.Entering.{event_of, TakesBytes}
-use Rattle.replica.specs.Fetching.{GivesPart, HasKept, HasNone}
+use Rattle.desk.specs.Fetching.{GivesPart, HasKept, HasNone}
 use Rattle.replica.specs.Joined.{Runs, me_of}
 use Rattle.replica.proofs.Beginning.{rests}
 use Rattle.replica.proofs.Beside.{begins, heard_so}

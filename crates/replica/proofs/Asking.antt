@@ -14,10 +14,10 @@ use Rattle.replica_histories.specs.Events as events
 use Rattle.replica_histories.proofs.ChangesKept.{sent_keep}
 use Rattle.replica_histories.proofs.Fetching.{fetches_fit, due_fetches_fit}
 use Rattle.replica.specs.State.{OrdererData}
-use Rattle.replica.specs.Waiting.{WaitingData}
+use Rattle.desk.specs.Waiting.{WaitingData}
 use Rattle.replica.specs.Desks.{given, FitsEvent}
 use Rattle.replica.specs.Saying.{Says}
-use Rattle.replica.specs.Fetching.{fetch_of}
+use Rattle.desk.specs.Fetching.{fetch_of}
 use Rattle.replica.proofs.Parties.{same_log}
 use Rattle.replica.proofs.Staying.{changes_still, fits_behind, numbers_beside, sent_beside}
 use Rattle.replica.proofs.Voting.{SaidIn, said_in}

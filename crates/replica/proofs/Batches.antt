@@ -43,7 +43,7 @@ use Rattle.view_change.specs.Selecting.{AreFrom, IsFrom}
 use Rattle.replica.specs.Changing.{IsJoinedBy, IsJoinedByNone, IsNextView, aimed_view}
 use Rattle.replica.specs.EnteringViews.{IsSelection}
 use Rattle.replica.specs.State.{HoldsBatches, IsOrderer, OrdererData}
-use Rattle.replica.specs.Transferring.{MayBeSaid}
+use Rattle.desk.specs.Transferring.{MayBeSaid}
 use Rattle.replica.proofs.JoiningOthers.{joined_by, joined_by_none, later_above}
 
 -- ---- received messages

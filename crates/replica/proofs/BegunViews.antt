@@ -24,14 +24,17 @@ use Rattle.replica_histories.specs.Transfers.{open_number}
 use Rattle.replica_histories.specs.Views.{begun_log, start_due, with_batches}
 use Rattle.replica_histories.proofs.Batches.{stays, begun_active, begun_batch, begun_low}
 use Rattle.replica_histories.proofs.Cutting.{cut_same}
-use Rattle.replica.specs.declared.waiting.BegunCall.{BegunCall}
-use Rattle.replica.specs.declared.waiting.WaitingRequest.{WaitingRequest}
-use Rattle.replica.specs.State.{OrdererData, DeskData, OpenData, JoinedData}
-use Rattle.replica.specs.Waiting.{with_view}
-use Rattle.replica.specs.Desking.{desk_above}
+use Rattle.desk.specs.declared.waiting.BegunCall.{BegunCall}
+use Rattle.desk.specs.declared.waiting.WaitingRequest.{WaitingRequest}
+use Rattle.replica.specs.State.{OrdererData, JoinedData}
+use Rattle.desk.specs.State.{DeskData, OpenData}
+use Rattle.desk.specs.Waiting.{with_view}
+use Rattle.desk.specs.Desking.{desk_above}
 use Rattle.replica.specs.Desks.{given, IsCallOf, AreCallsOf, AreOfDifferentClients, IsDeskOf, FitsEvent, Stands}
-use Rattle.replica.specs.EnteringViews.{AreBegun, Enters, FetchesStart, SaysVotesOf, entering}
-use Rattle.replica.specs.Fetching.{SaysFetch, aimed_at, aiming, fetch_of}
+use Rattle.replica.specs.EnteringViews.{Enters, FetchesStart, SaysVotesOf, entering}
+use Rattle.desk.specs.Begun.{AreBegun}
+use Rattle.replica.specs.Fetching.{SaysFetch}
+use Rattle.desk.specs.Fetching.{aimed_at, aiming, fetch_of}
 use Rattle.replica.specs.Going.{GoesOn, IsOneParty, IsVoted, IsVotedAll}
 use Rattle.replica.specs.Saying.{Says}
 use Rattle.replica.proofs.EnteringViews.{begun_desk}

@@ -47,7 +47,8 @@ use Rattle.replica_histories.proofs.Questions.{others_owe_no_part}
 use Rattle.replica_histories.proofs.Reasons.{ahead_are_held, joined_one}
 use Rattle.replica.specs.declared.taking.Touched.{Touched}
 use Rattle.replica.specs.declared.taking.Touched.TheVariants as touched
-use Rattle.replica.specs.State.{OrdererData, DeskData, JoinedData, AreOne, IsOrderer}
+use Rattle.replica.specs.State.{OrdererData, JoinedData, AreOne, IsOrderer}
+use Rattle.desk.specs.State.{DeskData}
 use Rattle.replica.specs.Beginning.{BeginsView, MayBegin, HasNoView}
 use Rattle.replica.specs.Changing.{ChangesView, IsJoinedBy, IsJoinedByNone, IsUnsayable, aimed_view, change_for}
 use Rattle.replica.specs.Desks.{given, Stands, FitsEvent, changes_of}

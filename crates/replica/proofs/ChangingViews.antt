@@ -1,9 +1,8 @@
 -- The replica's own view changes.
-use Rattle.std.proofs.Common.{◌≡◌, ◌≢◌, ℕ, zero, suc, ◌<◌, ◌≤◌, ◌+◌, ◌⊎◌, inl, inr, max, true, false, List, [], ◌∷◌, Option, Some, None, length, map, drop, get_or, Vec, option_map, IfSome, refl, sym, ap, ap₂, ◌∙◌, subst, arith}
+use Rattle.std.proofs.Common.{◌≡◌, ◌≢◌, ℕ, ◌<◌, ◌+◌, ◌⊎◌, inl, inr, max, true, false, List, [], ◌∷◌, Option, Some, None, Vec, option_map, IfSome, refl, sym, ap, ap₂, ◌∙◌, subst, arith}
 use Rattle.std.specs.declared.alloc.Global.{Global}
 use Rattle.std.proofs.lemmas.Bool.{leb-false}
 use Rattle.std.proofs.lemmas.List.{append-nil}
-use mathlib.Core.List.{reverse_aux}
 use Rattle.wire.specs.Messages.{MessageData as Message, ViewChangeData, CheckpointEntryData as CheckpointEntry, view_change as ViewChange}
 use Rattle.wire.specs.Views.{view_change_data}
 use Rattle.ordering.specs.Log.{left}
@@ -28,7 +27,7 @@ use Rattle.replica_histories.specs.Desk.{Desk, point_of}
 use Rattle.replica_histories.specs.Events as events
 use Rattle.replica_histories.specs.Events.{Start, after_outputs}
 use Rattle.replica_histories.specs.Changes.{FitsChanges, Passes}
-use Rattle.replica_histories.specs.Views.{IsChange, entry_of, entries_of}
+use Rattle.replica_histories.specs.Views.{IsChange, entries_of}
 use Rattle.replica_histories.proofs.ChangesKept.{sent_keep, own_are_signed}
 use Rattle.replica_histories.proofs.ChangesMade.{changes_are_sent}
 use Rattle.replica_histories.proofs.ChangesPassing.{outputs_pass}
@@ -37,11 +36,9 @@ use Rattle.replica_histories.proofs.Claims.{claims_are_lists}
 use Rattle.replica_histories.proofs.Ending.{steps_leave}
 use Rattle.replica_histories.proofs.Leaves.{next_leaf_is_own, next_is_spent}
 use Rattle.replica_histories.proofs.Reasons.{ticks_are_reasons, held_are_joined}
-use Rattle.replica.specs.declared.snapshots.KeptState.{KeptState}
-use Rattle.replica.specs.SnapshotsView.{kept_data}
 use Rattle.replica.specs.State.{OrdererData, JoinedData, IsOrderer, AreOne}
-use Rattle.replica.specs.declared.waiting.WaitingRequest.{WaitingRequest}
-use Rattle.replica.specs.Waiting.{WaitingData}
+use Rattle.desk.specs.declared.waiting.WaitingRequest.{WaitingRequest}
+use Rattle.desk.specs.Waiting.{WaitingData}
 use Rattle.replica.specs.Desks.{given, changes_of, AreCallsOf, FitsEvent}
 use Rattle.replica.specs.Going.{IsVotedAll}
 use Rattle.replica.specs.Saying.{AreBelow, PostedFrame, PostsChange, SaysLastAlso}
@@ -53,38 +50,6 @@ use Rattle.replica.specs.Changing.{IsNextView, HasReason, LeavesView, SignsChang
 use Rattle.replica.proofs.Given.{gives_one}
 use Rattle.replica.proofs.Parties.{same_log}
 use Rattle.replica.proofs.Staying.{fits_behind, fits_on, numbers_beside, sent_beside}
-
--- ---- what a view change lists
-
-abbrev pub listed : KeptState → CheckpointEntry
-listed state = entry_of (kept_data state)
-
-listed_mapped : (xs : List KeptState) → map listed xs ≡ map entry_of (map kept_data xs)
-listed_mapped [] = refl
-listed_mapped (x ∷ xs) = ap (λ (ys : List CheckpointEntry). listed x ∷ ys) (listed_mapped xs)
-
-pub none_listed : (xs : List KeptState) → reverse_aux (map listed (drop 0 xs)) [] ≡ entries_of (map kept_data xs)
-none_listed [] = refl
-none_listed (x ∷ xs) = ap (λ (ys : List CheckpointEntry). reverse_aux ys []) (listed_mapped (x ∷ xs))
-
--- one more checkpoint before the listed ones
-one_listed : (xs : List KeptState) (i : ℕ) (x : KeptState) (entries all : List CheckpointEntry) → i < length xs → x ≡ get_or xs i x → reverse_aux (map listed (drop i xs)) entries ≡ all
-    → reverse_aux (map listed (drop (suc i) xs)) (listed x ∷ entries) ≡ all
-one_listed [] i x entries all l at h = absurd (omega (arith, l))
-one_listed (y ∷ ys) zero x entries all l at h = subst (λ (z : KeptState). reverse_aux (map listed ys) (listed z ∷ entries) ≡ all) (sym at) h
-one_listed (y ∷ ys) (suc i) x entries all l at h = one_listed ys i x entries all (omega (arith, l)) at h
-
-pub next_listed : (xs : List KeptState) (i : ℕ) (x : KeptState) (entries all : List CheckpointEntry) → i < length xs → x ≡ get_or xs i x → reverse_aux (map listed (drop i xs)) entries ≡ all
-    → reverse_aux (map listed (drop (i + 1) xs)) (listed x ∷ entries) ≡ all
-next_listed xs i x entries all l at h =
-    let is : suc i ≡ i + 1 = omega arith in
-    subst (λ (n : ℕ). reverse_aux (map listed (drop n xs)) (listed x ∷ entries) ≡ all) is (one_listed xs i x entries all l at h)
-
-pub all_listed : (xs : List KeptState) (i : ℕ) (entries all : List CheckpointEntry) → length xs ≤ i → reverse_aux (map listed (drop i xs)) entries ≡ all → entries ≡ all
-all_listed [] zero entries all l h = h
-all_listed [] (suc i) entries all l h = h
-all_listed (y ∷ ys) zero entries all l h = absurd (omega (arith, l))
-all_listed (y ∷ ys) (suc i) entries all l h = all_listed ys i entries all (omega (arith, l)) h
 
 -- ---- the replica signs its view change
 

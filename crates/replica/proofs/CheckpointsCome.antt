@@ -33,12 +33,13 @@ use Rattle.replica_histories.proofs.Giving.{kept_are_above}
 use Rattle.replica_histories.proofs.Questions.{others_owe_none}
 use Rattle.replica.specs.declared.taking.Touched.TheVariants as touched
 use Rattle.view_change.specs.ClaimsView.{ClaimsData}
-use Rattle.replica.specs.State.{OrdererData, DeskData, JoinedData, AreOne}
+use Rattle.replica.specs.State.{OrdererData, JoinedData, AreOne}
+use Rattle.desk.specs.State.{DeskData}
 use Rattle.replica.specs.Checkpoints.{StartsTransferIfBehind, Settles, TakesCheckpoint, counting, said_entry}
 use Rattle.replica.specs.Desks.{given, FitsEvent, Stands, changes_of}
 use Rattle.replica.specs.Beginning.{CannotBegin}
 use Rattle.replica.specs.Entering.{event_of, IsTakenAlone, IsTakenBeside, Leaves, TakesBytes, TakesMessage}
-use Rattle.replica.specs.Fetching.{aimed_at, aiming}
+use Rattle.desk.specs.Fetching.{aimed_at, aiming}
 use Rattle.replica.specs.Joined.{Runs, me_of}
 use Rattle.replica.specs.Going.{CommitsNoMore, IsExecuted, IsOneParty, IsSameLog, IsVotedAll, Rests}
 use Rattle.replica.specs.Saying.{Says}

@@ -4,9 +4,9 @@ use Rattle.std.specs.Bool.{then_some}
 use Rattle.std.specs.Option.{ForSome}
 use Rattle.protocol.specs.Replica.State.{State}
 use Rattle.replica_histories.specs.Transfers.{still_open}
-use Rattle.replica.specs.State.{OpenData}
+use Rattle.desk.specs.State.{OpenData}
 use Rattle.replica.specs.Desks.{RestsAt}
-use Rattle.replica.specs.Desking.{above_number}
+use Rattle.desk.specs.Desking.{above_number}
 
 -- it is closed if the history's is
 pub above_same : (n : ℕ) (o : Option OpenData) → still_open n (option_map (λ x. x.transfer) o) ≡ option_map (λ x. x.transfer) (above_number n o)

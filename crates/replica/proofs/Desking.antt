@@ -1,6 +1,7 @@
--- The outputs of a desk fit.
-use Rattle.std.proofs.Common.{◌≡◌, ◌≢◌, ℕ, suc, ◌+◌, ◌≤◌, Bool, true, false, cond, List, [], ◌∷◌, ◌++◌, map, filter, Some, refl, sym, ap, ◌∙◌, subst, nat_lt, eq-eqb, arith}
+-- What a desk does fits: its replies, and its executions.
+use Rattle.std.proofs.Common.{◌≡◌, ◌≢◌, ℕ, suc, ◌+◌, ◌≤◌, Bool, true, false, cond, List, [], ◌∷◌, ◌++◌, map, filter, Some, refl, sym, ap, ◌∙◌, subst, nat_lt, eq-eqb}
 use Rattle.std.proofs.lemmas.List.Kept.{AllPairs-filter}
+use Rattle.terms.specs.declared.order.Timestamp.{Timestamp}
 use Rattle.terms.specs.declared.parties.ClientId.{ClientId}
 use Rattle.wire.specs.Messages.{MessageData as Message}
 use Rattle.wire.specs.Words.{requests_of}
@@ -9,7 +10,7 @@ use Rattle.events.specs.declared.output.Output.{Output}
 use Rattle.events.specs.declared.output.Output.TheVariants as outputs
 use Rattle.events.specs.Outputs.{entry_of, IsSentAsMeant}
 use Rattle.execution.specs.declared.running.Ran.{Ran}
-use Rattle.execution.specs.Executed.{ExecutedData, Executes, IsAfter, told, told_of}
+use Rattle.execution.specs.Executed.{ExecutedData, IsAfter, told, told_of}
 use Rattle.ordering.specs.Log as logs
 use Rattle.protocol.specs.System.Configuration.{Configuration, members}
 use Rattle.protocol.specs.System.Trace.{Entry, Has}
@@ -17,7 +18,7 @@ use Rattle.protocol.specs.System.Trace.Entry.{Executed, Sent}
 use Rattle.protocol.specs.Replica.State.{State, IsReplicatedState, Call, Ran as RanData, execute, kept_of, last_time, ran_in}
 use Rattle.protocol.specs.Replica.RightReplica.{reply_of, still_waiting}
 use Rattle.protocol.proofs.Words.Elements.{has_filter, has_map, has_mapped}
-use Rattle.replica_histories.specs.Desk.{Desk, snapshot_of}
+use Rattle.replica_histories.specs.Desk.{Desk}
 use Rattle.replica_histories.specs.Events as events
 use Rattle.replica_histories.specs.Events.{Start, after_outputs}
 use Rattle.replica_histories.specs.Inputs.{again_for}
@@ -27,14 +28,15 @@ use Rattle.replica_histories.proofs.Giving.{replies_fit}
 use Rattle.replica_histories.proofs.Executing.{executes_fit}
 use Rattle.replica_histories.proofs.NumbersWaiting.{executions_raise}
 use Rattle.replica_histories.proofs.ChangesKept.{sent_keep, silent_keep}
-use Rattle.replica.specs.declared.waiting.WaitingRequest.{WaitingRequest}
-use Rattle.replica.specs.Keeping.{AreFew, newest_with}
-use Rattle.replica.specs.State.{OrdererData, DeskData, IsDesk}
-use Rattle.replica.specs.Waiting.{WaitingData, frames_of, is_new, forgotten}
+use Rattle.desk.specs.declared.waiting.WaitingRequest.{WaitingRequest}
+use Rattle.desk.specs.Keeping.{AreFew}
+use Rattle.replica.specs.State.{OrdererData}
+use Rattle.desk.specs.State.{DeskData, IsDesk}
+use Rattle.desk.specs.Waiting.{frames_of, is_new, forgotten}
 use Rattle.replica.specs.Flags.{FitsFlags}
 use Rattle.replica.specs.Desks.{AreCallsOf, FitsWaiting, FitsEvent, IsDeskOf, given, Stands}
-use Rattle.replica.specs.Desking.{Pays, RunsBatch, SaysReply, above_number, is_due, keeping_due, keeping_state, replies_for, reply_for, snapshots_with}
-use Rattle.replica.specs.Fetching.{closing_reached}
+use Rattle.desk.specs.Desking.{RepliesAgain, RepliesToAll, RunsBatch, RunsWhole, SaysReply, snapshots_with}
+use Rattle.desk.proofs.Running.{behind_run}
 use Rattle.replica.proofs.Given.{GivesOne, gives_one}
 use Rattle.replica.proofs.Newest.{all_kept, all_with}
 use Rattle.replica.proofs.Parties.{same_log}
@@ -43,6 +45,19 @@ use Rattle.replica.proofs.Staying.{changes_still, executed_beside, fits_behind, 
 use Rattle.replica.proofs.Closing.{above_same, rests_above}
 
 -- ---- replies
+
+-- If an event stands with the messages `due`, it stands with `rest` after these outputs, whatever the orderer.
+abbrev pub Pays : DeskData → List Message → List Output → List Message → List Output → Type 0
+Pays d due before rest after =
+    (c : Configuration) (s : Start) (o : OrdererData) → members c ≡ d.membership → Stands c s o d due before
+    → Stands c s o d rest after
+
+-- the reply to a request that ran
+abbrev reply_for : ℕ × Kept → Message
+reply_for p = reply_of p.0 p.1
+
+abbrev replies_for : List Ran → List Message
+replies_for ran = map (λ r. reply_for (told r)) ran
 
 pub pays_one : (d : DeskData) (client : ClientId) (kept : Kept) (before after : List Output) → SaysReply d client kept before after → (rest : List Message)
     → Pays d (reply_of client.number kept ∷ rest) before rest after
@@ -59,29 +74,26 @@ pays_one d client kept before after r rest c s o known st = record {
     reply : Message
     reply = reply_of client.number kept
 
--- of the due replies these are left, and whatever is due after them
-abbrev pub PaysOn : DeskData → List Ran → List Output → List Ran → List Output → Type 0
-PaysOn d due before left after = (rest : List Message) → Pays d (replies_for due ++ rest) before (replies_for left ++ rest) after
+-- The desk sends each due reply, before all else that is due.
+pays_all : (d : DeskData) (ran : List Ran) (x y : List Output) → RepliesToAll d ran x y → (rest : List Message) → Pays d (replies_for ran ++ rest) x rest y
+pays_all d [] x y same rest c s o known st = subst (λ (outs : List Output). Stands c s o d rest outs) (sym same) st
+pays_all d (r ∷ ran) x y (between, says, replies) rest c s o known st =
+    pays_all d ran between y replies rest c s o known (pays_one d r.client (told r).1 x between says (replies_for ran ++ rest) c s o known st)
 
-pub pays_start : (d : DeskData) (due left : List Ran) (outs : List Output) → left ≡ due → PaysOn d due outs left outs
-pays_start d due left outs same rest c s o known st = subst (λ (xs : List Ran). Stands c s o d (replies_for xs ++ rest) outs) (sym same) st
+-- The kept reply to the client goes again, if it has this timestamp, and nothing else is due.
+abbrev pub PaysAgain : DeskData → ClientId → Timestamp → List Output → List Output → Type 0
+PaysAgain d client timestamp before after =
+    Pays d (again_for client.number timestamp.0 (kept_of d.executed.state client.number)) before [] after
 
-pub pays_end : (d : DeskData) (due left : List Ran) (x y : List Output) → left ≡ [] → PaysOn d due x left y → (rest : List Message) → Pays d (replies_for due ++ rest) x rest y
-pays_end d due left x y none p rest c s o known st = subst (λ (xs : List Ran). Stands c s o d (replies_for xs ++ rest) y) none (p rest c s o known st)
-
-pub pays_next : (d cur : DeskData) (due : List Ran) (it : Ran) (xs ys : List Ran) (x y z : List Output) → cur ≡ d → xs ≡ it ∷ ys → PaysOn d due x xs y
-    → SaysReply cur it.client (told it).1 y z → PaysOn d due x ys z
-pays_next d cur due it xs ys x y z same items p r rest c s o known st =
-    let r' : SaysReply d it.client (told it).1 y z = subst (λ (e : DeskData). SaysReply e it.client (told it).1 y z) same r in
-    pays_one d it.client (told it).1 y z r' (replies_for ys ++ rest) c s o known (subst (λ (v : List Ran). Stands c s o d (replies_for v ++ rest) y) items (p rest c s o known st))
-
--- the kept reply goes again
-pub pays_again : (d : DeskData) (client : ClientId) (t : ℕ) (kept : Kept) (x y : List Output) → kept_of d.executed.state client.number ≡ Some kept → kept.timestamp ≡ t → SaysReply d client kept x y
+pays_again : (d : DeskData) (client : ClientId) (t : ℕ) (kept : Kept) (x y : List Output) → kept_of d.executed.state client.number ≡ Some kept → kept.timestamp ≡ t → SaysReply d client kept x y
     → Pays d (again_for client.number t (kept_of d.executed.state client.number)) x [] y
 pays_again d client t kept x y has same r c s o known st = pays_one d client kept x y r [] c s o known (subst (λ (ms : List Message). Stands c s o d ms x) due st)
   where
     due : again_for client.number t (kept_of d.executed.state client.number) ≡ reply_of client.number kept ∷ []
     due = rw (has, eq-eqb kept.timestamp t same) refl
+
+pub pays_kept : (d : DeskData) (client : ClientId) (timestamp : Timestamp) (x y : List Output) → RepliesAgain d client timestamp x y → PaysAgain d client timestamp x y
+pays_kept d client timestamp x y (kept, has, same, says) = pays_again d client timestamp.0 kept x y has same says
 
 -- ---- waiting requests
 
@@ -121,32 +133,6 @@ map_twice f g (x ∷ xs) = ap (λ ys. f (g x) ∷ ys) (map_twice f g xs)
 
 replies_same : (ran : List Ran) (rs : List RanData) → map told ran ≡ map told_of rs → replies_to rs ≡ replies_for ran
 replies_same ran rs e = map_twice reply_for told_of rs ∙ ap (map reply_for) (sym e) ∙ sym (map_twice reply_for told ran)
-
--- the desk after an execution that leaves this state
-abbrev pub behind_run : DeskData → ExecutedData → DeskData
-behind_run d executed = record d {
-  executed = executed;
-  snapshots = snapshots_with d.period executed.state d.snapshots;
-  transfer = above_number executed.state.number d.transfer;
-  waiting = forgotten executed.state d.waiting;
-}
-
--- the state is kept if it is due, a reached transfer is closed, and requests that ran wait no more
-keeping_is : (d : DeskData) → keeping_due d ≡ record d { snapshots = snapshots_with d.period d.executed.state d.snapshots }
-keeping_is d = go (is_due d)
-  where
-    go : (b : Bool) → cond b (keeping_state d) d ≡ record d { snapshots = cond b (newest_with (snapshot_of d.executed.state) d.snapshots) d.snapshots }
-    go true = refl
-    go false = refl
-
-pub kept_executed : (d kept : DeskData) → kept ≡ keeping_due d → kept.executed ≡ d.executed
-kept_executed d kept is = ap (λ (x : DeskData). x.executed) (is ∙ keeping_is d)
-
-pub ran_so : (old kept new : DeskData) (executed : ExecutedData) (waiting : WaitingData) → kept ≡ keeping_due (record old { executed = executed }) → waiting ≡ forgotten kept.executed.state kept.waiting
-    → new ≡ closing_reached (record kept { waiting = waiting }) → new ≡ behind_run old executed
-ran_so old kept new executed waiting kept_is waits is =
-    is ∙ ap (λ (w : WaitingData). closing_reached (record kept { waiting = w })) waits
-    ∙ ap (λ (k : DeskData). closing_reached (record k { waiting = forgotten k.executed.state k.waiting })) (kept_is ∙ keeping_is (record old { executed = executed }))
 
 -- an execution of the text at a desk that stands, with the history's configuration and desk
 record Run (c : Configuration) (d : DeskData) (text : List ℕ) (ran : List Ran) (executed : ExecutedData) (desk : Desk) : Type 0 where
@@ -232,21 +218,32 @@ run_stands d executed text ran output before after c s o own is_state clients fe
     run : Run c d text ran executed st.desk
     run = record { is = st.is; ex = ex; number = number; kept = all_kept c s o d before text executed.state own few number committed st; is_state = is_state; few = clients }
 
-pub one_more : (n : ℕ) → n + 1 ≡ suc n
-one_more n = omega arith
-
-pub runs_batch : (old new : DeskData) (executed : ExecutedData) (text : List ℕ) (ran : List Ran) (output : Output) (before after : List Output) → new ≡ behind_run old executed → IsDesk old → IsReplicatedState old.executed.state → old.executed.clients ≤ 256 → AreFew old.snapshots
-    → Executes old.executed text (map told ran) executed → executed.state.number ≡ old.executed.state.number + 1
-    → entry_of old.me output ≡ Executed old.me (suc old.executed.state.number) text → after ≡ before ++ output ∷ [] → RunsBatch old text before new (replies_for ran) after
-runs_batch old new executed text ran output before after same is is_state most few runs number entry more = subst (λ (d : DeskData). RunsBatch old text before d (replies_for ran) after) (sym same) (record {
-  same = refl;
-  number = suc_is;
-  state = λ c known. (runs c (clients c known)).state;
-  stands = λ c s o known committed st. run_stands old executed text ran output before after c s o is is_state (subst (λ (n : ℕ). n ≤ 256) (sym (clients c known)) most) few (runs c (clients c known)) suc_is entry more committed st;
-})
+runs_batch : (old new : DeskData) (text : List ℕ) (ran : List Ran) (before after : List Output) → RunsBatch old text before new ran after → (c : Configuration) (s : Start) (o : OrdererData) → members c ≡ old.membership
+    → logs.committed_batch o.log (suc old.executed.state.number) ≡ Some text → Stands c s o old [] before → Stands c s o new (replies_for ran ++ checkpoint_due c new.executed.state) after
+runs_batch old new text ran before after r c s o known committed st =
+    subst (λ (d : DeskData). Stands c s o d (replies_for ran ++ checkpoint_due c new.executed.state) after) (sym r.same)
+    (run_stands old new.executed text ran r.output before after c s o r.held.is r.held.is_state (subst (λ (n : ℕ). n ≤ 256) (sym clients) r.held.clients) r.held.few (r.executes c clients) r.number r.entry_is r.given_is committed st)
   where
-    suc_is : executed.state.number ≡ suc old.executed.state.number
-    suc_is = number ∙ one_more old.executed.state.number
+    clients : c.clients ≡ old.executed.clients
+    clients = ap (λ m. m.clients) known ∙ sym r.held.is.0
 
-    clients : (c : Configuration) → members c ≡ old.membership → c.clients ≡ old.executed.clients
-    clients c known = ap (λ m. m.clients) known ∙ sym is.0
+-- What stood at the committed batch of the next number stands, with the checkpoint of the new state due.
+pub record RunsOn (old : DeskData) (text : List ℕ) (before : List Output) (new : DeskData) (after : List Output) : Type 0 where
+  pub membership : new.membership ≡ old.membership
+  pub me : new.me ≡ old.me
+  pub waiting : new.waiting ≡ forgotten new.executed.state old.waiting
+  pub number : new.executed.state.number ≡ suc old.executed.state.number
+  pub stands : (c : Configuration) (s : Start) (o : OrdererData) → members c ≡ old.membership
+      → logs.committed_batch o.log (suc old.executed.state.number) ≡ Some text → Stands c s o old [] before
+      → Stands c s o new (checkpoint_due c new.executed.state) after
+
+pub runs_on : (old new : DeskData) (text : List ℕ) (before after : List Output) → RunsWhole old text before new after → RunsOn old text before new after
+runs_on old new text before after r = record {
+  membership = ap (λ (d : DeskData). d.membership) r.runs.same;
+  me = ap (λ (d : DeskData). d.me) r.runs.same;
+  waiting = ap (λ (d : DeskData). d.waiting) r.runs.same;
+  number = r.runs.number;
+  stands = λ c s o known committed st.
+      pays_all new r.ran r.between after r.replies (checkpoint_due c new.executed.state) c s o (known ∙ sym (ap (λ (d : DeskData). d.membership) r.runs.same))
+      (runs_batch old new text r.ran before r.between r.runs c s o known committed st);
+}

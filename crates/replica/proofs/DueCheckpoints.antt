@@ -29,13 +29,14 @@ use Rattle.replica_histories.proofs.ChangesKept.{checkpoints_are_noted}
 use Rattle.replica_histories.proofs.ChangesPassing.{claims_are_above, outputs_pass}
 use Rattle.replica_histories.proofs.Giving.{checkpoints_fit, kept_are_above}
 use Rattle.view_change.specs.ClaimsView.{ClaimsData}
-use Rattle.replica.specs.State.{OrdererData, DeskData, JoinedData, AreOne}
-use Rattle.replica.specs.Waiting.{WaitingData}
+use Rattle.replica.specs.State.{OrdererData, JoinedData, AreOne}
+use Rattle.desk.specs.State.{DeskData}
+use Rattle.desk.specs.Waiting.{WaitingData}
 use Rattle.replica.specs.Desks.{given, FitsWaiting, FitsEvent, Stands, changes_of}
 use Rattle.replica.specs.Going.{CommitsNoMore, IsSameLog, IsSameOrderer, IsVotedAll, KeepsChoice}
 use Rattle.replica.proofs.Choosing.{settled_choice}
-use Rattle.replica.specs.Desking.{RunsWhole, due_entry, is_due, newest_entry}
-use Rattle.replica.specs.Keeping.{newest_with}
+use Rattle.desk.specs.Desking.{RunsWhole, due_entry, is_due, newest_entry}
+use Rattle.desk.specs.Keeping.{newest_with}
 use Rattle.replica.specs.Checkpoints.{IsDueKept, SaysCheckpoint, SaysDueCheckpoint, Settles}
 use Rattle.replica.specs.Saying.{Says}
 use Rattle.replica.proofs.Parties.{same_party}
@@ -309,6 +310,6 @@ says_none a x kept none = record {
 -- the executed state is kept if it is to have a checkpoint
 pub runs_kept : (old new : DeskData) (text : List ℕ) (x y : List Output) → RunsWhole old text x new y → IsDueKept new
 runs_kept old new text x y r due =
-    ap (λ (k : DeskData). newest_entry k.snapshots) r.same
+    ap (λ (k : DeskData). newest_entry k.snapshots) r.runs.same
     ∙ ap (λ (b : Bool). newest_entry (cond b (newest_with (snapshot_of new.executed.state) old.snapshots) old.snapshots))
-    (sym (ap (λ (k : DeskData). new.executed.state.number % k.period == 0) r.same) ∙ due)
+    (sym (ap (λ (k : DeskData). new.executed.state.number % k.period == 0) r.runs.same) ∙ due)

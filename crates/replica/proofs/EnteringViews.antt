@@ -1,129 +1,40 @@
--- How a new view begins: the calls that have numbers in it, the batches that are logged, and the votes that are sent.
-use Rattle.std.proofs.Common.{◌≡◌, ◌≢◌, ℕ, zero, suc, ◌+◌, ◌≤◌, ◌<◌, ◌⊎◌, inl, inr, Bool, true, false, cond, List, [], ◌∷◌, ◌++◌, length, map, take, drop, get_or, Bor, Option, Some, None, refl, sym, ap, ◌∙◌, subst, append_assoc, append-nil, arith, ◌==◌, eqb-true}
+-- How a new view begins: the batches that are logged, and the votes that are sent.
+use Rattle.std.proofs.Common.{◌≡◌, ◌≢◌, ℕ, zero, suc, ◌+◌, ◌≤◌, ◌<◌, ◌⊎◌, inl, inr, Bool, true, false, cond, List, [], ◌∷◌, length, map, take, get_or, Option, refl, sym, ap, ◌∙◌, subst, arith, ◌==◌, eqb-true}
 use Rattle.std.specs.Arc.{arc_value}
 use Rattle.std.specs.declared.sync.Arc.{Arc}
-use Rattle.std.specs.List.{filter_map, flat_map, cons_option}
 use Rattle.std.specs.declared.alloc.Global.{Global}
-use Rattle.std.proofs.lemmas.List.{at_drop_more, at_drop_all, map-append}
 use Rattle.std.proofs.lemmas.Bool.{eqb-false}
 use Rattle.wire.specs.Lists.{Each}
 use Rattle.wire.specs.Messages.{BatchEntryData as Claim, CheckpointEntryData as CheckpointEntry}
-use Rattle.wire.specs.Words.{requests_of}
 use Rattle.ordering.specs.Log.{Row, LogData, is_in_marks, with_batch}
 use Rattle.events.specs.declared.output.Output.{Output}
 use Rattle.view_change.specs.ClaimsView.{ClaimsData, claim_of, IsAmong}
 use Rattle.view_change.specs.Recording.{with_logged, with_all}
 use Rattle.view_change.specs.Sets.{texts_of}
 use Rattle.protocol.specs.System.Configuration.{Configuration}
-use Rattle.protocol.specs.Replica.State.{Call, call_of}
+use Rattle.protocol.specs.Replica.State.{Call}
 use Rattle.protocol.proofs.Words.Elements.{each_has, each_weaker}
 use Rattle.replica_histories.specs.Changes.{AddsLogged, claims_from, texts_from}
 use Rattle.replica_histories.specs.Views.{with_batches}
-use Rattle.replica_histories.specs.Numbers.{BegunCall as HistoryCall, begun_in}
-use Rattle.replica.specs.declared.waiting.BegunCall.{BegunCall}
+use Rattle.desk.specs.declared.waiting.BegunCall.{BegunCall}
 use Rattle.replica_histories.specs.Desk.{Desk, desk_from, kept_from}
-use Rattle.replica.specs.declared.waiting.WaitingRequest.{WaitingRequest}
-use Rattle.replica.specs.State.{OrdererData, DeskData, JoinedData}
-use Rattle.replica.specs.Waiting.{texts, renumbered, with_view}
+use Rattle.desk.specs.declared.waiting.WaitingRequest.{WaitingRequest}
+use Rattle.replica.specs.State.{OrdererData, JoinedData}
+use Rattle.desk.specs.State.{DeskData}
+use Rattle.desk.specs.Waiting.{texts, renumbered, with_view}
 use Rattle.replica.specs.Desks.{AreCallsOf, AreOfDifferentClients, IsDeskOf}
-use Rattle.replica.specs.Desking.{desk_above}
-use Rattle.replica.specs.Flags.{begun_of}
+use Rattle.desk.specs.Desking.{desk_above}
 use Rattle.replica.specs.Claiming.{LogsBatch}
-use Rattle.replica.specs.Fetching.{AimsAt, SaysFetch}
+use Rattle.replica.specs.Fetching.{SaysFetch}
+use Rattle.desk.specs.Fetching.{AimsAt}
 use Rattle.replica.specs.Going.{IsVoted}
 use Rattle.replica.specs.Marking.{MovesMarks}
 use Rattle.replica.specs.Saying.{SaysVotes}
-use Rattle.replica.specs.EnteringViews.{calls_in, entering, AddsCalls, AreBegun, Enters, FetchesStart, LogsBatches, NotesBegun, SaysVotesOf}
+use Rattle.replica.specs.EnteringViews.{entering, Enters, FetchesStart, LogsBatches, SaysVotesOf}
+use Rattle.desk.specs.Begun.{NotesBegun}
 use Rattle.replica.proofs.Lists.{Pairs, pairs_of, all_pairs}
 use Rattle.replica.proofs.Parties.{same_orderer, orderers_twice}
 use Rattle.replica.proofs.Voting.{goes_twice}
-
--- ---- items that a loop appends
-
--- All of them give the items of the first, and then those of the others.
-module _ {X A : Type 0} (all : List X → List A) (one : X → List A) (first : (x : X) (xs : List X) → all (x ∷ xs) ≡ one x ++ all xs) where
-  one_more : (xs : List X) (i : ℕ) (d : X) (out more whole : List A) → i < length xs → more ≡ out ++ one (get_or xs i d) → out ++ all (drop i xs) ≡ whole → more ++ all (drop (i + 1) xs) ≡ whole
-  one_more xs i d out more whole p q w =
-      let rest : List A = all (drop (i + 1) xs) in
-      let s : all (drop i xs) ≡ one (get_or xs i d) ++ rest = at_drop_more all xs i d p ∙ first (get_or xs i d) (drop (i + 1) xs) in
-      ap (λ o. o ++ rest) q ∙ append_assoc out (one (get_or xs i d)) rest ∙ ap (λ z. out ++ z) (sym s) ∙ w
-
-  none_left : (xs : List X) (i : ℕ) (out whole : List A) → length xs ≤ i → all [] ≡ [] → out ++ all (drop i xs) ≡ whole → out ≡ whole
-  none_left xs i out whole p n w = sym (append-nil out) ∙ ap (λ z. out ++ z) (sym (at_drop_all all xs i p ∙ n)) ∙ w
-
--- ---- the calls of a batch
-
-abbrev pub frames_in : List (Bor (List ℕ)) → List (List ℕ)
-frames_in xs = map (λ (x : Bor (List ℕ)). x.now) xs
-
--- adding the rest leads to the end of the whole
-abbrev pub CallsLeft : ℕ → List (Bor (List ℕ)) → List BegunCall → List BegunCall → ℕ → Type 0
-CallsLeft clients frames old new i =
-    (c : Configuration) → c.clients ≡ clients → begun_of new ++ calls_in c (frames_in (drop i frames)) ≡ begun_of old ++ calls_in c (frames_in frames)
-
-filtered_both : {X Y : Type 0} (f : X → Option Y) (xs ys : List X) → filter_map f (xs ++ ys) ≡ filter_map f xs ++ filter_map f ys
-filtered_both f [] ys = refl
-filtered_both f (x ∷ xs) ys = go (f x) (filtered_both f xs ys)
-  where
-    go : (o : Option _) → filter_map f (xs ++ ys) ≡ filter_map f xs ++ filter_map f ys → cons_option o (filter_map f (xs ++ ys)) ≡ cons_option o (filter_map f xs) ++ filter_map f ys
-    go None e = e
-    go (Some y) e = ap (λ zs. y ∷ zs) e
-
-calls_both : (c : Configuration) (xs ys : List (List ℕ)) → calls_in c (xs ++ ys) ≡ calls_in c xs ++ calls_in c ys
-calls_both c xs ys = ap (map (λ (call : Call). record { client = call.client; timestamp = call.timestamp })) (filtered_both (call_of c) xs ys)
-    ∙ map-append (λ (call : Call). record { client = call.client; timestamp = call.timestamp }) (filter_map (call_of c) xs) (filter_map (call_of c) ys)
-
-calls_first : (c : Configuration) (x : Bor (List ℕ)) (xs : List (Bor (List ℕ))) → calls_in c (frames_in (x ∷ xs)) ≡ calls_in c (x.now ∷ []) ++ calls_in c (frames_in xs)
-calls_first c x xs = calls_both c (x.now ∷ []) (frames_in xs)
-
-begun_both : (xs ys : List BegunCall) → begun_of (xs ++ ys) ≡ begun_of xs ++ begun_of ys
-begun_both xs ys = map-append (λ (b : BegunCall). record { client = b.client.number; timestamp = b.timestamp.0 }) xs ys
-
--- the frame spells a call, or none
-calls_of_one : (c : Configuration) (frame : List ℕ) (o : Option Call) → call_of c frame ≡ o → calls_in c (frame ∷ []) ≡ map (λ (call : Call). record { client = call.client; timestamp = call.timestamp }) (cons_option o [])
-calls_of_one c frame o e = ap (λ (p : Option Call). map (λ (call : Call). record { client = call.client; timestamp = call.timestamp }) (cons_option p [])) e
-
-pub call_passed : (clients : ℕ) (frames : List (Bor (List ℕ))) (old new : List BegunCall) (i : ℕ) (d : Bor (List ℕ)) → i < length frames
-    → ((c : Configuration) → c.clients ≡ clients → call_of c (get_or frames i d).now ≡ None) → CallsLeft clients frames old new i → CallsLeft clients frames old new (i + 1)
-call_passed clients frames old new i d l none left c n =
-    one_more (λ xs. calls_in c (frames_in xs)) (λ x. calls_in c (x.now ∷ [])) (calls_first c) frames i d (begun_of new) (begun_of new) _ l
-    (sym (append-nil (begun_of new)) ∙ ap (λ zs. begun_of new ++ zs) (sym (calls_of_one c (get_or frames i d).now None (none c n)))) (left c n)
-
-pub call_added : (clients : ℕ) (frames : List (Bor (List ℕ))) (old new more : List BegunCall) (i : ℕ) (d : Bor (List ℕ)) (b : BegunCall) (x : Call) → i < length frames
-    → ((c : Configuration) → c.clients ≡ clients → call_of c (get_or frames i d).now ≡ Some x) → x.client ≡ b.client.number → x.timestamp ≡ b.timestamp.0 → more ≡ new ++ b ∷ []
-    → CallsLeft clients frames old new i → CallsLeft clients frames old more (i + 1)
-call_added clients frames old new more i d b x l some client time is left c n =
-    one_more (λ xs. calls_in c (frames_in xs)) (λ y. calls_in c (y.now ∷ [])) (calls_first c) frames i d (begun_of new) (begun_of more) _ l
-    (ap begun_of is ∙ begun_both new (b ∷ [])
-    ∙ ap (λ (zs : List HistoryCall). begun_of new ++ zs) (ap (λ (k : ℕ). record { client = k; timestamp = b.timestamp.0 } ∷ []) (sym client) ∙ ap (λ (t : ℕ). record { client = x.client; timestamp = t } ∷ []) (sym time)
-    ∙ sym (calls_of_one c (get_or frames i d).now (Some x) (some c n)))) (left c n)
-
-pub calls_end : (clients : ℕ) (frames : List (Bor (List ℕ))) (text : List ℕ) (old new : List BegunCall) (i : ℕ) → length frames ≤ i → frames_in frames ≡ requests_of text → CallsLeft clients frames old new i
-    → AddsCalls clients (requests_of text) old new
-calls_end clients frames text old new i l is left c n =
-    none_left (λ xs. calls_in c (frames_in xs)) (λ x. calls_in c (x.now ∷ [])) (calls_first c) frames i (begun_of new) _ l refl (left c n)
-    ∙ ap (λ fs. begun_of old ++ calls_in c fs) is
-
--- ---- the calls of all batches
-
-abbrev pub BatchesLeft : ℕ → List (Arc (List ℕ) Global) → List BegunCall → ℕ → Type 0
-BatchesLeft clients batches calls i =
-    (c : Configuration) → c.clients ≡ clients → begun_of calls ++ begun_in c (texts_of (drop i batches)) ≡ begun_in c (texts_of batches)
-
-begun_first : (c : Configuration) (b : Arc (List ℕ) Global) (bs : List (Arc (List ℕ) Global)) → begun_in c (texts_of (b ∷ bs)) ≡ calls_in c (requests_of (arc_value b)) ++ begun_in c (texts_of bs)
-begun_first c b bs = calls_both c (requests_of (arc_value b)) (flat_map requests_of (texts_of bs))
-
-pub no_calls : (clients : ℕ) (batches : List (Arc (List ℕ) Global)) → BatchesLeft clients batches [] 0
-no_calls clients batches c n = refl
-
-pub batch_added : (clients : ℕ) (batches : List (Arc (List ℕ) Global)) (old new : List BegunCall) (i : ℕ) (d : Arc (List ℕ) Global) → i < length batches
-    → AddsCalls clients (requests_of (arc_value (get_or batches i d))) old new → BatchesLeft clients batches old i → BatchesLeft clients batches new (i + 1)
-batch_added clients batches old new i d l adds left c n =
-    one_more (λ bs. begun_in c (texts_of bs)) (λ b. calls_in c (requests_of (arc_value b))) (begun_first c) batches i d (begun_of old) (begun_of new) _ l (adds c n) (left c n)
-
-pub batches_end : (clients : ℕ) (batches : List (Arc (List ℕ) Global)) (calls : List BegunCall) (i : ℕ) → length batches ≤ i → BatchesLeft clients batches calls i → AreBegun clients (texts_of batches) calls
-batches_end clients batches calls i l left c n =
-    none_left (λ bs. begun_in c (texts_of bs)) (λ b. calls_in c (requests_of (arc_value b))) (begun_first c) batches i (begun_of calls) _ l refl (left c n)
 
 -- ---- votes
 

@@ -4,12 +4,14 @@ use Rattle.std.proofs.lemmas.Bool.{and_parts, ltb-true}
 use Rattle.events.specs.declared.output.Output.{Output}
 use Rattle.ordering.specs.Log.{LogData, is_in_marks, replicas, committed_batch, row_decided, row_of}
 use Rattle.replica_histories.proofs.Words.{passed, given_not}
-use Rattle.replica.specs.declared.waiting.WaitingRequest.{WaitingRequest}
-use Rattle.replica.specs.State.{JoinedData, DeskData}
-use Rattle.replica.specs.Waiting.{WaitingData, all_unnumbered, count_unnumbered, keeping, is_new}
+use Rattle.desk.specs.declared.waiting.WaitingRequest.{WaitingRequest}
+use Rattle.replica.specs.State.{JoinedData}
+use Rattle.desk.specs.State.{DeskData}
+use Rattle.desk.specs.Waiting.{WaitingData, all_unnumbered, count_unnumbered, keeping, is_new}
 use Rattle.replica.specs.Going.{Proceeds, CommitsNoMore, ExecutesAll, ExecutesNext, IsExecuted, IsSameParty, IsVotedAll}
-use Rattle.replica.specs.Desking.{RunsWhole}
+use Rattle.desk.specs.Desking.{RunsWhole}
 use Rattle.replica.specs.Checkpoints.{SaysDueCheckpoint}
+use Rattle.replica.proofs.Desking.{RunsOn, runs_on}
 use Rattle.replica.proofs.Parties.{same_party, parties_twice}
 use Rattle.replica.proofs.Rows.{within}
 
@@ -72,23 +74,24 @@ forgets_no_more p w = fewer_left p w.requests
 
 pub executes_next : (a : JoinedData) (d : DeskData) (n : JoinedData) (text : List ℕ) (x y z : List Output) → RunsWhole a.desk text x d y
     → committed_batch a.orderer.log (suc a.desk.executed.state.number) ≡ Some text → SaysDueCheckpoint (record a { desk = d }) y n z → ExecutesNext a x n z
-executes_next a d n text x y z r h e = record {
-  proceeds = λ voted c s known st.
-      e.stands c s (known ∙ sym (ap (λ (k : DeskData). k.membership) r.same)) voted (r.stands c s a.orderer known h st);
-  party = record {
-    orderer = e.party.orderer;
-    me = e.party.me ∙ ap (λ (k : DeskData). k.me) r.same;
-    membership = e.party.membership ∙ ap (λ (k : DeskData). k.membership) r.same;
-  };
-  used = e.used;
-  number = ap (λ (k : DeskData). k.executed.state.number) e.desk ∙ r.number;
-  within = let l = (within a.orderer.log (suc a.desk.executed.state.number) (committed_within a.orderer.log (suc a.desk.executed.state.number) text h)).low in omega (arith, l);
-  voted = e.voted;
-  commits = e.commits;
-  waiting = subst (λ (w : WaitingData). count_unnumbered w ≤ count_unnumbered a.desk.waiting)
-      (sym (ap (λ (k : DeskData). k.waiting) e.desk ∙ ap (λ (k : DeskData). k.waiting) r.same))
-      (forgets_no_more (is_new d.executed.state) a.desk.waiting);
-}
+executes_next a d n text x y z whole h e =
+    let r : RunsOn a.desk text x d y = runs_on a.desk d text x y whole in record {
+      proceeds = λ voted c s known st.
+          e.stands c s (known ∙ sym r.membership) voted (r.stands c s a.orderer known h st);
+      party = record {
+        orderer = e.party.orderer;
+        me = e.party.me ∙ r.me;
+        membership = e.party.membership ∙ r.membership;
+      };
+      used = e.used;
+      number = ap (λ (k : DeskData). k.executed.state.number) e.desk ∙ r.number;
+      within = let l = (within a.orderer.log (suc a.desk.executed.state.number) (committed_within a.orderer.log (suc a.desk.executed.state.number) text h)).low in omega (arith, l);
+      voted = e.voted;
+      commits = e.commits;
+      waiting = subst (λ (w : WaitingData). count_unnumbered w ≤ count_unnumbered a.desk.waiting)
+          (sym (ap (λ (k : DeskData). k.waiting) e.desk ∙ r.waiting))
+          (forgets_no_more (is_new d.executed.state) a.desk.waiting);
+    }
 
 -- ---- one after another
 

@@ -15,12 +15,13 @@ use Rattle.replica_histories.proofs.Fetching.{transfers_change}
 use Rattle.replica_histories.proofs.Transfers.{may_ask_any, pages_rested}
 use Rattle.replica_histories.proofs.TransfersInstalling.{rested_rests}
 use Rattle.replica_histories.proofs.TransfersSeeking.{nexts_are_first}
-use Rattle.replica.specs.State.{OrdererData, DeskData, OpenData}
-use Rattle.replica.specs.Waiting.{WaitingData}
+use Rattle.replica.specs.State.{OrdererData}
+use Rattle.desk.specs.State.{DeskData, OpenData}
+use Rattle.desk.specs.Waiting.{WaitingData}
 use Rattle.replica.specs.Desks.{given, FitsEvent, IsDeskOf, RestsAt}
-use Rattle.replica.specs.Fetching.{fetch_of, with_transfer}
+use Rattle.desk.specs.Fetching.{fetch_of, with_transfer}
 use Rattle.replica.specs.Saying.{Says}
-use Rattle.replica.specs.Transferring.{IsRestedAt, AsksPlace}
+use Rattle.desk.specs.Transferring.{IsRestedAt, AsksPlace}
 use Rattle.replica.proofs.Asking.{asks}
 
 -- ---- what stays while the next part is sought

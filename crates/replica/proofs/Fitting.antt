@@ -9,7 +9,7 @@ use Rattle.replica_histories.specs.Histories.{first_desk}
 use Rattle.replica_histories.proofs.Starting.{first_hold}
 use Rattle.replica.specs.State.{OrdererData, JoinedData}
 use Rattle.replica.specs.Taking.{IsNewOrderer}
-use Rattle.replica.specs.Desking.{IsNewDesk}
+use Rattle.desk.specs.Desking.{IsNewDesk}
 use Rattle.replica.proofs.Flags.{flags_first}
 use Rattle.replica.specs.Joined.{Fits}
 

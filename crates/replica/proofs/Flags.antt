@@ -15,18 +15,19 @@ use Rattle.protocol.specs.Replica.Certificates.{taken, are_genuine}
 use Rattle.protocol.specs.Replica.State.{State, Call, call_of, last_time}
 use Rattle.protocol.specs.Replica.RightReplica.{is_newer, with_waiting, still_waiting, IsFree}
 use Rattle.protocol.specs.Replica.Owed.{IsNumbered, NumbersOnce}
-use Rattle.replica_histories.specs.Numbers.{FitsNumbers, Waiting, BegunCall as HistoryCall, calls_of, AreCalls, KeepsNumbers, NoneFalls, AreOfNoLaterView, begun_in, arrived, still_entries, entries_with, IsNextFree}
+use Rattle.replica_histories.specs.Numbers.{FitsNumbers, Waiting, BegunCall as HistoryCall, calls_of, AreCalls, KeepsNumbers, NoneFalls, AreOfNoLaterView, begun_in, arrived, entries_with, IsNextFree}
 use Rattle.replica_histories.specs.Numbers as numbers
 use Rattle.replica_histories.proofs.Numbers.{first_numbers_fit, numbers_are_given}
 use Rattle.replica_histories.proofs.NumbersBegun.{views_begin}
 use Rattle.replica_histories.proofs.NumbersGiven.{numbers_fit}
 use Rattle.replica_histories.proofs.NumbersKept.{numbers_stay}
 use Rattle.replica_histories.proofs.NumbersWaiting.{requests_fit, states_fit}
-use Rattle.replica.specs.declared.waiting.WaitingRequest.{WaitingRequest}
-use Rattle.replica.specs.declared.waiting.BegunCall.{BegunCall}
-use Rattle.replica.specs.Waiting.{WaitingData, none_waiting, texts, is_of, is_new, is_begun, all_unnumbered, unnumbered, count_unnumbered, all_numbered, with_numbered, renumbered, with_view, with_request, without, forgotten}
+use Rattle.desk.specs.declared.waiting.WaitingRequest.{WaitingRequest}
+use Rattle.desk.specs.declared.waiting.BegunCall.{BegunCall}
+use Rattle.desk.specs.Waiting.{WaitingData, none_waiting, texts, is_of, is_new, is_begun, all_unnumbered, unnumbered, count_unnumbered, all_numbered, with_numbered, renumbered, with_view, with_request, without, forgotten}
 use Rattle.replica.specs.Desks.{IsCallOf, AreCallsOf}
-use Rattle.replica.specs.Flags.{begun_of, flagged, FitsFlags}
+use Rattle.replica.specs.Flags.{flagged, FitsFlags}
+use Rattle.desk.specs.Begun.{begun_of}
 
 -- ---- the calls, with the flags of their requests
 

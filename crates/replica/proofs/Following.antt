@@ -14,10 +14,11 @@ use Rattle.replica_histories.specs.Events.{Start, after_outputs}
 use Rattle.replica_histories.specs.Transfers.{MayAsk, AsksNext, open_number, transfer_to}
 use Rattle.replica_histories.proofs.Fetching.{quorums_may_ask}
 use Rattle.replica_histories.proofs.TransfersInstalling.{started_rests}
-use Rattle.replica.specs.State.{OrdererData, OpenData, DeskData}
-use Rattle.replica.specs.Waiting.{WaitingData}
+use Rattle.replica.specs.State.{OrdererData}
+use Rattle.desk.specs.State.{OpenData, DeskData}
+use Rattle.desk.specs.Waiting.{WaitingData}
 use Rattle.replica.specs.Desks.{given, FitsEvent, IsDeskOf, RestsAt}
-use Rattle.replica.specs.Fetching.{aimed_at, aiming, fetch_of, opened}
+use Rattle.desk.specs.Fetching.{aimed_at, aiming, fetch_of, opened}
 use Rattle.replica.specs.Saying.{Says}
 use Rattle.replica.proofs.Asking.{asks_due}
 

@@ -25,13 +25,15 @@ use Rattle.replica_histories.specs.Transfers.{MayAsk, RestsOnState}
 use Rattle.replica_histories.proofs.Cutting.{cut_low}
 use Rattle.replica_histories.proofs.Installing.{installations_fit}
 use Rattle.replica_histories.proofs.ChangesKept.{silent_keep}
-use Rattle.replica.specs.declared.waiting.WaitingRequest.{WaitingRequest}
+use Rattle.desk.specs.declared.waiting.WaitingRequest.{WaitingRequest}
 use Rattle.view_change.specs.ClaimsView.{ClaimsData}
-use Rattle.replica.specs.State.{OrdererData, OpenData, DeskData, JoinedData, AreOne}
-use Rattle.replica.specs.Waiting.{forgotten, frames_of, is_new}
+use Rattle.replica.specs.State.{OrdererData, JoinedData, AreOne}
+use Rattle.desk.specs.State.{OpenData, DeskData}
+use Rattle.desk.specs.Waiting.{forgotten, frames_of, is_new}
 use Rattle.replica.specs.Desks.{given, FitsWaiting, FitsEvent, IsDeskOf, Stands}
-use Rattle.replica.specs.Desking.{desk_above}
-use Rattle.replica.specs.Fetching.{Installs, InstallsFetched}
+use Rattle.desk.specs.Desking.{desk_above}
+use Rattle.replica.specs.Fetching.{InstallsFetched}
+use Rattle.desk.specs.Fetching.{Installs}
 use Rattle.replica.specs.Going.{IsSameParty, IsVotedAll}
 use Rattle.replica.specs.Marking.{MovesMarks}
 use Rattle.replica.specs.Joined.{me_of}
@@ -40,7 +42,7 @@ use Rattle.replica.proofs.Desking.{calls_behind, frames_behind}
 use Rattle.replica.proofs.DueCheckpoints.{same_cut, cut_voted}
 use Rattle.replica.proofs.Given.{GivesOne, gives_one}
 use Rattle.replica_histories.proofs.Reaching.{reached_asking}
-use Rattle.replica.proofs.Newest.{below_next, kept_alone}
+use Rattle.desk.proofs.Newest.{below_next, kept_alone}
 use Rattle.replica.proofs.Flags.{flags_forgotten}
 use Rattle.replica.proofs.Staying.{changes_cut, fits_behind, installed_beside, numbers_alike, numbers_beside}
 

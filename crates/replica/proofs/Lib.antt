@@ -10,11 +10,9 @@ pub mod Voting
 pub mod PostedAgain
 pub mod Again
 pub mod Checkpointing
-pub mod KeptStates
 pub mod Newest
 pub mod Closing
 pub mod Desking
-pub mod WaitingKept
 pub mod Flags
 pub mod Executions
 pub mod NumbersGiven
@@ -24,7 +22,6 @@ pub mod DueCheckpoints
 pub mod Carrying
 pub mod Fitting
 pub mod WaitingOn
-pub mod SameBodies
 pub mod Requests
 pub mod Beginning
 pub mod Asking

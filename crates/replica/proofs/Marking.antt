@@ -1,8 +1,9 @@
 -- The marks move.
 use Rattle.std.proofs.Common.{◌≡◌, ℕ, ap, ◌∙◌}
-use Rattle.replica.specs.State.{OrdererData, DeskData, JoinedData}
+use Rattle.replica.specs.State.{OrdererData, JoinedData}
+use Rattle.desk.specs.State.{DeskData}
 use Rattle.replica.specs.Claiming.{CutsLog}
-use Rattle.replica.specs.Desking.{desk_above}
+use Rattle.desk.specs.Desking.{desk_above}
 use Rattle.replica.specs.Marking.{MovesMarks}
 
 -- the orderer's move first, and then the desk's, to the low mark that the orderer has then

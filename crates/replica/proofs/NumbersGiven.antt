@@ -24,15 +24,17 @@ use Rattle.replica_histories.specs.Outputs.{MayNumber}
 use Rattle.replica_histories.proofs.Words.{marks_are}
 use Rattle.replica_histories.proofs.Numbers.{next_is_free}
 use Rattle.replica_histories.proofs.NumbersLists.{each_where, has_taken, Pairs, pairs_of, all_pairs, pairs_kept, pairs_mapped, pairs_unmapped, pairs_front, IsAt, Spells, spelled_at, Differ, frames_differ}
-use Rattle.replica.specs.declared.waiting.WaitingRequest.{WaitingRequest}
-use Rattle.replica.specs.State.{DeskData, JoinedData, AreOne}
-use Rattle.replica.specs.Waiting.{WaitingData, texts, frames_of, all_unnumbered, unnumbered, count_unnumbered, all_numbered, with_numbered}
-use Rattle.replica.specs.Flags.{FitsFlags, begun_of, flagged}
+use Rattle.desk.specs.declared.waiting.WaitingRequest.{WaitingRequest}
+use Rattle.replica.specs.State.{JoinedData, AreOne}
+use Rattle.desk.specs.State.{DeskData}
+use Rattle.desk.specs.Waiting.{WaitingData, texts, frames_of, all_unnumbered, unnumbered, count_unnumbered, all_numbered, with_numbered}
+use Rattle.replica.specs.Flags.{FitsFlags, flagged}
+use Rattle.desk.specs.Begun.{begun_of}
 use Rattle.replica.specs.Desks.{AreCallsOf, AreOfDifferentClients, given, FitsEvent, Stands}
 use Rattle.replica.specs.Going.{GoesOnWith, IsSameLog, IsSameOrderer, IsSameParty, IsVoted, IsVotedBut, IsVotedAll, Proceeds, Rests}
 use Rattle.replica.specs.Numbering.{next_number, IsAllNumbered}
 use Rattle.replica.specs.NumbersNext.{NumbersNext, GivesNumber, NumbersWaiting}
-use Rattle.replica.proofs.WaitingKept.{few_unnumbered}
+use Rattle.desk.proofs.WaitingKept.{few_unnumbered}
 use Rattle.replica.proofs.Flags.{calls_unnumbered, calls_taken, are_calls}
 use Rattle.replica.proofs.Parties.{same_party, orderers_twice, parties_twice}
 use Rattle.replica.proofs.Rows.{due_prepare_elsewhere, due_commit_elsewhere}

@@ -45,7 +45,7 @@ use Rattle.replica_histories.proofs.NumbersBegun.{logs_are_of_no_later_view}
 use Rattle.replica_histories.proofs.Seeing.{logged_are_seen}
 use Rattle.replica_histories.proofs.Words.{primary_same}
 use Rattle.replica.specs.State.{OrdererData, JoinedData, IsOrderer, AreOne}
-use Rattle.replica.specs.Waiting.{with_view}
+use Rattle.desk.specs.Waiting.{with_view}
 use Rattle.replica.specs.Beginning.{BeginsView}
 use Rattle.replica.specs.Claiming.{SaysFrame}
 use Rattle.replica.specs.Desks.{given, changes_of, IsDeskOf, FitsEvent, FitsWaiting, Stands}

@@ -30,15 +30,17 @@ use Rattle.replica_histories.proofs.Fetching.{digests_enter, pages_enter, asked_
 use Rattle.replica_histories.proofs.PartsOwed.{fetches_suffice, other_digests_owe_none, other_pages_owe_none}
 use Rattle.replica_histories.proofs.Transfers.{digests_keep, digests_open}
 use Rattle.replica_histories.proofs.TransfersInstalling.{digests_rest, pages_rest}
-use Rattle.replica.specs.declared.open_transfer.Taken.{Taken}
+use Rattle.desk.specs.declared.open_transfer.Taken.{Taken}
 use Rattle.replica.specs.declared.taking.Touched.TheVariants as touched
-use Rattle.replica.specs.State.{JoinedData, DeskData, OpenData, AreOne}
+use Rattle.replica.specs.State.{JoinedData, AreOne}
+use Rattle.desk.specs.State.{DeskData, OpenData}
 use Rattle.replica.specs.Desks.{given, FitsEvent, IsDeskOf, RestsAt}
 use Rattle.replica.specs.Entering.{event_of, TakesBytes}
-use Rattle.replica.specs.Fetching.{fetch_of, with_transfer, AsksOn, SaysFetch, TakesDigests, TakesPage}
+use Rattle.replica.specs.Fetching.{AsksOn, SaysFetch}
+use Rattle.desk.specs.Fetching.{fetch_of, with_transfer, TakesDigests, TakesPage}
 use Rattle.replica.specs.Joined.{Runs, me_of}
 use Rattle.replica.specs.Saying.{Says}
-use Rattle.replica.specs.Transferring.{TakesDigestsOf, TakesPageOf, AsksPlace}
+use Rattle.desk.specs.Transferring.{TakesDigestsOf, TakesPageOf, AsksPlace}
 use Rattle.replica.proofs.Beginning.{rests}
 use Rattle.replica.proofs.Beside.{IsBeside, changes_beside, heard_so, drops_beside, takes_none}
 use Rattle.replica.proofs.Fetched.{asked_number, asks_next}

@@ -19,15 +19,17 @@ use Rattle.replica_histories.specs.Fetching.{Reaches}
 use Rattle.replica_histories.specs.Questions.{AnswersInput}
 use Rattle.replica_histories.specs.Transfers.{RestsOnState}
 use Rattle.replica_histories.proofs.PartsOwed.{fetched_suffice}
-use Rattle.replica.specs.declared.open_transfer.Taken.{Taken}
+use Rattle.desk.specs.declared.open_transfer.Taken.{Taken}
 use Rattle.replica.specs.declared.taking.Touched.TheVariants as touched
-use Rattle.replica.specs.State.{DeskData, OpenData, JoinedData, AreOne}
+use Rattle.replica.specs.State.{JoinedData, AreOne}
+use Rattle.desk.specs.State.{DeskData, OpenData}
 use Rattle.replica.specs.Desks.{FitsEvent}
 use Rattle.replica.specs.Entering.{event_of, IsAnswered, TakesBytes, TakesMessage}
-use Rattle.replica.specs.Fetching.{AsksOn, CannotInstall, GivesBack, InstallsFetched, TakesDigests, TakesPage, with_transfer}
+use Rattle.replica.specs.Fetching.{AsksOn, InstallsFetched}
+use Rattle.desk.specs.Fetching.{CannotInstall, GivesBack, TakesDigests, TakesPage, with_transfer}
 use Rattle.replica.specs.Joined.{Runs, me_of}
 use Rattle.replica.specs.Going.{IsOneParty, IsSameParty}
-use Rattle.replica.specs.Transferring.{AsksPlace, IsRestedAt, TakesPageOf}
+use Rattle.desk.specs.Transferring.{AsksPlace, IsRestedAt, TakesPageOf}
 use Rattle.replica.proofs.Beginning.{rests}
 use Rattle.replica.proofs.Beside.{drops_beside}
 use Rattle.replica.proofs.Fetched.{asked_long, asked_number, rests_now}

@@ -36,7 +36,8 @@ use Rattle.protocol.proofs.Words.Elements.{each_weaker}
 use Rattle.replica_histories.proofs.Received.{brings_view, brings_newer}
 use Rattle.replica.proofs.SameWords.{words_same, taken_same}
 use Rattle.protocol.specs.System.Reads.{without_reads}
-use Rattle.replica.specs.State.{OrdererData, DeskData}
+use Rattle.replica.specs.State.{OrdererData}
+use Rattle.desk.specs.State.{DeskData}
 use Rattle.replica.specs.Desks.{FitsWaiting, WasSaid, changes_of}
 use Rattle.replica.specs.Flags.{FitsFlags, flagged}
 use Rattle.replica.specs.Numbering.{next_number, IsAllNumbered}

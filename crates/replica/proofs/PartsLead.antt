@@ -19,9 +19,10 @@ use Rattle.view_change.proofs.Opening.{signed_is}
 use Rattle.replica.specs.declared.replica.Event.{Event}
 use Rattle.replica.specs.declared.replica.Event.TheVariants as events
 use Rattle.replica.specs.Fits.{EventLeads, SendsAsMeant}
-use Rattle.replica.specs.State.{MemberData, OrdererData, DeskData, JoinedData, OrdererPart, DeskPart, ReplicaData, IsOrdererPart, IsDeskPart, AreOne}
+use Rattle.replica.specs.State.{MemberData, OrdererData, JoinedData, OrdererPart, DeskPart, ReplicaData, IsOrdererPart, IsDeskPart, AreOne}
 use Rattle.replica.specs.ReplicaView.{both_of}
-use Rattle.replica.specs.Desking.{IsNewDesk}
+use Rattle.desk.specs.State.{DeskData}
+use Rattle.desk.specs.Desking.{IsNewDesk}
 use Rattle.replica.specs.Taking.{IsNewOrderer}
 use Rattle.replica.specs.Inputs.{input_of}
 use Rattle.replica.specs.Joined as joined_ones

@@ -5,7 +5,7 @@ use Rattle.std.specs.Option.{ForSome}
 use Rattle.protocol.specs.System.Configuration.{Configuration}
 use Rattle.protocol.specs.System.Trace.{Entry}
 use Rattle.protocol.specs.Replica.Owed.{IsPromptReplica}
-use Rattle.replica.specs.State.{DeskData}
+use Rattle.desk.specs.State.{DeskData}
 use Rattle.replica.specs.Fits as replica_fits
 use Rattle.replica.specs.Parted.{HoldsDesk}
 use Rattle.replica.specs.PartedLaws.{DesksArePrompt, ReplicasArePrompt}

@@ -29,7 +29,7 @@ use Rattle.replica.specs.declared.taking.Touched.TheVariants as touched
 use Rattle.replica.specs.State.{JoinedData, AreOne}
 use Rattle.replica.specs.Beginning.{CannotBegin}
 use Rattle.replica.specs.Desks.{given, Stands, FitsEvent, FitsWaiting, WasSaid, IsDeskOf, changes_of}
-use Rattle.replica.specs.Waiting.{count_unnumbered}
+use Rattle.desk.specs.Waiting.{count_unnumbered}
 use Rattle.replica.specs.Going.{IsSameParty, IsOneParty, Rests}
 use Rattle.replica.specs.Numbering.{next_number, IsAllNumbered}
 use Rattle.replica.specs.NumbersNext.{NumbersWaiting}

@@ -27,7 +27,7 @@ use Rattle.replica_histories.specs.Numbers.{KeepsNumbers}
 use Rattle.replica_histories.specs.Desk.{snapshot_of, point_of}
 use Rattle.replica_histories.specs.Events.{FitsFrames, FitsSnapshots, IsFetched, IsReached}
 use Rattle.replica_histories.specs.Transfers.{FitsOpen}
-use Rattle.replica.specs.State.{DeskData}
+use Rattle.desk.specs.State.{DeskData}
 use Rattle.protocol.proofs.Words.Posting.{unsigned_have_no_leaf}
 use Rattle.replica.specs.Flags.{FitsFlags}
 use Rattle.replica.specs.Parted.{HoldsDesk}

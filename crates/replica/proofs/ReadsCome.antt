@@ -1,16 +1,8 @@
 -- The desk answers a read from the executed state.
-use Rattle.std.proofs.Common.{◌≡◌, ℕ, ◌+◌, ◌-◌, arith, ◌⊎◌, inl, inr, true, false, List, [], ◌∷◌, Some, refl, sym, ap, ◌∙◌, subst}
+use Rattle.std.proofs.Common.{◌≡◌, ℕ, ◌+◌, ◌⊎◌, inl, inr, true, false, List, [], ◌∷◌, Some, refl, sym, subst}
 use Rattle.tuple_codec.specs.Operations.{Operation}
 use Rattle.space.specs.Applying.{is_read_only}
-use Rattle.terms.specs.declared.order.Mode.TheVariants as modes
-use Rattle.space.specs.Applying.{outcome}
-use Rattle.space.specs.Births.{tuples_of}
-use Rattle.wire.specs.Messages.{MessageData as Message, reply as Reply}
-use Rattle.wire.specs.declared.messages.Reply.{Reply as WireReply}
-use Rattle.read_only.specs.declared.answering.Shelf.{Shelf}
-use Rattle.read_only.specs.declared.hearing.ReadRequest.{ReadRequest}
-use Rattle.read_only.specs.Hearing.{HearsRead}
-use Rattle.read_only.specs.Answering as answers
+use Rattle.wire.specs.Messages.{MessageData as Message}
 use Rattle.signing.specs.Heard.{heard}
 use Rattle.events.specs.declared.output.Output.{Output}
 use Rattle.events.specs.Outputs.{entry_of, IsSentAsMeant}
@@ -24,11 +16,10 @@ use Rattle.replica_histories.specs.Events.{IsTaken}
 use Rattle.replica_histories.proofs.Answering.{reads_fit, reads_suffice, other_operations_owe_none}
 use Rattle.replica_histories.proofs.ChangesKept.{sent_keep}
 use Rattle.replica.specs.declared.taking.Touched.TheVariants as touched
-use Rattle.replica.specs.State.{JoinedData, DeskData, AreOne}
+use Rattle.replica.specs.State.{JoinedData, AreOne}
 use Rattle.replica.specs.Desks.{given, FitsEvent}
-use Rattle.replica.specs.Desking.{SaysTo, message_of}
 use Rattle.replica.specs.Entering.{event_of, TakesBytes}
-use Rattle.replica.specs.Reading.{AnswersRead, HearsNoRead, AnswersBytes}
+use Rattle.desk.specs.Reading.{AnswersRead, HearsNoRead, AnswersBytes}
 use Rattle.replica.specs.Joined.{Runs, me_of}
 use Rattle.replica.proofs.Beginning.{rests, silence_dropped}
 use Rattle.replica.proofs.Beside.{begins, heard_so}
@@ -128,41 +119,3 @@ answers_bytes r bytes outs one (inr (none, same)) = subst (λ (os : List Output)
     dropped : HearsNoRead r.desk bytes → TakesBytes bytes r touched.Nothing r []
     dropped (inl silent) = silence_dropped r bytes one silent
     dropped (inr (k, t, op, hears, unread)) = takes_no_read r one k t op bytes hears unread
-
--- ---- an answer
-
--- the client that a reply is for
-abbrev named : Message → ℕ
-named message = elim message [ Reply client t mode number outcome ↦ client | _ ↦ 0 ]
-
--- The answer to the received read, from the executed state, goes to its client.
-pub answered : (d : DeskData) (bytes : List ℕ) (shelf : Shelf) (request : ReadRequest) (reply : WireReply) (before after : List Output)
-    → HearsRead d.membership d.me bytes request.client.number request.timestamp.0 request.op.now → answers.AnswersRead shelf request reply
-    → shelf.space.now ≡ d.executed.state.space → shelf.number.0 ≡ d.executed.state.number
-    → SaysTo d reply.client (message_of reply) before after → AnswersBytes d bytes before after
-answered d bytes shelf request reply before after h answer space number says = inl (record {
-  client = reply.client;
-  timestamp = t;
-  op = h.op;
-  hears = h.hears ∙ ap (λ k. Some (read_from k t h.op)) (sym same);
-  is_read = a.read;
-  says = subst (λ (m : Message). SaysTo d reply.client m before after) said_is says;
-})
-  where
-    t : ℕ
-    t = request.timestamp.0
-
-    a : answers.IsReadReply shelf request h.op reply
-    a = answer h.op h.spelled
-
-    same : 256 + reply.client.number ≡ 256 + request.client.number
-    same = ap named a.says
-
-    client : request.client.number ≡ 256 + reply.client.number - 256
-    client = omega (arith, same)
-
-    said_is : message_of reply ≡ read_reply d.executed.state (256 + reply.client.number) t h.op
-    said_is = a.says ∙ ap (λ k. Reply k t modes.ReadOnly shelf.number.0 (outcome (tuples_of shelf.space.now) request.client.number h.op)) (sym same)
-        ∙ ap (λ n. Reply (256 + reply.client.number) t modes.ReadOnly n (outcome (tuples_of shelf.space.now) request.client.number h.op)) number
-        ∙ ap (λ x. Reply (256 + reply.client.number) t modes.ReadOnly d.executed.state.number (outcome (tuples_of x) request.client.number h.op)) space
-        ∙ ap (λ i. Reply (256 + reply.client.number) t modes.ReadOnly d.executed.state.number (outcome (tuples_of d.executed.state.space) i h.op)) client

@@ -24,12 +24,13 @@ use Rattle.replica_histories.specs.Questions.{read_from, read_reply}
 use Rattle.replica_histories.specs.Transfers.{FitsOpen}
 use Rattle.replica_histories.specs.TransfersQuorums.{QuorumsFetched}
 use Rattle.replica_histories.proofs.Transfers.{open_stays, asks_none}
-use Rattle.replica.specs.State.{MemberData, DeskData, DeskPart, IsDeskPart}
+use Rattle.replica.specs.State.{MemberData, DeskPart, IsDeskPart}
+use Rattle.desk.specs.State.{DeskData}
 use Rattle.replica.specs.Flags.{FitsFlags}
 use Rattle.replica.specs.Idle.{IsIdle}
 use Rattle.replica.specs.Parted.{HoldsDesk, ReadLeads, ReadSendsAsMeant}
 use Rattle.replica.specs.Reads.{is_read_request}
-use Rattle.replica.specs.Reading.{AnswersRead, HearsNoRead, AnswersBytes}
+use Rattle.desk.specs.Reading.{AnswersRead, HearsNoRead, AnswersBytes}
 use Rattle.replica.proofs.Flags.{flags_stay}
 use Rattle.replica.proofs.ReadMarks.{marked_are_requests, replies_are_marked}
 use Rattle.replica.proofs.ReadsBeside as beside

@@ -39,13 +39,15 @@ use Rattle.replica_histories.proofs.Resending.{resending_suffices, waiting_are_n
 use Rattle.protocol.proofs.Words.Linking.{heard_said}
 use Rattle.protocol.proofs.Words.Reacting.{proceeds_leaves}
 use Rattle.protocol.proofs.Points.Invoking.{call_body}
-use Rattle.replica.specs.declared.waiting.WaitingRequest.{WaitingRequest}
+use Rattle.desk.specs.declared.waiting.WaitingRequest.{WaitingRequest}
 use Rattle.replica.specs.declared.taking.Touched.TheVariants as touched
-use Rattle.replica.specs.State.{OrdererData, DeskData, JoinedData, AreOne}
-use Rattle.replica.specs.Waiting.{WaitingData, frames_of, is_begun, is_of, request_of, with_request, without}
+use Rattle.replica.specs.State.{OrdererData, JoinedData, AreOne}
+use Rattle.desk.specs.State.{DeskData}
+use Rattle.desk.specs.Waiting.{WaitingData, frames_of, is_begun, is_of, request_of, with_request, without}
 use Rattle.replica.specs.Desks.{IsCallOf, IsDeskOf, FitsWaiting, FitsEvent, Stands, given, changes_of}
-use Rattle.replica.specs.Desking.{HasReply, PaysAgain, Waits}
-use Rattle.replica.specs.Arriving.{IsBehind, IsPast, IsWaitingAlready, IsNewer}
+use Rattle.replica.proofs.Desking.{PaysAgain}
+use Rattle.desk.specs.Desking.{HasReply, Waits}
+use Rattle.desk.specs.Arriving.{IsBehind, IsPast, IsWaitingAlready, IsNewer}
 use Rattle.replica.specs.Saying.{AllAgain}
 use Rattle.replica.specs.Joined.{Runs, me_of}
 use Rattle.replica.specs.Entering.{event_of, Leaves, TakesBytes, TakesRequest}

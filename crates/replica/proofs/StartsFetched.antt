@@ -12,10 +12,11 @@ use Rattle.replica_histories.specs.Desk.{Desk}
 use Rattle.replica_histories.specs.Events.{Start, after_outputs}
 use Rattle.replica_histories.specs.Transfers.{MayAsk, AsksNext, transfer_to}
 use Rattle.replica_histories.proofs.NewViews.{starts_may_ask}
-use Rattle.replica.specs.State.{OrdererData, OpenData, DeskData}
-use Rattle.replica.specs.Waiting.{WaitingData}
+use Rattle.replica.specs.State.{OrdererData}
+use Rattle.desk.specs.State.{OpenData, DeskData}
+use Rattle.desk.specs.Waiting.{WaitingData}
 use Rattle.replica.specs.Desks.{given, FitsEvent, IsDeskOf}
-use Rattle.replica.specs.Fetching.{aimed_at, fetch_of, opened}
+use Rattle.desk.specs.Fetching.{aimed_at, fetch_of, opened}
 use Rattle.replica.specs.Saying.{Says}
 use Rattle.replica.proofs.Asking.{asks_due}
 use Rattle.replica.proofs.Following.{aim_of, aimed_is}

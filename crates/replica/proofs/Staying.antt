@@ -21,7 +21,7 @@ use Rattle.replica_histories.specs.Changes.{Changes, CutsClaims, FitsChanges, Ke
 use Rattle.replica_histories.proofs.NumbersKept.{others_keep_numbers}
 use Rattle.replica_histories.proofs.Words.{primary_same}
 use Rattle.replica.specs.State.{OrdererData}
-use Rattle.replica.specs.Waiting.{WaitingData}
+use Rattle.desk.specs.Waiting.{WaitingData}
 use Rattle.replica.specs.Flags.{FitsFlags}
 use Rattle.replica.specs.Desks.{given, FitsWaiting, WasSaid, FitsEvent, changes_of}
 use Rattle.replica.specs.Going.{IsSameLog}

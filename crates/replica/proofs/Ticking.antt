@@ -30,9 +30,10 @@ use Rattle.replica_histories.proofs.Transfers.{ticks_may_ask}
 use Rattle.replica.specs.declared.taking.Touched.{Touched}
 use Rattle.replica.specs.declared.taking.Touched.TheVariants as touched
 use Rattle.state_transfer.specs.Transfer.{TransferData}
-use Rattle.replica.specs.State.{OrdererData, JoinedData, OpenData, AreOne}
+use Rattle.replica.specs.State.{OrdererData, JoinedData, AreOne}
+use Rattle.desk.specs.State.{OpenData}
 use Rattle.replica.specs.Beginning.{MayBegin, HasNoView}
-use Rattle.replica.specs.declared.waiting.WaitingRequest.{WaitingRequest}
+use Rattle.desk.specs.declared.waiting.WaitingRequest.{WaitingRequest}
 use Rattle.replica.specs.Changing.{ChangesView, HasReason, IsDue, IsNotDue, IsUnsayable, LeavesView, aimed_view, change_for}
 use Rattle.replica.specs.Desks.{given, AreCallsOf, FitsEvent, Stands, changes_of}
 use Rattle.replica.specs.Entering.{event_with, Leaves, TakesTick}

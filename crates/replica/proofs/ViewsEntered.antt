@@ -33,17 +33,20 @@ use Rattle.replica_histories.proofs.ChangesMade.{views_are_begun}
 use Rattle.replica_histories.proofs.Cutting.{cut_same}
 use Rattle.replica_histories.proofs.NumbersBegun.{logs_are_of_no_later_view}
 use Rattle.replica_histories.proofs.Words.{gated, given_not}
-use Rattle.replica.specs.declared.waiting.BegunCall.{BegunCall}
-use Rattle.replica.specs.declared.waiting.WaitingRequest.{WaitingRequest}
-use Rattle.replica.specs.State.{OrdererData, OpenData, DeskData, JoinedData, AreOne}
-use Rattle.replica.specs.Waiting.{WaitingData, with_view}
+use Rattle.desk.specs.declared.waiting.BegunCall.{BegunCall}
+use Rattle.desk.specs.declared.waiting.WaitingRequest.{WaitingRequest}
+use Rattle.replica.specs.State.{OrdererData, JoinedData, AreOne}
+use Rattle.desk.specs.State.{OpenData, DeskData}
+use Rattle.desk.specs.Waiting.{WaitingData, with_view}
 use Rattle.replica.specs.Flags.{FitsFlags}
 use Rattle.replica.specs.Desks.{AreCallsOf, AreOfDifferentClients, FitsEvent, FitsWaiting, IsDeskOf, Stands, WasSaid, changes_of, given}
-use Rattle.replica.specs.Desking.{desk_above}
-use Rattle.replica.specs.Fetching.{SaysFetch, aimed_at, aiming, fetch_of}
+use Rattle.desk.specs.Desking.{desk_above}
+use Rattle.replica.specs.Fetching.{SaysFetch}
+use Rattle.desk.specs.Fetching.{aimed_at, aiming, fetch_of}
 use Rattle.replica.specs.Going.{IsOneParty, IsVoted, IsVotedAll}
 use Rattle.replica.specs.Saying.{Says}
-use Rattle.replica.specs.EnteringViews.{AreBegun, Enters, FetchesStart, SaysVotesOf, entering}
+use Rattle.replica.specs.EnteringViews.{Enters, FetchesStart, SaysVotesOf, entering}
+use Rattle.desk.specs.Begun.{AreBegun}
 use Rattle.replica.proofs.EnteringViews.{begun_desk}
 use Rattle.replica.proofs.Flags.{flags_begun}
 use Rattle.replica.proofs.Following.{aim_of, aimed_is, aims_desk}

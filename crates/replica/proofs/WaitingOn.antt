@@ -13,8 +13,8 @@ use Rattle.protocol.specs.Replica.State.{State, Call, call_of, last_time}
 use Rattle.protocol.specs.Replica.RightReplica.{is_newer}
 use Rattle.protocol.specs.Replica.Owed.{IsNoOlder}
 use Rattle.protocol.proofs.Words.Elements.{has_either, has_filter, has_map, has_mapped, each_has, each_weaker, each_with, all_of_each}
-use Rattle.replica.specs.declared.waiting.WaitingRequest.{WaitingRequest}
-use Rattle.replica.specs.Waiting.{is_of, texts}
+use Rattle.desk.specs.declared.waiting.WaitingRequest.{WaitingRequest}
+use Rattle.desk.specs.Waiting.{is_of, texts}
 use Rattle.replica.specs.Desks.{IsCallOf, AreCallsOf, AreOfDifferentClients}
 
 -- ---- lists

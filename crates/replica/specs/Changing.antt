@@ -1,8 +1,6 @@
 -- The replica's own view changes (Castro and Liskov, TOCS 2002, on view changes).
 use Rattle.std.specs.Prelude.{◌≡◌, ◌≢◌, ℕ, suc, ◌+◌, ◌^◌, ◌≤◌, ◌<◌, ◌⊎◌, length, Bool, true, false, List, [], Option, Some, None, Vec, max}
 use Rattle.std.specs.declared.alloc.Global.{Global}
-use Rattle.wire.specs.Lists.{ascends}
-use Rattle.wire.specs.Spelling.{checkpoint_entry_before}
 use Rattle.wire.specs.Messages.{CheckpointEntryData as CheckpointEntry, ViewChangeData, view_change as ViewChange}
 use Rattle.wire.specs.Words.{said}
 use Rattle.events.specs.declared.output.Output.{Output}
@@ -65,10 +63,6 @@ abbrev pub AreChanges : List (Option HeldData) → Type 0
 AreChanges held =
     (s : ℕ) (h : HeldData) → held_of held s ≡ Some h
     → (sender : ℕ) × (said h.frame ≡ Some (record { sender = sender; message = ViewChange h.change }))
-
--- their numbers ascend, as in a view change
-abbrev pub is_ascending : List CheckpointEntry → Bool
-is_ascending checkpoints = ascends checkpoint_entry_before checkpoints
 
 -- the view change for the view, with these checkpoints and all claims
 abbrev pub change_for : ℕ → List CheckpointEntry → OrdererData → ViewChangeData

@@ -13,11 +13,12 @@ use Rattle.protocol.specs.System.Configuration.{Configuration, members}
 use Rattle.protocol.specs.Replica.State.{root_of}
 use Rattle.replica_histories.specs.Events.{Start}
 use Rattle.replica_histories.specs.Outputs.{checkpoint_due}
-use Rattle.replica.specs.State.{OrdererData, DeskData, JoinedData}
+use Rattle.replica.specs.State.{OrdererData, JoinedData}
+use Rattle.desk.specs.State.{DeskData}
 use Rattle.replica.specs.Desks.{Stands}
-use Rattle.replica.specs.Desking.{is_due, newest_entry}
+use Rattle.desk.specs.Desking.{is_due, newest_entry}
 use Rattle.replica.specs.Marking.{MovesMarks}
-use Rattle.replica.specs.Fetching.{aimed_at, aiming}
+use Rattle.desk.specs.Fetching.{aimed_at, aiming}
 use Rattle.replica.specs.Going.{CommitsNoMore, IsSameParty, IsVotedAll}
 use Rattle.replica.specs.Saying.{Says}
 

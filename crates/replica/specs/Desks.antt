@@ -14,9 +14,10 @@ use Rattle.replica_histories.specs.Events as events
 use Rattle.replica_histories.specs.Events.{Start, after_outputs}
 use Rattle.replica_histories.specs.Changes.{Changes, FitsChanges}
 use Rattle.replica_histories.specs.Transfers.{RestsOnState}
-use Rattle.replica.specs.declared.waiting.WaitingRequest.{WaitingRequest}
-use Rattle.replica.specs.State.{OrdererData, OpenData, DeskData}
-use Rattle.replica.specs.Waiting.{WaitingData, frames_of}
+use Rattle.desk.specs.declared.waiting.WaitingRequest.{WaitingRequest}
+use Rattle.replica.specs.State.{OrdererData}
+use Rattle.desk.specs.State.{OpenData, DeskData}
+use Rattle.desk.specs.Waiting.{WaitingData, frames_of}
 use Rattle.replica.specs.Flags.{FitsFlags}
 
 -- ---- the desk

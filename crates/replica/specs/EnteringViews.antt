@@ -1,6 +1,6 @@
 -- How a replica enters a new view, part by part (Castro and Liskov, TOCS 2002, on new views).
 use Rattle.std.specs.Prelude.{◌≡◌, ◌⊎◌, true, false, ℕ, suc, ◌+◌, ◌≤◌, ◌<◌, Option, Some, None, Vec}
-use Rattle.std.specs.Prelude.{List, ◌++◌, map, filter_map, length}
+use Rattle.std.specs.Prelude.{List, length}
 use Rattle.std.specs.declared.alloc.Global.{Global}
 use Rattle.wire.specs.Messages.{CheckpointEntryData as CheckpointEntry, NewViewData, new_view as NewView}
 use Rattle.events.specs.declared.output.Output.{Output}
@@ -11,44 +11,18 @@ use Rattle.view_change.specs.ReceivedData.{pairs_for, frames_for}
 use Rattle.view_change.specs.ReceivedView.{configuration_of}
 use Rattle.view_change.specs.Selecting.{meets, AreFrom}
 use Rattle.view_change.specs.Sets.{sized}
-use Rattle.protocol.specs.System.Configuration.{Configuration}
 use Rattle.protocol.specs.System.Frames.{leaf_of}
 use Rattle.protocol.specs.Replica.Selection.{may_select}
-use Rattle.protocol.specs.Replica.State.{call_of}
-use Rattle.replica_histories.specs.Numbers.{BegunCall as HistoryCall, begun_in}
 use Rattle.replica_histories.specs.Changes.{AddsBatches}
 use Rattle.replica_histories.specs.Primaries.{SelectsNothing}
 use Rattle.replica_histories.specs.Views.{with_batches}
-use Rattle.replica.specs.declared.waiting.BegunCall.{BegunCall}
-use Rattle.replica.specs.State.{OrdererData, DeskData, JoinedData}
-use Rattle.replica.specs.Waiting.{with_view}
-use Rattle.replica.specs.Flags.{begun_of}
+use Rattle.replica.specs.State.{OrdererData, JoinedData}
+use Rattle.desk.specs.State.{DeskData}
+use Rattle.desk.specs.Begun.{NotesBegun}
 use Rattle.replica.specs.Going.{GoesOn, IsVoted, IsSameOrderer}
-use Rattle.replica.specs.Fetching.{AimsAt, SaysFetch, aimed_at}
+use Rattle.replica.specs.Fetching.{SaysFetch}
+use Rattle.desk.specs.Fetching.{AimsAt, aimed_at}
 use Rattle.replica.specs.Marking.{MovesMarks}
-
--- ---- the calls that have numbers in the view
-
--- the calls of these frames
-abbrev pub calls_in : Configuration → List (List ℕ) → List HistoryCall
-calls_in c frames =
-    map (λ call. record { client = call.client; timestamp = call.timestamp }) (filter_map (call_of c) frames)
-
--- The calls of the frames follow the others, in each configuration with so many clients.
-abbrev pub AddsCalls : ℕ → List (List ℕ) → List BegunCall → List BegunCall → Type 0
-AddsCalls clients frames old new =
-    (c : Configuration) → c.clients ≡ clients → begun_of new ≡ begun_of old ++ calls_in c frames
-
--- They are the calls in batches of these texts.
-abbrev pub AreBegun : ℕ → List (List ℕ) → List BegunCall → Type 0
-AreBegun clients texts calls =
-    (c : Configuration) → c.clients ≡ clients → begun_of calls ≡ begun_in c texts
-
--- Of the waiting requests, these alone have numbers then.
-pub record NotesBegun (texts : List (List ℕ)) (old new : DeskData) : Type 0 where
-  pub calls : List BegunCall
-  pub are : AreBegun old.executed.clients texts calls
-  pub new_is : new ≡ record old { waiting = with_view calls old.waiting }
 
 -- ---- the orderer
 

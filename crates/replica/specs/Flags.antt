@@ -1,16 +1,12 @@
 -- Which waiting requests have numbers, by their flags and by the history.
-use Rattle.std.specs.Prelude.{ℕ, List, [], ◌∷◌, map}
+use Rattle.std.specs.Prelude.{ℕ, List, [], ◌∷◌}
 use Rattle.protocol.specs.System.Configuration.{Configuration}
 use Rattle.protocol.specs.System.Trace.{Entry}
 use Rattle.protocol.specs.Replica.State.{State, Call}
-use Rattle.replica_histories.specs.Numbers.{FitsNumbers, Waiting, BegunCall as HistoryCall}
-use Rattle.replica.specs.declared.waiting.WaitingRequest.{WaitingRequest}
-use Rattle.replica.specs.declared.waiting.BegunCall.{BegunCall}
-use Rattle.replica.specs.Waiting.{WaitingData}
-
--- the calls in the new view with which the view began
-abbrev pub begun_of : List BegunCall → List HistoryCall
-begun_of begun = map (λ b. record { client = b.client.number; timestamp = b.timestamp.0 }) begun
+use Rattle.replica_histories.specs.Numbers.{FitsNumbers, Waiting}
+use Rattle.desk.specs.declared.waiting.WaitingRequest.{WaitingRequest}
+use Rattle.desk.specs.Begun.{begun_of}
+use Rattle.desk.specs.Waiting.{WaitingData}
 
 -- the calls of the requests, in order, with their flags
 abbrev pub flagged : List WaitingRequest → List Call → List Waiting

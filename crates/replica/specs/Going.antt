@@ -8,8 +8,9 @@ use Rattle.protocol.specs.System.Configuration.{Configuration, members}
 use Rattle.protocol.specs.System.Trace.{Has}
 use Rattle.replica_histories.specs.Desk.{Desk}
 use Rattle.replica_histories.specs.Events.{Start}
-use Rattle.replica.specs.State.{OrdererData, DeskData, JoinedData}
-use Rattle.replica.specs.Waiting.{WaitingData, count_unnumbered}
+use Rattle.replica.specs.State.{OrdererData, JoinedData}
+use Rattle.desk.specs.State.{DeskData}
+use Rattle.desk.specs.Waiting.{WaitingData, count_unnumbered}
 use Rattle.replica.specs.Desks.{FitsEvent, Stands}
 
 -- If a history fits the earlier outputs, with the earlier orderer, it fits the later outputs with the later orderer.

@@ -10,7 +10,8 @@ use Rattle.protocol.specs.Replica.Owed.{IsReplica}
 use Rattle.replica_histories.specs.Changes.{FitsChanges}
 use Rattle.replica.specs.declared.replica.Event.{Event}
 use Rattle.replica.specs.Inputs.{input_of}
-use Rattle.replica.specs.State.{OrdererData, DeskData, JoinedData}
+use Rattle.replica.specs.State.{OrdererData, JoinedData}
+use Rattle.desk.specs.State.{DeskData}
 use Rattle.replica.specs.Beginning.{CannotBegin}
 use Rattle.replica.specs.Desks.{IsDeskOf, FitsWaiting, WasSaid, changes_of}
 use Rattle.replica.specs.Numbering.{IsAllNumbered}

@@ -3,7 +3,7 @@ use Rattle.std.specs.Prelude.{◌≡◌, ℕ}
 use Rattle.ordering.specs.Log as logs
 use Rattle.replica.specs.State.{OrdererData, JoinedData}
 use Rattle.replica.specs.Claiming.{CutsLog}
-use Rattle.replica.specs.Desking.{desk_above}
+use Rattle.desk.specs.Desking.{desk_above}
 
 -- The low mark moves up to a number: the log is cut there, and the claims and kept states below it are dropped.
 abbrev pub MovesMarks : ℕ → JoinedData → JoinedData → Type 0

@@ -2,7 +2,7 @@
 use Rattle.std.specs.Prelude.{◌≡◌, ℕ, suc, ◌+◌, ◌≤◌, true, max}
 use Rattle.ordering.specs.Log as logs
 use Rattle.replica.specs.State.{OrdererData, JoinedData}
-use Rattle.replica.specs.Waiting.{count_unnumbered}
+use Rattle.desk.specs.Waiting.{count_unnumbered}
 
 -- the one above the low mark and all assigned numbers
 abbrev pub next_number : OrdererData → ℕ

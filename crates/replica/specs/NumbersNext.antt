@@ -4,7 +4,7 @@ use Rattle.wire.specs.Lists.{Each}
 use Rattle.wire.specs.Spelling.{IsCarried, is_ordered_request, pieces_spelling}
 use Rattle.events.specs.declared.output.Output.{Output}
 use Rattle.replica.specs.State.{JoinedData}
-use Rattle.replica.specs.Waiting.{texts, unnumbered, with_numbered, count_unnumbered}
+use Rattle.desk.specs.Waiting.{texts, unnumbered, with_numbered, count_unnumbered}
 use Rattle.replica.specs.Saying.{SaysBatch}
 use Rattle.replica.specs.Going.{IsSameParty, Proceeds, Rests}
 use Rattle.replica.specs.Numbering.{IsAllNumbered}

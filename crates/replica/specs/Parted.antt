@@ -14,7 +14,8 @@ use Rattle.replica_histories.specs.Desk.{Desk}
 use Rattle.replica_histories.specs.Events as histories
 use Rattle.replica_histories.specs.Changes.{FitsChanges}
 use Rattle.replica.specs.declared.replica.Event.{Event}
-use Rattle.replica.specs.State.{OrdererData, DeskData, OrdererPart, DeskPart, AreOne}
+use Rattle.replica.specs.State.{OrdererData, OrdererPart, DeskPart, AreOne}
+use Rattle.desk.specs.State.{DeskData}
 use Rattle.replica.specs.Flags.{FitsFlags}
 use Rattle.replica.specs.Beginning.{CannotBegin}
 use Rattle.replica.specs.Desks.{IsDeskOf, WasSaid, changes_of}

@@ -4,7 +4,8 @@ use Rattle.protocol.specs.System.Configuration.{Configuration}
 use Rattle.protocol.specs.System.Reads.{without_reads}
 use Rattle.protocol.specs.System.Trace.{Entry}
 use Rattle.protocol.specs.Replica.Owed.{IsPromptReplica}
-use Rattle.replica.specs.State.{OrdererData, DeskData, DeskPart, JoinedData, ReplicaData, AreOne, has_stopped}
+use Rattle.replica.specs.State.{OrdererData, DeskPart, JoinedData, ReplicaData, AreOne, has_stopped}
+use Rattle.desk.specs.State.{DeskData}
 use Rattle.replica.specs.Changing.{AreChanges}
 use Rattle.replica.specs.Joined.{Runs, joined, me_of}
 use Rattle.replica.specs.Parted.{HoldsDesk, HoldsOrderer, FitsDesk}

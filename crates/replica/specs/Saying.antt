@@ -18,7 +18,7 @@ use Rattle.replica_histories.specs.Desk.{Desk}
 use Rattle.replica_histories.specs.Events.{Start, after_outputs}
 use Rattle.replica_histories.specs.Outputs.{MayNumber}
 use Rattle.replica.specs.State.{OrdererData, JoinedData}
-use Rattle.replica.specs.Waiting.{WaitingData, texts, unnumbered, with_numbered}
+use Rattle.desk.specs.Waiting.{WaitingData, texts, unnumbered, with_numbered}
 use Rattle.replica.specs.Desks.{AreCallsOf, given, FitsEvent}
 use Rattle.replica.specs.Going.{GoesOn, IsVoted, IsSameOrderer}
 

@@ -1,6 +1,5 @@
--- A replica's data, as plain values: the orderer, and the desk with the executed, kept and fetched states and the
--- waiting requests.
-use Rattle.std.specs.Prelude.{◌≡◌, ℕ, ◌<◌, ◌≤◌, Bool, ◌||◌, List, Option, Some, is_none}
+-- A replica's data, as plain values: the orderer, and the desk that it orders for.
+use Rattle.std.specs.Prelude.{◌≡◌, ℕ, ◌<◌, Bool, ◌||◌, List, Option, Some, is_none}
 use Rattle.std.specs.Option.{ForSome}
 use Rattle.authenticator.specs.Membership.{Membership}
 use Rattle.wire.specs.Lists.{Each}
@@ -8,13 +7,9 @@ use Rattle.wire.specs.Messages.{CheckpointEntryData as CheckpointEntry}
 use Rattle.wire.specs.Spelling.{IsBatch}
 use Rattle.posting.specs.Endpoint.{EndpointState}
 use Rattle.ordering.specs.Log.{LogData, logged_batch}
-use Rattle.execution.specs.Executed.{ExecutedData}
 use Rattle.view_change.specs.ClaimsView.{ClaimsData}
 use Rattle.view_change.specs.ReceivedView.{ReceivedState}
-use Rattle.state_transfer.specs.Transfer.{TransferData}
-use Rattle.replica_histories.specs.Desk.{Snapshot}
-use Rattle.replica.specs.Keeping.{AreKept}
-use Rattle.replica.specs.Waiting.{WaitingData}
+use Rattle.desk.specs.State.{DeskData}
 
 -- The orderer. endpoint: without the number of spent keys. used: the greatest number assigned in the view, by the new
 -- view or by the replica as its primary. begun: the greatest number that the new view assigned. target: the greatest
@@ -31,22 +26,6 @@ pub record OrdererData : Type 0 where
   pub received : ReceivedState
   pub last_checkpoint : Option CheckpointEntry
   pub spent : ℕ
-
--- an open transfer, and the number of the executed state whose pages stand where none were fetched
-pub record OpenData : Type 0 where
-  pub transfer : TransferData
-  pub rests_at : ℕ
-
--- The desk: the executed state; the number of batches from one checkpoint to the next; the kept states, the newest
--- first; the open transfer; and the waiting requests.
-pub record DeskData : Type 0 where
-  pub me : ℕ
-  pub membership : Membership
-  pub period : ℕ
-  pub executed : ExecutedData
-  pub snapshots : List Snapshot
-  pub transfer : Option OpenData
-  pub waiting : WaitingData
 
 -- both parts, joined within an event
 pub record JoinedData : Type 0 where
@@ -66,12 +45,6 @@ abbrev pub IsOrderer : OrdererData → Type 0
 IsOrderer o = (o.log.me ≡ o.endpoint.me) × (o.log.faults ≡ o.endpoint.membership.faults)
     × (o.received.seed ≡ o.endpoint.membership.seed) × (o.received.sizes.faults ≡ o.endpoint.membership.faults)
     × HoldsBatches o.begun o.log o.claims.texts
-
--- the state has the membership's number of clients, the replica may seal for them, the period is not 0, and these
--- states are kept
-abbrev pub IsDesk : DeskData → Type 0
-IsDesk d = (d.executed.clients ≡ d.membership.clients) × (d.me < 10) × (1 ≤ d.period)
-    × AreKept d.period d.executed.state.number d.snapshots
 
 -- both are of one replica, with the same period of checkpoints
 abbrev pub AreOne : OrdererData → DeskData → Type 0

@@ -4,11 +4,11 @@ ghost use Rattle.std.specs.Prelude.{◌≡◌, ◌+◌, ◌^◌, ◌≤◌, [], 
 ghost use Rattle.wire.specs.Views.{checkpoint_entries_data, checkpoint_entry_data};
 ghost use Rattle.ordering.specs.Log.{left};
 ghost use Rattle.replica_histories.specs.Views.{entries_of};
-ghost use Rattle.replica.specs.Changing.{ChangesView, IsDue, IsNotDue, IsNextView, MaySignChange, aimed_view, is_ascending};
+ghost use Rattle.replica.specs.Changing.{ChangesView, IsDue, IsNotDue, IsNextView, MaySignChange, aimed_view};
+ghost use Rattle.desk.specs.Keeping.{is_ascending};
 ghost use Rattle.replica.specs.Entering.{TakesTick};
 ghost use Rattle.replica.specs.Saying.{PostsChange, SaysLastAlso};
 
-use crate::desk::Desk;
 use crate::joined::Joined;
 use crate::orderer::Orderer;
 use crate::taking::Touched;
@@ -52,7 +52,7 @@ impl Joined {
         ensures due { IfSome result (λ view. IsDue self.now view.0) }
         ensures none { IfNone result (IsNotDue self.now) }
     {
-        if self.orderer.log.is_active() && self.desk.waiting.is_empty() {
+        if self.orderer.log.is_active() && self.desk.none_waits() {
             return None;
         }
         self.orderer.next_view()
@@ -78,17 +78,6 @@ impl Joined {
         self.orderer.leave_for(view);
         self.orderer.say_frame(alloc, &frame, outputs)?;
         Ok(true)
-    }
-}
-
-impl Desk {
-    // The checkpoints that a view change lists: those of the kept states.
-    fn entries(&self, alloc: Global) -> Result<Vec<CheckpointEntry>, NoMemory>
-        ensures are { IfOk result (λ entries. checkpoint_entries_data entries ≡ entries_of self.now.snapshots) }
-        ensures few { length (entries_of self.now.snapshots) ≤ 3 }
-        ensures order { IsTrue (is_ascending (entries_of self.now.snapshots)) }
-    {
-        self.snapshots.entries(alloc)
     }
 }
 

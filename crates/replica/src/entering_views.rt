@@ -4,23 +4,19 @@ ghost use Rattle.std.specs.Prelude.{◌≡◌, ◌+◌, ◌^◌, ◌<◌, ◌≤
 ghost use Rattle.wire.specs.Lists.{Each};
 ghost use Rattle.wire.specs.Spelling.{IsBatch};
 ghost use Rattle.wire.specs.Views.{checkpoint_entry_data};
-ghost use Rattle.wire.specs.Words.{requests_of};
 ghost use Rattle.view_change.specs.Sets.{texts_of};
-ghost use Rattle.replica.specs.EnteringViews.{AddsCalls, Enters, FetchesStart, LogsBatches};
-ghost use Rattle.replica.specs.EnteringViews.{NotesBegun, SaysVotesOf, entering};
+ghost use Rattle.replica.specs.EnteringViews.{Enters, FetchesStart, LogsBatches};
+ghost use Rattle.replica.specs.EnteringViews.{SaysVotesOf, entering};
 
-use crate::desk::Desk;
 use crate::joined::Joined;
 use crate::orderer::Orderer;
-use crate::waiting::BegunCall;
 use events::{Outputs, Stop};
-use execution::{Call, read_call};
 use ordering::HashedBatch;
 use std::alloc::Global;
 use std::sync::Arc;
 use terms::{Number, View};
 use view_change::Selection;
-use wire::{CheckpointEntry, requests};
+use wire::CheckpointEntry;
 
 impl Joined {
     /// Enters the view, which begins with this selection. `own` has the frame if the replica made the new view itself.
@@ -121,46 +117,5 @@ impl Orderer {
             self.say_votes(alloc, Number(number + 1), outputs)?;
         }
         Ok(())
-    }
-}
-
-impl Desk {
-    // Notes that the calls in these batches, and no others, have a number in the new view.
-    fn note_begun(&mut self, alloc: Global, batches: &[Arc<HashedBatch>]) -> Result<(), Stop>
-        ensures ok { OnOk result (NotesBegun (texts_of batches.now) self.old self.new) }
-        ensures me { self.new.me ≡ self.old.me }
-        ensures membership { self.new.membership ≡ self.old.membership }
-        ensures period { self.new.period ≡ self.old.period }
-    {
-        let mut calls = Vec::new(alloc);
-        for batch in batches {
-            self.add_calls(alloc, batch.text(), &mut calls)?;
-        }
-        self.waiting.begin_view(calls);
-        Ok(())
-    }
-
-    // Appends the calls of this batch.
-    fn add_calls(&self, alloc: Global, text: &[u8], calls: &mut Vec<BegunCall>) -> Result<(), Stop>
-        ensures { OnOk result
-            (AddsCalls self.now.executed.clients (requests_of text.now) calls.old.items calls.new.items) }
-    {
-        let frames = requests(text);
-        for frame in frames.as_slice() {
-            if let Some(call) = read_call(alloc, frame, self.executed.clients())? {
-                calls.push(begun_call(call))?;
-            }
-        }
-        Ok(())
-    }
-}
-
-// The call without its operation. The operation is dropped here alone.
-fn begun_call(call: Call) -> BegunCall
-    ensures { result ≡ record { client = call.client; timestamp = call.timestamp } }
-{
-    BegunCall {
-        client: call.client,
-        timestamp: call.timestamp,
     }
 }

@@ -8,10 +8,10 @@ ghost use Rattle.replica.specs.FollowingUp.{ExecutesAndNumbers, FollowsUp};
 ghost use Rattle.replica.specs.Inputs.{input_of};
 ghost use Rattle.replica.specs.Joined.{EventLeads, me_of};
 
-use crate::desk::Desk;
 use crate::orderer::Orderer;
 use crate::replica::Event;
 use crate::taking::Touched;
+use desk::Desk;
 use events::{Outputs, Stop};
 use std::alloc::Global;
 use std::marker::Model;
@@ -44,7 +44,7 @@ impl Joined {
     pub(crate) fn are_one(&self)
         ensures { AreOne self.now.orderer self.now.desk }
     {
-        let _period = self.desk.period;
+        let _period = self.desk.period();
     }
 
     /// The outputs of an event. Tells a proof that both parts are of one replica before it and after it.

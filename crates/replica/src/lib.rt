@@ -14,9 +14,9 @@
 //! It answers reads at once from the executed state, beside the order. Their templates lie in an arena that lasts as
 //! long as the event.
 //!
-//! [`Replica::split`] takes a replica apart for two threads. The [`Orderer`] numbers, votes and executes. The [`Desk`]
-//! has the state, the keys and the waiting requests, and answers reads by itself. A step of the whole is a step of its
-//! orderer on its own desk. The whole keeps both joined, so that no event moves them.
+//! [`Replica::split`] takes a replica apart for two threads. The [`Orderer`] numbers and votes. The [`Desk`] executes
+//! and replies, and answers reads by itself (the crate `desk`, of which it has one until it stops). A step of the whole
+//! is a step of its orderer on its own desk. The whole keeps both joined, so that no event moves them.
 //!
 //! # What it keeps
 //!
@@ -96,22 +96,17 @@
 //!   waits for it (`IsAllNumbered`).
 #![tactic(auto)]
 
-mod arriving;
 mod changing;
 mod checkpoints;
 mod claiming;
-mod desk;
 mod entering_views;
 mod executing;
-mod fetching;
 mod joined;
 mod joining;
-mod keeping;
 mod marks;
 mod member;
 mod new_views;
 mod numbering;
-mod open_transfer;
 mod orderer;
 mod parted;
 mod parted_laws;
@@ -119,11 +114,9 @@ mod reading;
 mod replica;
 mod saying;
 mod signing_frames;
-mod snapshots;
 mod taking;
 mod transfers;
 mod votes;
-mod waiting;
 
 pub use parted::{Desk, Orderer};
 pub use parted_laws::{

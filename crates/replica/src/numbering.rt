@@ -3,15 +3,15 @@
 ghost use Rattle.std.specs.Prelude.{◌≡◌, ◌≤◌, suc, true, [], length, IfNone, IfOk, IfSome, OnOk};
 ghost use Rattle.wire.specs.Spelling.{IsCarried, is_ordered_request};
 ghost use Rattle.ordering.specs.Log.{is_in_marks};
-ghost use Rattle.replica.specs.Waiting.{unnumbered};
+ghost use Rattle.desk.specs.Waiting.{unnumbered};
 ghost use Rattle.replica.specs.Entering.{TakesRequest};
 ghost use Rattle.replica.specs.Saying.{AllAgain};
 ghost use Rattle.replica.specs.Numbering.{IsNextFree, next_number};
 ghost use Rattle.replica.specs.NumbersNext.{NumbersNext, NumbersTurn, NumbersWaiting};
 
-use crate::arriving::Arrival;
 use crate::joined::Joined;
 use crate::taking::Touched;
+use desk::Arrival;
 use events::{Outputs, Stop};
 use std::alloc::Global;
 use terms::{ClientId, Number, Timestamp};

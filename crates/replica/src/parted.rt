@@ -10,12 +10,12 @@ ghost use Rattle.replica.specs.MemberView.{member_data};
 ghost use Rattle.replica.specs.Parted.{AreTogether, BothLead, BothSendAsMeant, DeskStops, OrdererStops, Reacts, ReadLeads, ReadSendsAsMeant};
 ghost use Rattle.wire.specs.Marks.{asks_read};
 
-use crate::desk::Desk as DeskState;
 use crate::joined::Joined;
 use crate::member::Member;
 use crate::orderer::Orderer as OrdererState;
 use crate::replica::Event;
 use bumpalo::Bump;
+use desk::Desk as DeskState;
 use events::{Outputs, Stop};
 use read_only::asks_read;
 use std::alloc::Global;
@@ -178,7 +178,7 @@ impl Orderer {
 fn have_one_period(orderer: &OrdererState, desk: &DeskState) -> bool
     ensures { IsTrue result ↔ (orderer.now.received.sizes.period ≡ desk.now.period) }
 {
-    orderer.period() == desk.period
+    orderer.period() == desk.period()
 }
 
 fn take_orderer(holds: &mut Option<OrdererState>) -> OrdererState

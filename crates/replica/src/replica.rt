@@ -5,11 +5,11 @@ ghost use Rattle.events.specs.declared.output.Stop.TheVariants as Stop;
 ghost use Rattle.replica.specs.State.{IsReplicaData, has_stopped};
 ghost use Rattle.replica.specs.Fits.{EventLeads, Fits, SendsAsMeant, me_of};
 
-use crate::desk::Desk as DeskState;
 use crate::joined::Joined;
 use crate::member::Member;
 use crate::orderer::Orderer as OrdererState;
 use crate::parted::{Desk, Orderer};
+use desk::Desk as DeskState;
 use events::{Config, Outputs, Stop};
 use signing::PublicKeys;
 use std::alloc::Global;

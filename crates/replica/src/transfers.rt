@@ -5,7 +5,7 @@ ghost use Rattle.wire.specs.Messages.{fetch, meta, page};
 ghost use Rattle.wire.specs.Spelling.{last_index};
 ghost use Rattle.replica.specs.Entering.{TakesMessage};
 ghost use Rattle.replica.specs.Fetching.{AsksOn, InstallsFetched, SaysFetch};
-ghost use Rattle.replica.specs.Transferring.{MayBeSaid};
+ghost use Rattle.desk.specs.Transferring.{MayBeSaid};
 
 use crate::joined::Joined;
 use crate::taking::Touched;

@@ -12,7 +12,8 @@ use Rattle.events.specs.declared.output.Output.{Output}
 use Rattle.journal.specs.Histories.{IsRight}
 use Rattle.journal.specs.Parts.{Part, AreAlike, fresh, longer_part}
 use Rattle.replica.specs.Parted.{DeskStops, FitBoth, FitsDesk, FitsOrderer, ReadLeads}
-use Rattle.replica.specs.State.{DeskData, DeskPart, OrdererPart}
+use Rattle.replica.specs.State.{DeskPart, OrdererPart}
+use Rattle.desk.specs.State.{DeskData}
 use Rattle.replica.proofs.Prompt.{desks_are_prompt}
 use Rattle.space_node.specs.declared.input.Input.{Input}
 use Rattle.space_node.specs.Seats.{InputLeads, SeatsDesk, input_of}

@@ -1,5 +1,5 @@
 use Rattle.std.proofs.Common.{Bool, refl, subst}
-use Rattle.replica.specs.Fetching.{AsksPart}
+use Rattle.desk.specs.Fetching.{AsksPart}
 use Rattle.replica.proofs.joined.Joined.ask_next.Goals as goal
 
 pub returns-then-not-branch-clause-ok : goal.returns-then-not-branch-clause-ok

@@ -2,7 +2,7 @@ use Rattle.std.proofs.Common.{rules, ◌≡◌, suc, ◌+◌, Some, sym, ◌∙�
 use Rattle.ordering.specs.Log.{committed_batch}
 use Rattle.ordering.specs.RowView.{batch_lent}
 use Rattle.replica.specs.State.{JoinedData}
-use Rattle.replica.specs.Desking.{RunsWhole}
+use Rattle.desk.specs.Desking.{RunsWhole}
 use Rattle.replica.specs.Checkpoints.{SaysDueCheckpoint}
 use Rattle.replica.specs.declared.joined.Joined.TheInside.{Inside}
 use Rattle.replica.specs.JoinedView.{joined_data}

@@ -2,7 +2,7 @@ use Rattle.std.proofs.Common.{Bool, subst}
 use Rattle.wire.specs.Views.{checkpoint_entry_data}
 use Rattle.replica.specs.State.{JoinedData}
 use Rattle.replica.specs.JoinedView.{joined_data}
-use Rattle.replica.specs.Fetching.{AimsAt}
+use Rattle.desk.specs.Fetching.{AimsAt}
 use Rattle.replica.specs.EnteringViews.{FetchesStart}
 use Rattle.replica.proofs.Results.{on_ok}
 use Rattle.replica.proofs.EnteringViews.{fetch_started, fetch_passed}

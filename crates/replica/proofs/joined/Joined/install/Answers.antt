@@ -2,7 +2,8 @@ use Rattle.std.proofs.Common.{true, Option, option_map, subst}
 use Rattle.wire.specs.declared.messages.CheckpointEntry.{CheckpointEntry}
 use Rattle.wire.specs.Views.{checkpoint_entry_data}
 use Rattle.replica.specs.State.{JoinedData}
-use Rattle.replica.specs.Fetching.{Installs, InstallsFetched}
+use Rattle.replica.specs.Fetching.{InstallsFetched}
+use Rattle.desk.specs.Fetching.{Installs}
 use Rattle.replica.proofs.joined.Joined.install.Goals as goal
 
 pub returns-clause-ok : goal.returns-clause-ok

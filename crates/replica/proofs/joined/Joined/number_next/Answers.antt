@@ -1,5 +1,5 @@
-use Rattle.replica.specs.Waiting.{unnumbered}
-use Rattle.replica.proofs.WaitingKept.{as_many}
+use Rattle.desk.specs.Waiting.{unnumbered}
+use Rattle.desk.proofs.WaitingKept.{as_many}
 use Rattle.replica.proofs.joined.Joined.number_next.Goals as goal
 
 pub say_batch-requires-clause-few : goal.say_batch-requires-clause-few

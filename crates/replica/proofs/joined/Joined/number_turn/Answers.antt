@@ -1,6 +1,6 @@
 use Rattle.std.proofs.Common.{rules, ◌≤◌, length, subst, arith}
 use Rattle.replica.specs.State.{JoinedData, AreOne}
-use Rattle.replica.specs.Waiting.{unnumbered}
+use Rattle.desk.specs.Waiting.{unnumbered}
 use Rattle.replica.proofs.NumbersGiven.{gives_number}
 use Rattle.replica.proofs.joined.Joined.number_turn.Goals as goal
 

@@ -1,6 +1,6 @@
 use Rattle.std.proofs.Common.{rules, ◌≡◌, Bool, ap, subst, arith}
 use Rattle.replica.specs.State.{JoinedData}
-use Rattle.replica.specs.Waiting.{count_unnumbered}
+use Rattle.desk.specs.Waiting.{count_unnumbered}
 use Rattle.replica.specs.NumbersNext.{NumbersTurn}
 use Rattle.replica.proofs.NumbersGiven.{none_given, one_given, numbers_stop, numbers_end}
 use Rattle.replica.proofs.joined.Joined.number_waiting.Goals as goal

@@ -1,7 +1,7 @@
 use Rattle.std.proofs.Common.{List, subst}
 use Rattle.events.specs.declared.output.Output.{Output}
 use Rattle.replica.specs.State.{JoinedData}
-use Rattle.replica.specs.Fetching.{GivesPart}
+use Rattle.desk.specs.Fetching.{GivesPart}
 use Rattle.replica.proofs.Answering.{answers}
 use Rattle.replica.proofs.joined.Joined.on_fetch.Goals as goal
 

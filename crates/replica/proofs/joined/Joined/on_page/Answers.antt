@@ -5,9 +5,10 @@ use Rattle.replica.specs.declared.taking.Touched.TheVariants as touched
 use Rattle.replica.specs.State.{JoinedData}
 use Rattle.replica.specs.JoinedView.{joined_data}
 use Rattle.replica.specs.Entering.{TakesMessage}
-use Rattle.replica.specs.Fetching.{AsksOn, InstallsFetched, TakesPage}
+use Rattle.replica.specs.Fetching.{AsksOn, InstallsFetched}
+use Rattle.desk.specs.Fetching.{TakesPage}
 use Rattle.replica.proofs.PartsEnd.{page_installs, page_ends}
-use Rattle.replica.specs.declared.open_transfer.Taken.{Taken}
+use Rattle.desk.specs.declared.open_transfer.Taken.{Taken}
 use Rattle.replica.proofs.Parts.{page_dropped, page_asked}
 use Rattle.replica.proofs.joined.Joined.on_page.Goals as goal
 

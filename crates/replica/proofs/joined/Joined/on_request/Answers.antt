@@ -1,11 +1,13 @@
 use Rattle.std.proofs.Common.{List, ap, ◌∙◌, subst}
 use Rattle.events.specs.declared.output.Output.{Output}
-use Rattle.replica.specs.State.{DeskData, JoinedData}
+use Rattle.replica.specs.State.{JoinedData}
+use Rattle.desk.specs.State.{DeskData}
 use Rattle.replica.specs.JoinedView.{joined_data}
 use Rattle.replica.specs.declared.taking.Touched.TheVariants as touched
-use Rattle.replica.specs.declared.arriving.Arrival.TheVariants as arrivals
-use Rattle.replica.specs.Desking.{HasReply, PaysAgain, Waits}
-use Rattle.replica.specs.Arriving.{IsArrival}
+use Rattle.desk.specs.declared.arriving.Arrival.TheVariants as arrivals
+use Rattle.replica.proofs.Desking.{PaysAgain, pays_kept}
+use Rattle.desk.specs.Desking.{HasReply, Waits}
+use Rattle.desk.specs.Arriving.{IsArrival}
 use Rattle.replica.specs.Entering.{TakesRequest}
 use Rattle.replica.proofs.Requests.{all_again, request_kept, request_past, request_again, request_new}
 use Rattle.replica.proofs.joined.Joined.on_request.Goals as goal
@@ -21,7 +23,8 @@ returns-then-branch-clause-ok c =
     subst (λ (a : JoinedData). TakesRequest client time frame a touched.Nothing new outs) c.self.view_is
     (request_kept (joined_data c.self.inside) client time frame new outs c.self.invariant
     (ap (λ (x : DeskData). joined_data (record c.self.inside { desk = x })) c.in_ok-reply_again.ensures.same)
-    (subst (λ (x : List Output). PaysAgain d client time x outs) c.requires.first c.in_ok-reply_again.ensures.pays)
+    (subst (λ (x : List Output). PaysAgain d client time x outs) c.requires.first
+    (pays_kept d client time c.args.outputs.now.items outs (c.in_ok-reply_again.ensures.again c.if-branch.true)))
     (subst (HasReply d client time) c.if-branch.true c.in_ok-reply_again.ensures.has))
 
 pub returns-in-Past-clause-ok : goal.returns-in-Past-clause-ok

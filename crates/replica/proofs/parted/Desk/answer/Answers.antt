@@ -1,8 +1,9 @@
 use Rattle.std.proofs.Common.{List, Option, Some, ap, sym, ◌∙◌, subst}
 use Rattle.events.specs.declared.output.Output.{Output}
 use Rattle.replica.specs.PartedView.{desk_part}
-use Rattle.replica.specs.Reading.{AnswersBytes}
-use Rattle.replica.specs.State.{DeskData, DeskPart}
+use Rattle.desk.specs.Reading.{AnswersBytes}
+use Rattle.replica.specs.State.{DeskPart}
+use Rattle.desk.specs.State.{DeskData}
 use Rattle.replica.specs.MemberView.{member_data}
 use Rattle.replica.proofs.Results.{on_ok}
 use Rattle.replica.proofs.ReadsLead.{read_leads, read_sends}

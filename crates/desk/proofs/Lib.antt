@@ -1,0 +1,8 @@
+pub mod Newest
+pub mod KeptStates
+pub mod Listing
+pub mod WaitingKept
+pub mod BegunCalls
+pub mod SameBodies
+pub mod Running
+pub mod ReadsAnswered

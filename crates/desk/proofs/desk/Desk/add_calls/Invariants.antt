@@ -1,0 +1,5 @@
+use Rattle.desk.proofs.BegunCalls.{CallsLeft}
+use Rattle.desk.proofs.desk.Desk.add_calls.Given as goal
+
+abbrev pub invariant-loop-frame : goal.invariant-loop-frame
+invariant-loop-frame l = CallsLeft l.self.executed.clients l.frame-items l.fn.calls.items l.calls.items l.frame-index

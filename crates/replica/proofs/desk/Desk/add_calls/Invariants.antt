@@ -1,5 +1,0 @@
-use Rattle.replica.proofs.EnteringViews.{CallsLeft}
-use Rattle.replica.proofs.desk.Desk.add_calls.Given as goal
-
-abbrev pub invariant-loop-frame : goal.invariant-loop-frame
-invariant-loop-frame l = CallsLeft l.self.executed.clients l.frame-items l.fn.calls.items l.calls.items l.frame-index

@@ -1,7 +1,0 @@
-use Rattle.replica.specs.Waiting.{is_new}
-use Rattle.replica.proofs.WaitingKept.{kept_waits}
-use Rattle.replica.proofs.waiting.Waiting.forget.Goals as goal
-
-pub invariant_of-self : goal.invariant_of-self
-invariant_of-self c =
-    rw (c.keep_new.ensures) (kept_waits (is_new c.args.executed.now.state) (record { requests = c.self.inside.requests.items; begun = c.self.inside.begun.items }) c.self.invariant)

@@ -1,7 +1,0 @@
-use Rattle.std.proofs.Common.{◌≡◌, take}
-use Rattle.wire.specs.Views.{texts_of}
-use Rattle.replica.specs.Waiting.{all_unnumbered, texts}
-use Rattle.replica.proofs.waiting.copy_unnumbered.Given as goal
-
-abbrev pub invariant-loop-request : goal.invariant-loop-request
-invariant-loop-request l = texts_of l.frames.items ≡ texts (take 16 (all_unnumbered (take l.request-index l.requests)))
