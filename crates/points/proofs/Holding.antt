@@ -14,13 +14,13 @@ use Rattle.protocol.specs.Space.Linear.{Placing, insert_point, is_double, sorted
 use Rattle.points.specs.declared.levels.Rise.{Rise}
 use Rattle.points.specs.declared.seats.Seat.{Seat}
 use Rattle.points.specs.Places.{position_in}
-use Rattle.points.specs.Seating.{AreSeats, IsRead, entry_read, seat_reads, with_read}
+use Rattle.points.specs.Seating.{AreSeats, EndsNone, IsRead, entry_read, seat_reads, with_read}
 use Rattle.points.specs.declared.sorting.CallKey.{CallKey}
 use Rattle.points.specs.declared.point.Placed.{Placed}
 use Rattle.points.specs.declared.sorting.Key.{Key}
 use Rattle.points.specs.declared.sorting.Reads.{Reads}
 use Rattle.points.specs.PointView.{placing_of, placings_of}
-use Rattle.points.specs.Sorting.{call_cmp, sorted_of, AddsRead, AreCallsOf, AreRankedAbove, HoldsReads, MergesInto}
+use Rattle.points.specs.Sorting.{call_cmp, sorted_of, AddsEnded, AddsRead, AreCallsOf, AreRankedAbove, HoldsReads, MergesInto}
 use Rattle.points.proofs.Ordering.{equal}
 
 one : (a b : ℕ) (o : Ordering) → is_eq (ordering_then (nat_cmp a b) o) ≡ ((a == b) && is_eq o)
@@ -140,10 +140,17 @@ pub holds_less : (low bound : ℕ) (reads : List Placing) (held : Reads) → low
 holds_less low bound reads held l h = record { sorted = h.sorted; ranked = λ r m. h.ranked r (omega arith); calls = h.calls }
 
 -- after one more entry
-pub reads_on : (m ring : Membership) (found : List Rise) (past : List Entry) (e : Entry) (seats : List (ℕ × Seat)) (old new : Reads) (rank bound : ℕ) (read : Option Placing)
-    → ring ≡ m → IsRead ring found seats e read → AreSeats past seats → rank + 1 ≡ bound → AddsRead rank read old new
+pub ended_on : (m ring : Membership) (found : List Rise) (past : List Entry) (e : Entry) (seats : List (ℕ × Seat)) (old new : Reads) (rank bound : ℕ)
+    → ring ≡ m → AddsEnded ring found seats e rank old new → AreSeats past seats → rank + 1 ≡ bound
     → HoldsReads bound (seat_reads m (position_in found) past) old → HoldsReads rank (seat_reads m (position_in found) (e ∷ past)) new
-reads_on m ring found past e seats old new rank bound read same is at next adds h =
-    subst (λ r. HoldsReads rank (with_read r (seat_reads m (position_in found) past)) new)
-    (is past at ∙ ap (λ (x : Membership). entry_read x (position_in found) past e) same)
-    (adds (seat_reads m (position_in found) past) (subst (λ b. HoldsReads b (seat_reads m (position_in found) past) old) (sym next) h))
+ended_on m ring found past e seats old new rank bound same adds at next h =
+    subst (λ r. HoldsReads rank (with_read r (seat_reads m (position_in found) past)) new) (ap (λ (x : Membership). entry_read x (position_in found) past e) same)
+    (adds past at (seat_reads m (position_in found) past) (subst (λ b. HoldsReads b (seat_reads m (position_in found) past) old) (sym next) h))
+
+-- an entry that ends no read adds none
+pub adds_not : (m : Membership) (found : List Rise) (seats : List (ℕ × Seat)) (e : Entry) (rank : ℕ) (held : Reads) → EndsNone e → AddsEnded m found seats e rank held held
+adds_not m found seats e rank held none past at = subst (λ r. AddsRead rank r held held) (none m (position_in found) past) (adds_none rank held)
+
+pub adds_ended : (m : Membership) (found : List Rise) (seats : List (ℕ × Seat)) (e : Entry) (rank : ℕ) (read : Option Placing) (old new : Reads)
+    → IsRead m found seats e read → AddsRead rank read old new → AddsEnded m found seats e rank old new
+adds_ended m found seats e rank read old new is adds past at = subst (λ r. AddsRead rank r old new) (is past at) adds

@@ -1,6 +1,6 @@
 -- The number of a reply.
-use Rattle.std.proofs.Common.{◌≡◌, ℕ, ◌+◌, ◌<◌, ◌⊎◌, inl, inr, Bool, true, false, ◌&&◌, Option, None, refl, sym, ap, ap₂, ◌∙◌, arith, eq-eqb}
-use Rattle.std.specs.Prelude.{◌==◌, option_and_then, option_map}
+use Rattle.std.proofs.Common.{◌≡◌, ℕ, ◌+◌, ◌<◌, ◌⊎◌, inl, inr, Bool, true, false, ◌&&◌, Option, None, refl, sym, ap, ap₂, ◌∙◌, subst, arith, eq-eqb, Some, List}
+use Rattle.std.specs.Prelude.{◌==◌, option_and_then, option_map, slice_index}
 use Rattle.std.specs.Bool.{then_some}
 use Rattle.std.proofs.lemmas.Bool.{cases_order, ne_eqb}
 use Rattle.terms.specs.declared.order.Mode.TheVariants as modes
@@ -9,11 +9,15 @@ use Rattle.tuple_codec.specs.OperationView.{outcome_of}
 use Rattle.wire.specs.declared.messages.Message.{Message}
 use Rattle.wire.specs.declared.messages.Message.TheVariants as messages
 use Rattle.wire.specs.declared.messages.Reply.{Reply}
-use Rattle.wire.specs.Messages.{BodyData}
+use Rattle.wire.specs.Messages.{AuthenticatorData, BodyData, MessageData, request, pre_prepare, prepare, commit, checkpoint, view_change, new_view, reply, fetch, meta, page}
+use Rattle.wire.specs.Spelling.{frame_spelling}
 use Rattle.wire.specs.Views.{message_data}
 use Rattle.protocol.specs.System.Frames.{same_mode}
 use Rattle.protocol.specs.Client.RightClient.{Vote}
-use Rattle.points.specs.Seating.{answers, number_in}
+use Rattle.authenticator.specs.Membership.{Membership}
+use Rattle.signing.specs.Heard.{heard}
+use Rattle.signing.proofs.Heard.{heard_was_opened}
+use Rattle.points.specs.Seating.{answers, number_in, read_number}
 
 abbrev pub said_by : ℕ → Message → BodyData
 said_by s m = record { sender = s; message = message_data m }
@@ -67,3 +71,38 @@ none_said p t s (messages.NewView r) n = refl
 none_said p t s (messages.Fetch r) n = refl
 none_said p t s (messages.Meta r) n = refl
 none_said p t s (messages.Page r) n = refl
+
+-- ---- the byte of the kind
+
+-- A frame whose byte 17 isn't that of reads is no read-only reply: a reply has its kind there.
+kinded : (p t s : ℕ) (x : MessageData) (a : AuthenticatorData) → (slice_index (frame_spelling (record { body = record { sender = s; message = x }; authenticator = a })) 17 == 1) ≡ false
+    → None ≡ number_in p t (record { sender = s; message = x })
+kinded p t s (reply client timestamp modes.ReadOnly number outcome) a e = absurd cc
+kinded p t s (reply client timestamp modes.Ordered number outcome) a e = go _
+  where
+    v : Vote
+    v = record { mode = modes.Ordered; number = number; answer = outcome }
+
+    go : (b : Bool) → None ≡ option_and_then (λ (w : Vote). then_some (same_mode w.mode modes.ReadOnly) w.number) (then_some b v)
+    go true = refl
+    go false = refl
+kinded p t s (request timestamp mode operation) a e = refl
+kinded p t s (pre_prepare view number batch) a e = refl
+kinded p t s (prepare view number digest) a e = refl
+kinded p t s (commit view number digest) a e = refl
+kinded p t s (checkpoint number root) a e = refl
+kinded p t s (view_change v) a e = refl
+kinded p t s (new_view n) a e = refl
+kinded p t s (fetch number level index) a e = refl
+kinded p t s (meta number level index digests) a e = refl
+kinded p t s (page number index text) a e = refl
+
+pub none_kinded : (m : Membership) (p t : ℕ) (bytes : List ℕ) → (slice_index bytes 17 == 1) ≡ false → None ≡ read_number m p t bytes
+none_kinded m p t bytes kind = go (heard m p bytes) refl
+  where
+    go : (o : Option BodyData) → heard m p bytes ≡ o → None ≡ option_and_then (number_in p t) o
+    go None e = refl
+    go (Some body) e =
+        let was = heard_was_opened m p bytes body e in
+        let same : (slice_index (frame_spelling was.frame) 17 == 1) ≡ false = sym (ap (λ bs. slice_index bs 17 == 1) was.opens.spelled.spelled) ∙ kind in
+        subst (λ b. None ≡ number_in p t b) was.body_is (kinded p t was.frame.body.sender was.frame.body.message was.frame.authenticator same)

@@ -128,6 +128,10 @@ abbrev pub IsRead : Membership → List Rise → List (ℕ × Seat) → Entry �
 IsRead m found seats e read =
     (past : List Entry) → AreSeats past seats → read ≡ entry_read m (position_in found) past e
 
+-- the entry ends no read, whatever came before
+abbrev pub EndsNone : Entry → Type 0
+EndsNone e = (m : Membership) (at : ℕ → ℕ) (past : List Entry) → None ≡ entry_read m at past e
+
 -- an entry leads from seats to seats
 abbrev pub Notes : ℕ → Entry → List (ℕ × Seat) → List (ℕ × Seat) → Type 0
 Notes position e old new =

@@ -14,7 +14,12 @@ use Rattle.points.specs.declared.sorting.Key.{Key}
 use Rattle.points.specs.declared.sorting.CallKey.{CallKey}
 use Rattle.points.specs.declared.sorting.Reads.{Reads}
 use Rattle.points.specs.PointView.{placing_of}
-use Rattle.points.specs.Seating.{with_read}
+use Rattle.points.specs.Places.{position_in}
+use Rattle.points.specs.Seating.{AreSeats, entry_read, with_read}
+use Rattle.points.specs.declared.levels.Rise.{Rise}
+use Rattle.points.specs.declared.seats.Seat.{Seat}
+use Rattle.authenticator.specs.Membership.{Membership}
+use Rattle.protocol.specs.System.Trace.{Entry}
 
 abbrev pub ordered_key : ℕ → Placing → Key
 ordered_key rank x =
@@ -74,6 +79,11 @@ pub record HoldsReads (bound : ℕ) (reads : List Placing) (held : Reads) : Type
 abbrev pub AddsRead : ℕ → Option Placing → Reads → Reads → Type 0
 AddsRead rank read old new =
     (reads : List Placing) → HoldsReads (rank + 1) reads old → HoldsReads rank (with_read read reads) new
+
+-- the read that an entry ends, if it ends one, leads from the earlier reads to the later ones
+abbrev pub AddsEnded : Membership → List Rise → List (ℕ × Seat) → Entry → ℕ → Reads → Reads → Type 0
+AddsEnded m found seats e rank old new =
+    (past : List Entry) → AreSeats past seats → AddsRead rank (entry_read m (position_in found) past e) old new
 
 -- the points are these ordered ones, without those of reads, and the reads, sorted
 abbrev pub MergesInto : Reads → List Placing → List Placing → Type 0

@@ -1,6 +1,6 @@
 //! The reads that clients accepted by read-only replies.
 
-ghost use Rattle.std.specs.Prelude.{◌≡◌, ◌+◌, ◌^◌, IfOk, option_map, reverse};
+ghost use Rattle.std.specs.Prelude.{◌≡◌, ◌+◌, ◌^◌, ◌==◌, IfOk, IsFalse, OnOk, option_map, reverse, slice_index};
 ghost use Rattle.tuple_codec.specs.OperationView.{outcome_of};
 ghost use Rattle.wire.specs.Views.{body_data};
 ghost use Rattle.signing.specs.Heard.{heard};
@@ -8,8 +8,8 @@ ghost use Rattle.protocol.specs.System.Configuration.{members};
 ghost use Rattle.points.specs.Places.{position_in};
 ghost use Rattle.points.specs.PointView.{placing_of};
 ghost use Rattle.protocol.specs.System.Frames.{same_mode};
-ghost use Rattle.points.specs.Seating.{IsRead, answers, number_in, read_number, seat_data, seat_read, seat_reads};
-ghost use Rattle.points.specs.Sorting.{HoldsReads};
+ghost use Rattle.points.specs.Seating.{EndsNone, IsRead, answers, number_in, read_number, seat_data, seat_read, seat_reads};
+ghost use Rattle.points.specs.Sorting.{AddsEnded, AreRankedAbove, HoldsReads};
 
 use crate::places::Places;
 use crate::point::{Placed, Point};
@@ -23,6 +23,13 @@ use std::collections::BTreeMap;
 use terms::{ClientId, Mode, NoMemory, Number, Party, Timestamp};
 use tuple_codec::Answer;
 use wire::{Body, Message, Reply};
+
+/// The place of a reply's kind in its frame: behind four bytes of length, one of type, two of its sender, two of its
+/// client and eight of its timestamp.
+const KIND_PLACE: usize = 17;
+
+/// The byte of the kind of reads.
+const READ_KIND: u8 = 1;
 
 /// The reads that clients accepted by read-only replies, in a trace whose oldest entry stands first.
 pub(crate) fn find_reads(
@@ -39,11 +46,48 @@ pub(crate) fn find_reads(
     let mut seats = BTreeMap::new(alloc);
     let mut reads = Reads::new(alloc);
     for (position, entry) in trace.iter().enumerate() {
-        let read = read_ended(alloc, &mut ring, &publics, places, &seats, entry)?;
-        reads.add(usize::MAX - position, read)?;
+        let rank = usize::MAX - position;
+        add_ended(
+            alloc, &mut ring, &publics, places, &seats, entry, rank, &mut reads,
+        )?;
         note(&mut seats, position, entry)?;
     }
     Ok(reads)
+}
+
+// Adds the read that an entry ends, if it ends one, with a rank below those before.
+fn add_ended(
+    alloc: Global,
+    ring: &mut Ring,
+    publics: &PublicKeys,
+    places: &Places,
+    seats: &Seats<'_>,
+    entry: &Entry,
+    rank: usize,
+    reads: &mut Reads,
+) -> Result<(), NoMemory>
+    requires keys { publics.now ≡ ring.old.seed }
+    requires ranked { AreRankedAbove rank reads.old.sorted.entries }
+    ensures adds { OnOk result (AddsEnded ring.old (reverse places.now.rises.items)
+        seats.now.entries entry.now rank reads.old reads.new) }
+    ensures same { ring.new ≡ ring.old }
+{
+    // Few entries end a read. The others go by without the room that a read takes.
+    if !may_end(entry) {
+        return Ok(());
+    }
+    let read = read_ended(alloc, ring, publics, places, seats, entry)?;
+    reads.add(rank, read)
+}
+
+// Whether an entry may end a read: only acceptances do.
+fn may_end(entry: &Entry) -> bool
+    ensures { IsFalse result → EndsNone entry.now }
+{
+    match entry.kind() {
+        EntryKind::Accepted(_, _, _) => true,
+        _ => false,
+    }
 }
 
 // The read that an entry ends.
@@ -127,9 +171,22 @@ fn read_number(
         ≡ read_number ring.old (256 + client.number) timestamp.0 bytes.now) }
     ensures same { ring.new ≡ ring.old }
 {
+    if !has_read_kind(bytes) {
+        return Ok(None);
+    }
     match hear_body(alloc, ring, publics, client, bytes)? {
         None => Ok(None),
         Some(body) => Ok(number_in(body, client, timestamp)),
+    }
+}
+
+// Whether the byte at which a reply has its kind is that of reads. Other replies are not opened.
+fn has_read_kind(bytes: &[u8]) -> bool
+    ensures { result ≡ slice_index bytes.now 17 == 1 }
+{
+    match bytes.get(KIND_PLACE) {
+        Some(kind) => *kind == READ_KIND,
+        None => false,
     }
 }
 

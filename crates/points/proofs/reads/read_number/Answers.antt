@@ -1,6 +1,7 @@
 use Rattle.std.proofs.Common.{◌+◌, sym, ap, ◌∙◌}
 use Rattle.std.specs.Prelude.{option_and_then}
 use Rattle.points.specs.Seating.{number_in}
+use Rattle.points.proofs.Replying.{none_kinded}
 use Rattle.points.proofs.reads.read_number.Goals as goal
 
 pub returns-in-None-clause-number : goal.returns-in-None-clause-number
@@ -9,3 +10,7 @@ returns-in-None-clause-number c = sym (ap (option_and_then (number_in (256 + c.a
 pub returns-in-Some-clause-number : goal.returns-in-Some-clause-number
 returns-in-Some-clause-number c =
     c.number_in.ensures ∙ sym (ap (option_and_then (number_in (256 + c.args.client.number) c.args.timestamp.0)) (rw c.in-Some.is at c.in_ok-hear_body.ensures.heard))
+
+pub returns-then-not-has_read_kind-clause-number : goal.returns-then-not-has_read_kind-clause-number
+returns-then-not-has_read_kind-clause-number c =
+    none_kinded c.args.ring.now (256 + c.args.client.number) c.args.timestamp.0 c.args.bytes.now (sym c.has_read_kind.ensures ∙ c.if-not-has_read_kind.true)
