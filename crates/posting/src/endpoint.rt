@@ -135,7 +135,8 @@ impl Endpoint {
     /// The frame of a message, signed by the next of 64 keys, whose number is the signature's first byte. It has at
     /// most 262,144 bytes for a view change, and 4,194,304 for a new view. It may be sent any number of times.
     ///
-    /// The first call makes the tree of the keys, in some 115,000 blocks of SHA-256, and keeps it.
+    /// The first call makes the tree of the keys, in some 115,000 blocks of SHA-256, and keeps it. So nobody who shares
+    /// the public keys derives this replica's.
     ///
     /// # Errors
     ///
@@ -154,7 +155,10 @@ impl Endpoint {
         ensures spent { (result ≡ Err PostFault.KeysSpent) ↔ (self.old.used ≡ 64) }
         ensures large { (result ≡ Err PostFault.TooLarge) ↔ IsTooLongToSign self.old (message_data message) }
     {
-        sign_message(&mut self.signer, alloc, self.me, message)
+        let frame = sign_message(&mut self.signer, alloc, self.me, message)?;
+        self.publics
+            .keep(Party::Replica(self.me), self.signer.public());
+        Ok(frame)
     }
 
     /// The output of a signed frame, for all other replicas. NoMemory if memory runs out.

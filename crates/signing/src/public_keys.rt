@@ -31,13 +31,13 @@ struct Derived {
 }
 
 impl Derived {
-    fn new(seed: &[u8; 32], signer: Party) -> Derived
-        ensures { result.key ≡ public_key_of seed.now signer }
+    fn new(seed: &[u8; 32], signer: Party, key: [u8; 32]) -> Derived
+        requires { key ≡ public_key_of seed.now signer }
     {
         Derived {
             seed: *seed,
             signer: signer.number(),
-            key: KeyTree::new(&signing_seed(seed, signer)).public(),
+            key,
         }
     }
 
@@ -54,8 +54,8 @@ impl Derived {
 }
 
 /// The public keys of the replicas of one configuration. Each is derived from the configuration's seed when it first
-/// verifies a text, which takes as long as a tree of keys. Then it is kept for all owners of these keys, in any
-/// threads. If two threads first need it at once, each derives it.
+/// verifies a text, which takes as long as a tree of keys. It is not derived if its signer handed it in before. Then it
+/// is kept for all owners of these keys, in any threads. If two threads first need it at once, each derives it.
 #[derive(Drop)]
 pub struct PublicKeys {
     seed: [u8; 32],
@@ -127,14 +127,22 @@ impl PublicKeys {
         place.get()?.key_of(&self.seed, signer)
     }
 
-    // Derives a key and keeps it, unless another thread did so meanwhile or no replica has this number.
+    // Derives a key and keeps it.
     fn derive(&self, signer: Party) -> [u8; 32]
         ensures { result ≡ public_key_of self.now signer }
     {
-        let derived = Derived::new(&self.seed, signer);
+        let key = KeyTree::new(&signing_seed(&self.seed, signer)).public();
+        self.keep(signer, key);
+        key
+    }
+
+    /// Keeps the public key of a replica, which its signer knows, for all owners. Nothing is kept if another owner did
+    /// so before or no replica has this number.
+    pub fn keep(&self, signer: Party, key: [u8; 32])
+        requires { key ≡ public_key_of self.now signer }
+    {
         if let Some(place) = self.kept.get(usize::from(signer.number())) {
-            let _ = place.try_set(derived);
+            let _ = place.try_set(Derived::new(&self.seed, signer, key));
         }
-        derived.key
     }
 }
