@@ -11,7 +11,7 @@ use terms::{NoMemory, Party, ReplicaId};
 pub(crate) fn only(alloc: Global, party: Party) -> Result<Vec<Party>, NoMemory>
     ensures { IfOk result (λ parties. numbers parties.items ≡ party_number party ∷ []) }
 {
-    let mut parties = Vec::new(alloc);
+    let mut parties = Vec::with_capacity(alloc, 1)?;
     parties.push(party)?;
     Ok(parties)
 }
@@ -25,7 +25,7 @@ pub(crate) fn other_replicas(
 ) -> Result<Vec<Party>, NoMemory>
     ensures { IfOk result (λ parties. numbers parties.items ≡ others_below count me.0) }
 {
-    let mut parties = Vec::new(alloc);
+    let mut parties = Vec::with_capacity(alloc, usize::from(count))?;
     for other in 0..count {
         if other != me.0 {
             add_replica(&mut parties, other)?;
