@@ -3,12 +3,13 @@
 use crate::fault::ScheduleFault;
 use command_line::Printed;
 use events::{Config, Entry};
+use itoa::Buffer;
 use one_space::{PieceEnd, drop_return, read_piece};
 use picture::write_picture;
 use schedule_text::{Step, StepFault, read_step};
 use schedule_world::{Acceptance, Point, Report, RunFault, run};
 use std::alloc::Global;
-use std::io::{self, BufReader, Read, Write};
+use std::io::{BufReader, Read, Write};
 use terms::{ClientId, Timestamp};
 use trace_text::write_entry;
 use tuple_codec::Answer;
@@ -192,7 +193,8 @@ fn write_trace<W: Write>(
     writer: &mut W,
 ) -> Result<(), ScheduleFault> {
     for (position, entry) in trace.iter().enumerate() {
-        held(write!(text, "{position} "))?;
+        put_number("", position as u64, text)?;
+        text.push(b' ')?;
         write_entry(alloc, entry, text)?;
         text.push(b'\n')?;
         if text.len() >= HELD {
@@ -214,13 +216,14 @@ fn write_report<W: Write>(
         put_point(point, text)?;
     }
     let len = report.trace.len();
-    held(writeln!(text, "trace {len}"))?;
+    put_number("trace ", len as u64, text)?;
+    text.push(b'\n')?;
     write_out(text, writer)
 }
 
 fn put_acceptance(acceptance: &Acceptance, text: &mut Vec<u8>) -> Result<(), ScheduleFault> {
     let position = acceptance.position;
-    held(write!(text, "accepted {position} "))?;
+    put_number("accepted ", position as u64, text)?;
     put_answer(
         acceptance.client,
         acceptance.timestamp,
@@ -231,7 +234,7 @@ fn put_acceptance(acceptance: &Acceptance, text: &mut Vec<u8>) -> Result<(), Sch
 
 fn put_point(point: &Point, text: &mut Vec<u8>) -> Result<(), ScheduleFault> {
     let position = point.position;
-    held(write!(text, "point {position} "))?;
+    put_number("point ", position as u64, text)?;
     put_answer(point.client, point.timestamp, &point.answer, text)
 }
 
@@ -241,19 +244,20 @@ fn put_answer(
     answer: &Answer<Global>,
     text: &mut Vec<u8>,
 ) -> Result<(), ScheduleFault> {
-    let (client, time) = (client.number, timestamp.0);
-    held(write!(text, "client {client} time {time} "))?;
+    put_number(" client ", u64::from(client.number), text)?;
+    put_number(" time ", timestamp.0, text)?;
+    text.push(b' ')?;
     write_answer(answer, text)?;
     text.push(b'\n')?;
     Ok(())
 }
 
-// Adding to the held text can only fail for memory.
-fn held(written: io::Result<()>) -> Result<(), ScheduleFault> {
-    match written {
-        Ok(()) => Ok(()),
-        Err(_) => Err(ScheduleFault::NoMemory),
-    }
+// Adds a word, and a number in decimal digits.
+fn put_number(word: &str, number: u64, text: &mut Vec<u8>) -> Result<(), ScheduleFault> {
+    let mut buffer = Buffer::new();
+    text.extend_from_slice(word.as_bytes())?;
+    text.extend_from_slice(buffer.format(number).as_bytes())?;
+    Ok(())
 }
 
 // Writes the held text.
