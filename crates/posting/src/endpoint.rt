@@ -155,10 +155,9 @@ impl Endpoint {
         ensures spent { (result ≡ Err PostFault.KeysSpent) ↔ (self.old.used ≡ 64) }
         ensures large { (result ≡ Err PostFault.TooLarge) ↔ IsTooLongToSign self.old (message_data message) }
     {
-        let frame = sign_message(&mut self.signer, alloc, self.me, message)?;
-        self.publics
-            .keep(Party::Replica(self.me), self.signer.public());
-        Ok(frame)
+        let public = self.signer.public();
+        self.publics.keep(Party::Replica(self.me), public);
+        sign_message(&mut self.signer, alloc, self.me, message)
     }
 
     /// The output of a signed frame, for all other replicas. NoMemory if memory runs out.

@@ -11,9 +11,10 @@ pub returns-clause-frame : goal.returns-clause-frame
 returns-clause-frame c =
     rw (← c.self.view_is)
     (signs_own c.sign_message.result c.self.inside.ring c.self.inside.signer.seed c.self.inside.me.0 c.self.inside.signer.used (message_data c.args.message)
-    c.sign_message.ensures.spells c.self.invariant.5)
+    (rw (← c.public-public.ensures.same) c.sign_message.ensures.spells) c.self.invariant.5)
 
 pub returns-clause-leaf : goal.returns-clause-leaf
 returns-clause-leaf c =
     rw (← c.self.view_is)
-    (signs_by c.sign_message.result c.self.inside.signer.seed c.self.inside.signer.used (says c.self.inside.me.0 (message_data c.args.message)) c.sign_message.ensures.spells)
+    (signs_by c.sign_message.result c.self.inside.signer.seed c.self.inside.signer.used (says c.self.inside.me.0 (message_data c.args.message))
+    (rw (← c.public-public.ensures.same) c.sign_message.ensures.spells))
