@@ -68,9 +68,12 @@ in_stored_send : IsSend in_stored.the_row
 in_stored_send = declared_send in_stored.the_type (
   vec_field (Tuple entry_parts) entry_send,
   (
-    as_row_send (row_field _) (map_send u64 usize (hashing.the_row folding.the_row) heap.the_row folding.the_row _ _ _ _ _
-        (search sendable) (search sendable) (hashing_send folding.the_row (search (sendable, folding_send))) heap_send heap_frees),
-    tt,
+    vec_field u64 (search sendable),
+    (
+      as_row_send (row_field _) (map_send u64 usize (hashing.the_row folding.the_row) heap.the_row folding.the_row _ _ _ _ _
+          (search sendable) (search sendable) (hashing_send folding.the_row (search (sendable, folding_send))) heap_send heap_frees),
+      tt,
+    ),
   ),
 )
 
