@@ -15,7 +15,7 @@ use crate::open_transfer::OpenTransfer;
 use crate::snapshots::Snapshots;
 use crate::waiting::Waiting;
 use authenticator::{Ring, SealFault};
-use events::{Config, Output, Outputs, Stop, give};
+use events::{Config, Output, Outputs, SharedBytes, Stop, give};
 use execution::{Executed, Ran};
 use posting::{reply_message, seal_for_one};
 use std::alloc::Global;
@@ -128,8 +128,9 @@ impl Desk {
         let ran = executed.execute(text)?;
         self.keep_due()?;
         let copy = Vec::from_slice(alloc, text)?;
+        let batch = SharedBytes::new(copy)?;
         let executed = &*self.executed;
-        give(outputs, Output::Executed(executed.number(), copy))?;
+        give(outputs, Output::Executed(executed.number(), batch))?;
         self.waiting.forget(executed);
         self.close_reached();
         Ok(ran)

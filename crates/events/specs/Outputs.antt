@@ -14,7 +14,7 @@ use Rattle.protocol.specs.System.Trace.Entry.{Executed, Installed, Sent, Accepte
 
 -- an output of the party
 abbrev pub entry_of : ℕ → Output → Entry
-entry_of me (outputs.Executed number batch) = Executed me number.0 batch.items
+entry_of me (outputs.Executed number batch) = Executed me number.0 batch
 entry_of me (outputs.Installed number root) = Installed me number.0 root
 entry_of me (outputs.Send receivers frame) = Sent me frame
 entry_of me (outputs.Accepted timestamp answer) = Accepted (me - 256) timestamp.0 (outcome_of answer)

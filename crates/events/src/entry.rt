@@ -1,31 +1,33 @@
 //! Entries of traces and histories.
 
-ghost use Rattle.std.specs.Prelude.{◌≡◌};
+ghost use Rattle.std.specs.Prelude.{◌≡◌, IfOk};
 ghost use Rattle.events.specs.EntryView.{entry_of_kind};
 
 use crate::shared_bytes::SharedBytes;
 use std::alloc::Global;
 use std::marker::Model;
-use terms::{ClientId, Digest, Number, Party, ReplicaId, Timestamp};
+use std::sync::Arc;
+use terms::{ClientId, Digest, NoMemory, Number, Party, ReplicaId, Timestamp};
 use tuple_codec::{Answer, Op};
 
-/// What happened at a party.
+/// What happened at a party. A history has many entries and keeps them all, so what is large lies in memory once and
+/// is shared.
 #[derive(Drop)]
 pub enum EntryKind {
     /// A client calls an operation.
-    Invoke(ClientId, Timestamp, Op<Global>),
+    Invoke(ClientId, Timestamp, Arc<Op<Global>>),
     /// The party received these bytes.
     Got(Party, SharedBytes),
     /// A timeout of the party.
     Tick(Party),
     /// A replica executed the batch of this text at the number.
-    Executed(ReplicaId, Number, Vec<u8>),
+    Executed(ReplicaId, Number, SharedBytes),
     /// A replica installed the state of this number and root.
-    Installed(ReplicaId, Number, Digest),
+    Installed(ReplicaId, Number, Arc<Digest>),
     /// The party sent this frame.
     Sent(Party, SharedBytes),
     /// A client accepted the answer to its call of this timestamp.
-    Accepted(ClientId, Timestamp, Answer<Global>),
+    Accepted(ClientId, Timestamp, Arc<Answer<Global>>),
 }
 
 /// An entry of a trace.
@@ -59,5 +61,34 @@ impl Entry {
         ensures says { entry_of_kind result.now ≡ self.now }
     {
         &self.kind
+    }
+    /// An equal entry, which shares what this one has. Nothing is copied, and no memory is taken. NoMemory only if
+    /// something has more owners than can be counted.
+    pub fn share(&self) -> Result<Entry, NoMemory>
+        ensures { IfOk result (λ entry. entry ≡ self.now) }
+    {
+        Ok(Entry::new(share_kind(&self.kind)?))
+    }
+}
+
+fn share_kind(kind: &EntryKind) -> Result<EntryKind, NoMemory>
+    ensures { IfOk result (λ shared. entry_of_kind shared ≡ entry_of_kind kind.now) }
+{
+    match kind {
+        EntryKind::Invoke(client, timestamp, op) => {
+            Ok(EntryKind::Invoke(*client, *timestamp, op.clone()?))
+        }
+        EntryKind::Got(party, bytes) => Ok(EntryKind::Got(*party, bytes.share()?)),
+        EntryKind::Tick(party) => Ok(EntryKind::Tick(*party)),
+        EntryKind::Executed(replica, number, batch) => {
+            Ok(EntryKind::Executed(*replica, *number, batch.share()?))
+        }
+        EntryKind::Installed(replica, number, root) => {
+            Ok(EntryKind::Installed(*replica, *number, root.clone()?))
+        }
+        EntryKind::Sent(party, bytes) => Ok(EntryKind::Sent(*party, bytes.share()?)),
+        EntryKind::Accepted(client, timestamp, answer) => {
+            Ok(EntryKind::Accepted(*client, *timestamp, answer.clone()?))
+        }
     }
 }

@@ -11,7 +11,8 @@
 //!
 //! - Each call that gives outputs promises `AreSentAsMeant` of them. A frame's bytes say for whom it is: `meant_for` of
 //!   the protocol.
-//! - A frame's bytes are [`SharedBytes`]: outputs, entries and inboxes share them, and copy none.
+//! - A frame's bytes are [`SharedBytes`]: outputs, entries and inboxes share them, and copy none. An entry has its
+//!   operation, answer or root behind an `Arc` likewise. So it is small, and [`Entry::share`] takes no memory.
 //! - `entry_of` is the entry for which an output stands (`specs/Outputs.antt`).
 #![tactic(auto)]
 

@@ -12,7 +12,7 @@ use tuple_codec::Answer;
 #[derive(Drop)]
 pub enum Output {
     /// A replica executed the batch of this text at the number.
-    Executed(Number, Vec<u8>),
+    Executed(Number, SharedBytes),
     /// A replica installed the state of this number and root.
     Installed(Number, Digest),
     /// The bytes of a frame, and its receivers.

@@ -72,18 +72,14 @@ pub(crate) fn have_ordering(entries: &[Entry]) -> bool
     entries.iter().any(|entry| orders(entry))
 }
 
-/// Appends equal entries, which share the bytes of frames, or none if memory runs out.
-pub(crate) fn add_copies(
-    alloc: Global,
-    copies: &mut Vec<Entry>,
-    entries: &[Entry],
-) -> Result<(), NoMemory>
+/// Appends equal entries, which share what these have, or none if memory runs out.
+pub(crate) fn add_shared(copies: &mut Vec<Entry>, entries: &[Entry]) -> Result<(), NoMemory>
     ensures added { OnOk result (copies.new.items ≡ copies.old.items ++ entries.now) }
     ensures none { OnErr result (copies.new.items ≡ copies.old.items) }
 {
     let before = copies.len();
     for entry in entries {
-        if add_copy(alloc, copies, entry).is_err() {
+        if add_one(copies, entry).is_err() {
             copies.truncate(before);
             return Err(NoMemory);
         }
@@ -92,17 +88,13 @@ pub(crate) fn add_copies(
 }
 
 /// The same for the entries of ordering among them.
-pub(crate) fn add_ordering(
-    alloc: Global,
-    copies: &mut Vec<Entry>,
-    entries: &[Entry],
-) -> Result<(), NoMemory>
+pub(crate) fn add_ordering(copies: &mut Vec<Entry>, entries: &[Entry]) -> Result<(), NoMemory>
     ensures added { OnOk result (copies.new.items ≡ copies.old.items ++ without_reads entries.now) }
     ensures none { OnErr result (copies.new.items ≡ copies.old.items) }
 {
     let before = copies.len();
     for entry in entries {
-        if orders(entry) && add_copy(alloc, copies, entry).is_err() {
+        if orders(entry) && add_one(copies, entry).is_err() {
             copies.truncate(before);
             return Err(NoMemory);
         }
@@ -110,42 +102,13 @@ pub(crate) fn add_ordering(
     Ok(())
 }
 
-fn add_copy(alloc: Global, copies: &mut Vec<Entry>, entry: &Entry) -> Result<(), NoMemory>
+fn add_one(copies: &mut Vec<Entry>, entry: &Entry) -> Result<(), NoMemory>
     ensures added { OnOk result (copies.new.items ≡ copies.old.items ++ entry.now ∷ []) }
     ensures none { OnErr result (copies.new.items ≡ copies.old.items) }
 {
-    let copy = copy_entry(alloc, entry)?;
-    copies.push(copy)?;
+    let entry = entry.share()?;
+    copies.push(entry)?;
     Ok(())
-}
-
-fn copy_entry(alloc: Global, entry: &Entry) -> Result<Entry, NoMemory>
-    ensures { IfOk result (λ copy. copy ≡ entry.now) }
-{
-    Ok(Entry::new(copy_kind(alloc, entry.kind())?))
-}
-
-fn copy_kind(alloc: Global, kind: &EntryKind) -> Result<EntryKind, NoMemory>
-    ensures { IfOk result (λ copy. entry_of_kind copy ≡ entry_of_kind kind.now) }
-{
-    match kind {
-        EntryKind::Invoke(client, timestamp, op) => {
-            Ok(EntryKind::Invoke(*client, *timestamp, op.copy_in(alloc)?))
-        }
-        EntryKind::Got(party, bytes) => Ok(EntryKind::Got(*party, bytes.share()?)),
-        EntryKind::Tick(party) => Ok(EntryKind::Tick(*party)),
-        EntryKind::Executed(replica, number, batch) => {
-            let batch = Vec::from_slice(alloc, batch.as_slice())?;
-            Ok(EntryKind::Executed(*replica, *number, batch))
-        }
-        EntryKind::Installed(replica, number, root) => {
-            Ok(EntryKind::Installed(*replica, *number, *root))
-        }
-        EntryKind::Sent(party, bytes) => Ok(EntryKind::Sent(*party, bytes.share()?)),
-        EntryKind::Accepted(client, timestamp, answer) => {
-            Ok(EntryKind::Accepted(*client, *timestamp, answer.copy_in(alloc)?))
-        }
-    }
 }
 
 /// Whether the entries are equal.
@@ -220,7 +183,7 @@ fn is_installed(kind: &EntryKind, replica: ReplicaId, number: Number, root: &Dig
 {
     match kind {
         EntryKind::Installed(other, count, digest) => {
-            replica.0 == other.0 && number.0 == count.0 && are_same_bytes(root, digest)
+            replica.0 == other.0 && number.0 == count.0 && are_same_bytes(root, &**digest)
         }
         _ => false,
     }

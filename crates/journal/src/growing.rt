@@ -5,18 +5,16 @@ ghost use Rattle.terms.specs.Parties.{party_number};
 ghost use Rattle.protocol.specs.System.Reads.{without_reads};
 ghost use Rattle.journal.specs.Ties.{KeepsTies};
 
-use crate::entries::{add_copies, add_ordering};
+use crate::entries::{add_ordering, add_shared};
 use crate::front::Front;
 use crate::naming::Naming;
 use crate::tie::{Tie, tie_event};
 use events::Entry;
-use std::alloc::Global;
 use std::mem;
 use terms::{NoMemory, Party};
 
 /// Appends the entries, an event of the party, to the trace and to the party's history.
 pub(crate) fn grow_both<N: Naming>(
-    alloc: Global,
     trace: &mut Vec<Entry>,
     history: &mut Vec<Entry>,
     tie: &mut Option<Tie<N>>,
@@ -32,7 +30,7 @@ pub(crate) fn grow_both<N: Naming>(
 {
     trace.reserve(entries.len())?;
     history.reserve(entries.len())?;
-    add_copies(alloc, trace, entries.as_slice())?;
+    add_shared(trace, entries.as_slice())?;
     let (longer, front) = tie_event(mem::replace(tie, None), party, &entries);
     *tie = longer;
     let _ = history.append(&mut entries);
@@ -41,7 +39,6 @@ pub(crate) fn grow_both<N: Naming>(
 
 /// The same, and appends the entries of ordering to the replica's ordering.
 pub(crate) fn grow_three<N: Naming>(
-    alloc: Global,
     trace: &mut Vec<Entry>,
     history: &mut Vec<Entry>,
     ordering: &mut Vec<Entry>,
@@ -59,8 +56,8 @@ pub(crate) fn grow_three<N: Naming>(
     ensures err_tie { OnErr result (tie.new ≡ tie.old) }
 {
     let before = ordering.len();
-    add_ordering(alloc, ordering, entries.as_slice())?;
-    match grow_both(alloc, trace, history, tie, party, entries) {
+    add_ordering(ordering, entries.as_slice())?;
+    match grow_both(trace, history, tie, party, entries) {
         Ok(front) => Ok(front),
         Err(failed) => {
             ordering.truncate(before);

@@ -24,7 +24,8 @@
 //!   events that stands in the proofs alone. The program keeps its count.
 //! - Three comparisons of numbers tell that a share has seen its party's last event. If they don't tell it, all is
 //!   compared. The tie only says where both are known to agree, so the comparison stays exact.
-//! - The trace and the shares have the bytes of a frame in common. So an append copies none under the journal's lock.
+//! - The trace and the shares have in common what an entry has: a frame, a batch, an operation or an answer. So an
+//!   append copies none of them under the journal's lock.
 //! - The law `carried_is_unforged` leads from such a trace to the headline: if no party is faulty, each frame that was
 //!   got was sent.
 #![tactic(auto)]

@@ -204,7 +204,6 @@ impl<N: Naming> Journal<N> {
     /// NoMemory if memory runs out. An error changes nothing.
     pub fn append(
         &mut self,
-        alloc: Global,
         share: &mut Share<N>,
         from: Option<u64>,
         entries: Vec<Entry>,
@@ -226,7 +225,6 @@ impl<N: Naming> Journal<N> {
         }
         let party = share.party;
         match grow_both(
-            alloc,
             &mut self.entries,
             &mut share.history,
             &mut self.tie,
@@ -249,7 +247,6 @@ impl<N: Naming> Journal<N> {
     /// As of `append`; NotInJournal also if the two shares differ.
     pub fn append_order(
         &mut self,
-        alloc: Global,
         share: &mut Share<N>,
         order: &mut OrderShare<N>,
         from: Option<u64>,
@@ -276,7 +273,6 @@ impl<N: Naming> Journal<N> {
         }
         let party = share.party;
         match grow_three(
-            alloc,
             &mut self.entries,
             &mut share.history,
             &mut order.history,

@@ -10,6 +10,7 @@ use authenticator::Ring;
 use events::{Config, Entry, EntryKind, SharedBytes};
 use journal::{AppendFault, Journal, Naming, Opened, Share};
 use std::alloc::Global;
+use std::sync::Arc;
 use std::test::Fail;
 use terms::{ClientId, Mode, NoMemory, Party, ReplicaId, Timestamp};
 use test_bytes::seed;
@@ -105,7 +106,7 @@ pub fn tick<N: Naming>(
 ) -> Result<Result<(), AppendFault>, NoMemory> {
     let party = share.party();
     share.note_right();
-    answer_of(journal.append(alloc, share, None, tick_entries(alloc, party)?))
+    answer_of(journal.append(share, None, tick_entries(alloc, party)?))
 }
 
 fn got_entries(alloc: Global, party: Party, bytes: &[u8]) -> Result<Vec<Entry>, NoMemory>
@@ -128,7 +129,7 @@ pub fn get<N: Naming>(
 ) -> Result<Result<(), AppendFault>, NoMemory> {
     let party = share.party();
     share.note_right();
-    answer_of(journal.append(alloc, share, from, got_entries(alloc, party, bytes)?))
+    answer_of(journal.append(share, from, got_entries(alloc, party, bytes)?))
 }
 
 fn all_replicas() -> [Party; 4]
@@ -172,8 +173,9 @@ fn call_entries(alloc: Global, config: &Config, client: ClientId) -> Result<Vec<
 {
     let text = first_frame(alloc, config, client)?;
     let frame = SharedBytes::new(text)?;
+    let op = Arc::new(alloc, new_op(alloc))?;
     let mut entries = Vec::new(alloc);
-    entries.push(Entry::new(EntryKind::Invoke(client, Timestamp(1), new_op(alloc))))?;
+    entries.push(Entry::new(EntryKind::Invoke(client, Timestamp(1), op)))?;
     entries.push(Entry::new(EntryKind::Sent(Party::Client(client), frame)))?;
     Ok(entries)
 }
@@ -195,5 +197,5 @@ pub fn call<N: Naming>(
         return Err(Fail::new("not the first call"));
     }
     let entries = call_entries(alloc, config, client)?;
-    Ok(answer_of(journal.append(alloc, share, None, entries))?)
+    Ok(answer_of(journal.append(share, None, entries))?)
 }

@@ -37,7 +37,7 @@ fn tick_by<N: Naming>(
 ) -> Result<Result<(), AppendFault>, NoMemory> {
     let party = share.party();
     share.note_right();
-    answer_of(journal.append_order(alloc, share, order, None, tick_entries(alloc, party)?))
+    answer_of(journal.append_order(share, order, None, tick_entries(alloc, party)?))
 }
 
 fn tick_order<N: Naming>(

@@ -52,7 +52,7 @@ fn ticked<N: Naming>(
     let party = share.party();
     share.note_right();
     match tick_of(alloc, party) {
-        Ok(entries) => journal.append(alloc, share, None, entries),
+        Ok(entries) => journal.append(share, None, entries),
         Err(NoMemory) => Err(AppendFault::NoMemory),
     }
 }

@@ -4,6 +4,7 @@ use events::{Config, Entry, EntryKind, SharedBytes};
 use hex::FromHexError;
 use picture::write_picture;
 use std::alloc::{AllocError, Global};
+use std::sync::Arc;
 use std::test::Fail;
 use terms::{ClientId, NoMemory, Number, Party, ReplicaId, Timestamp};
 use tuple_codec::{Answer, Op};
@@ -83,7 +84,7 @@ fn add_got(alloc: Global, trace: &mut Vec<Entry>, number: u8, digits: &str) -> R
 // and one mark of each other kind.
 fn trace(alloc: Global) -> Result<Vec<Entry>, Fail> {
     let mut trace = Vec::new(alloc);
-    let call = op(alloc, b"out (1)")?;
+    let call = Arc::new(alloc, op(alloc, b"out (1)")?)?;
     add(&mut trace, EntryKind::Invoke(CLIENT, Timestamp(1), call))?;
     let sent = SharedBytes::new(frame(alloc, FIRST)?)?;
     add(&mut trace, EntryKind::Sent(Party::Client(CLIENT), sent))?;
@@ -103,12 +104,14 @@ fn add_rest(alloc: Global, trace: &mut Vec<Entry>) -> Result<(), Fail> {
     add(trace, EntryKind::Tick(replica(3)))?;
     let mut null = Vec::new(alloc);
     null.push(0)?;
+    let null = SharedBytes::new(null)?;
     add(trace, EntryKind::Executed(ReplicaId(0), Number(7), null))?;
+    let root = Arc::new(alloc, [0; 32])?;
     add(
         trace,
-        EntryKind::Installed(ReplicaId(1), Number(16), [0; 32]),
+        EntryKind::Installed(ReplicaId(1), Number(16), root),
     )?;
-    let answer = found(alloc, b"out (\"<&>\")")?;
+    let answer = Arc::new(alloc, found(alloc, b"out (\"<&>\")")?)?;
     Ok(add(trace, EntryKind::Accepted(CLIENT, Timestamp(1), answer))?)
 }
 

@@ -27,6 +27,7 @@ use events::{Config, Entry, EntryKind, Output, Outputs, SharedBytes};
 use replica::{Event, Replica};
 use signing::PublicKeys;
 use std::alloc::Global;
+use std::sync::Arc;
 use terms::{ClientId, NoMemory, Party, ReplicaId, Timestamp};
 use tuple_codec::{Answer, Op};
 
@@ -96,6 +97,7 @@ impl Stage {
         ensures comes { OnOk result (CallComes config.now client.number (operation_of op) self.old self.new) }
     {
         let (timestamp, outputs) = self.invoke(alloc, client, op)?;
+        let told = Arc::new(alloc, told)?;
         self.add(config, EntryKind::Invoke(client, timestamp, told))?;
         self.add_outputs(alloc, config, Party::Client(client), outputs)?;
         Ok(())
@@ -406,6 +408,7 @@ impl Stage {
                 self.add(config, EntryKind::Executed(replica, number, batch))
             }
             (Party::Replica(replica), Output::Installed(number, root)) => {
+                let root = Arc::new(alloc, root)?;
                 self.add(config, EntryKind::Installed(replica, number, root))
             }
             (Party::Client(client), Output::Accepted(timestamp, answer)) => {
@@ -452,6 +455,7 @@ impl Stage {
             answer: answer.copy_in(alloc)?,
         };
         self.accepted.push(acceptance)?;
+        let answer = Arc::new(alloc, answer)?;
         self.trace
             .push(Entry::new(EntryKind::Accepted(client, timestamp, answer)))?;
         Ok(())

@@ -7,8 +7,6 @@ use Rattle.std.specs.contracts.alloc.Global as heap
 use Rattle.std.below.std_heap.specs.contracts.GlobalAllocator.TheImpl.{ghosts}
 use Rattle.std.specs.contracts.sync.Arc as arc
 use Rattle.std.specs.contracts.vec.Vec as vec
-use Rattle.std.proofs.alloc.Global.TheSendSync.{the_sync as global_sync}
-use Rattle.std.proofs.sync.Arc.TheSendSync.{the_send as arc_send}
 use Rattle.std.proofs.sync.Mutex.TheSendSync.{the_send as mutex_send, the_sync as mutex_sync}
 use Rattle.std.proofs.vec.Vec.TheSendSync.{the_sync as vec_sync}
 use Rattle.crossbeam_channel.specs.contracts.channel.Receiver as receiver
@@ -27,19 +25,13 @@ use Rattle.space_node.specs.contracts.desk_seat.DeskSeat.TheInside as in_desk_se
 use Rattle.space_node.specs.contracts.shared.Inboxes as inboxes
 use Rattle.space_node.specs.contracts.shared.Node as node
 use Rattle.space_node.specs.contracts.shared.Shared as shared
-use Rattle.space_node.proofs.Sends.{heap_send, heap_frees, vec_field}
+use Rattle.space_node.proofs.Sends.{heap_send, heap_frees, heap_sync, counted_send, vec_field}
 use Rattle.space_node.proofs.DeskSends.{desk_send}
 use Rattle.space_node.proofs.JournalSends.{journal_send, share_send, order_share_send}
-
-heap_sync : IsSync heap.the_row
-heap_sync = search (sendable, global_sync)
 
 vec_field_sync : (R : RattleType) → IsSync R → IsSync (as_row (vec.the_field R heap.the_row ghosts))
 vec_field_sync R s =
     as_row_sync (vec.the_field R heap.the_row ghosts) (vec_sync R heap.the_row ghosts s heap_sync)
-
-pub counted_send : (R : RattleType) → IsSend R → IsSync R → IsSend (arc.the_row R heap.the_row ghosts)
-counted_send R s t = arc_send R heap.the_row ghosts s heap_send t heap_sync heap_frees
 
 -- ---- inboxes
 

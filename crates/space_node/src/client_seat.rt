@@ -9,12 +9,12 @@ ghost use Rattle.client_cert.specs.Fits.{Fits};
 ghost use Rattle.space_node.specs.Calls.{Begins, Comes, IsSpent};
 ghost use Rattle.space_node.specs.Seats.{ClientLeads, IsIdle, stopped_at};
 
-use crate::entries::entries_of;
+use crate::entries::{entries_of, invocation};
 use crate::input::{Given, Input};
 use crate::recording::record;
 use crate::turn::{Turn, turn_of};
 use client_cert::{Client, Event, InvokeFault};
-use events::{Entry, EntryKind, Outputs, Stop};
+use events::{Outputs, Stop};
 use journal::{AppendFault, Journal, Naming, Share};
 use std::alloc::Global;
 use std::marker::Model;
@@ -120,7 +120,8 @@ impl<N: Naming> ClientSeat<N> {
     {
         // The client counts as stopped until the event is in the journal.
         self.stopped = true;
-        let told = op.copy_in(alloc)?;
+        let timestamp = Timestamp(self.calls + 1);
+        let input = invocation(alloc, self.id, timestamp, &op)?;
         let outputs = match self.client.invoke(alloc, op) {
             Ok(outputs) => outputs,
             Err(InvokeFault::NoMemory) => return Err(AppendFault::NoMemory),
@@ -128,10 +129,8 @@ impl<N: Naming> ClientSeat<N> {
             Err(InvokeFault::Busy) => unreachable!(),
             Err(InvokeFault::Stopped) => unreachable!(),
         };
-        let timestamp = Timestamp(self.calls + 1);
-        let input = Entry::new(EntryKind::Invoke(self.id, timestamp, told));
         let entries = entries_of(alloc, Party::Client(self.id), input, outputs.as_slice())?;
-        let first = record(rt, alloc, journal, &mut self.share, None, entries)?;
+        let first = record(rt, journal, &mut self.share, None, entries)?;
         self.calls = timestamp.0;
         self.stopped = false;
         Ok(Given { outputs, first })
@@ -165,7 +164,7 @@ impl<N: Naming> ClientSeat<N> {
         let (entry, from) = input.into_entry(party);
         let entries = entries_of(alloc, party, entry, outputs.as_slice())?;
         let turn = turn_of(outputs, Timestamp(self.calls));
-        let first = record(rt, alloc, journal, &mut self.share, from, entries)?;
+        let first = record(rt, journal, &mut self.share, from, entries)?;
         self.stopped = false;
         Ok((turn, first))
     }

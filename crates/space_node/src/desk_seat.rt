@@ -99,7 +99,7 @@ impl<N: Naming> DeskSeat<N> {
             self.desk.stop();
             return None;
         };
-        match record(rt, alloc, journal, &mut self.share, Some(from), entries) {
+        match record(rt, journal, &mut self.share, Some(from), entries) {
             Ok(first) => Some(Given { outputs, first }),
             Err(_) => {
                 self.desk.stop();

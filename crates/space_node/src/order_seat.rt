@@ -91,7 +91,7 @@ impl<N: Naming> OrderSeat<N> {
             return None;
         };
         let (share, order) = (&mut shelf.share, &mut self.order);
-        match record_order(rt, alloc, journal, share, order, from, entries) {
+        match record_order(rt, journal, share, order, from, entries) {
             Ok(first) => Some(Given { outputs, first }),
             Err(_) => {
                 self.orderer.stop();

@@ -8,13 +8,11 @@ ghost use Rattle.protocol.specs.System.Reads.{without_reads};
 
 use events::Entry;
 use journal::{AppendFault, Journal, Naming, OrderShare, Share};
-use std::alloc::Global;
 use std::sync::{Mutex, Wait};
 
 /// Appends an event of the share's party. `from` is the position at which the received frame was sent.
 pub(crate) fn record<N: Naming, R: Wait>(
     rt: &R,
-    alloc: Global,
     journal: &Mutex<Journal<N>>,
     share: &mut Share<N>,
     from: Option<u64>,
@@ -27,14 +25,13 @@ pub(crate) fn record<N: Naming, R: Wait>(
 {
     let mut book = journal.lock(rt);
     let first = book.len();
-    book.append(alloc, share, from, entries)?;
+    book.append(share, from, entries)?;
     Ok(first)
 }
 
 /// The same for an ordering thread, which has a share of ordering too.
 pub(crate) fn record_order<N: Naming, R: Wait>(
     rt: &R,
-    alloc: Global,
     journal: &Mutex<Journal<N>>,
     share: &mut Share<N>,
     order: &mut OrderShare<N>,
@@ -52,6 +49,6 @@ pub(crate) fn record_order<N: Naming, R: Wait>(
 {
     let mut book = journal.lock(rt);
     let first = book.len();
-    book.append_order(alloc, share, order, from, entries)?;
+    book.append_order(share, order, from, entries)?;
     Ok(first)
 }

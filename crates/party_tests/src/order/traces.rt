@@ -5,6 +5,7 @@ use crate::order::frames::{Request, put_batch, reply_frame};
 use events::{Config, Entry, EntryKind, SharedBytes};
 use points::{Point, points};
 use std::alloc::Global;
+use std::sync::Arc;
 use terms::{ClientId, NoMemory, Number, Party, ReplicaId, Timestamp};
 use test_bytes::{FRAME_SEED, Reply};
 use tuple_codec::{decode_op, decode_result};
@@ -58,10 +59,13 @@ fn invoke(
     op: &[u8],
 ) -> Result<(), NoMemory> {
     match decode_op(alloc, op) {
-        Ok((op, _)) => put(
-            trace,
-            EntryKind::Invoke(client_of(client), Timestamp(timestamp), op),
-        ),
+        Ok((op, _)) => {
+            let op = Arc::new(alloc, op)?;
+            put(
+                trace,
+                EntryKind::Invoke(client_of(client), Timestamp(timestamp), op),
+            )
+        }
         Err(_) => Err(NoMemory),
     }
 }
@@ -74,7 +78,7 @@ fn execute_text(
     batch: &[u8],
 ) -> Result<(), NoMemory> {
     for &replica in replicas {
-        let text = Vec::from_slice(alloc, batch)?;
+        let text = SharedBytes::new(Vec::from_slice(alloc, batch)?)?;
         put(
             trace,
             EntryKind::Executed(ReplicaId(replica), Number(number), text),
@@ -125,18 +129,27 @@ fn accept(
     answer: &[u8],
 ) -> Result<(), NoMemory> {
     match decode_result(alloc, answer) {
-        Ok((answer, _)) => put(
-            trace,
-            EntryKind::Accepted(client_of(client), Timestamp(timestamp), answer),
-        ),
+        Ok((answer, _)) => {
+            let answer = Arc::new(alloc, answer)?;
+            put(
+                trace,
+                EntryKind::Accepted(client_of(client), Timestamp(timestamp), answer),
+            )
+        }
         Err(_) => Err(NoMemory),
     }
 }
 
-fn install(trace: &mut Vec<Entry>, replica: u8, number: u64) -> Result<(), NoMemory> {
+fn install(
+    alloc: Global,
+    trace: &mut Vec<Entry>,
+    replica: u8,
+    number: u64,
+) -> Result<(), NoMemory> {
+    let root = Arc::new(alloc, [7; 32])?;
     put(
         trace,
-        EntryKind::Installed(ReplicaId(replica), Number(number), [7; 32]),
+        EntryKind::Installed(ReplicaId(replica), Number(number), root),
     )
 }
 
@@ -150,7 +163,7 @@ fn put_step(alloc: Global, trace: &mut Vec<Entry>, step: Step<'_>) -> Result<(),
         Step::Execute(replicas, number, requests) => {
             execute(alloc, trace, replicas, number, requests)
         }
-        Step::Install(replica, number) => install(trace, replica, number),
+        Step::Install(replica, number) => install(alloc, trace, replica, number),
         Step::Get(client, reply) => get(alloc, trace, client, reply, 0),
         Step::GetForged(client, reply) => get(alloc, trace, client, reply, 1),
         Step::Accept(client, timestamp, answer) => accept(alloc, trace, client, timestamp, answer),

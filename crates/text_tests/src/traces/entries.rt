@@ -2,6 +2,7 @@
 
 use events::{Entry, EntryKind, SharedBytes};
 use std::alloc::Global;
+use std::sync::Arc;
 use std::test::Fail;
 use terms::{ClientId, NoMemory, Number, Party, ReplicaId, Timestamp};
 use trace_text::write_entry;
@@ -34,6 +35,7 @@ fn shows_call(alloc: Global, line: &[u8]) -> Result<bool, Fail> {
     let mut text = Vec::new(alloc);
     text.extend_from_slice(b"invoke c0 time 1 ")?;
     text.extend_from_slice(line)?;
+    let op = Arc::new(alloc, op)?;
     let kind = EntryKind::Invoke(ClientId { number: 0 }, Timestamp(1), op);
     Ok(is_shown(alloc, kind, text.as_slice())?)
 }
@@ -49,12 +51,14 @@ fn shows_calls(rt: HostRuntime) -> Result<(), Fail> {
 const CLIENT: ClientId = ClientId { number: 7 };
 
 fn shows_batch(alloc: Global) -> Result<bool, NoMemory> {
-    let executed = EntryKind::Executed(ReplicaId(0), Number(1), Vec::new(alloc));
+    let batch = SharedBytes::new(Vec::new(alloc))?;
+    let executed = EntryKind::Executed(ReplicaId(0), Number(1), batch);
     is_shown(alloc, executed, b"executed r0 number 1 null")
 }
 
 fn shows_state(alloc: Global) -> Result<bool, NoMemory> {
-    let installed = EntryKind::Installed(ReplicaId(1), Number(32), [0xab; 32]);
+    let root = Arc::new(alloc, [0xab; 32])?;
+    let installed = EntryKind::Installed(ReplicaId(1), Number(32), root);
     is_shown(alloc, installed, b"installed r1 number 32 root abababab")
 }
 
@@ -69,7 +73,8 @@ fn shows_no_frame(alloc: Global) -> Result<bool, NoMemory> {
 }
 
 fn shows_answer(alloc: Global) -> Result<bool, NoMemory> {
-    let accepted = EntryKind::Accepted(CLIENT, Timestamp(2), Answer::Swapped(true));
+    let answer = Arc::new(alloc, Answer::Swapped(true))?;
+    let accepted = EntryKind::Accepted(CLIENT, Timestamp(2), answer);
     is_shown(alloc, accepted, b"accepted c7 time 2 swapped true")
 }
 

@@ -405,6 +405,7 @@ fn shows_executed(
     batch: Vec<u8>,
     line: &str,
 ) -> Result<bool, NoMemory> {
+    let batch = SharedBytes::new(batch)?;
     let executed = EntryKind::Executed(ReplicaId(replica), Number(number), batch);
     has_line(alloc, executed, line)
 }

@@ -11,8 +11,7 @@ use Rattle.std.proofs.vec.Vec.TheSendSync.{the_send as vec_send}
 use Rattle.tuple_codec.specs.contracts.operations.Op as op
 use Rattle.space_node.specs.contracts.handle.ClientHandle as handle
 use Rattle.space_node.proofs.Captures.{closure_send}
-use Rattle.space_node.proofs.Sends.{heap_send, heap_frees, op_send}
-use Rattle.space_node.proofs.SeatSends.{counted_send}
+use Rattle.space_node.proofs.Sends.{counted_send, heap_send, heap_frees, op_send}
 use Rattle.space_node.proofs.HandleSends.{handle_send}
 use Rattle.cluster_run.proofs.CalledSends.{called_send}
 use Rattle.cluster_run.proofs.Joining.{starts}

@@ -11,8 +11,8 @@ use Rattle.terms.specs.contracts.parties.ReplicaId as replica
 use Rattle.space_node.specs.contracts.note.Note as note
 use Rattle.space_node.specs.contracts.shared.Shared as shared
 use Rattle.space_node.proofs.Captures.{closure_send}
-use Rattle.space_node.proofs.Sends.{heap_send}
-use Rattle.space_node.proofs.SeatSends.{inbox_send, counted_send, counted_shared_send}
+use Rattle.space_node.proofs.Sends.{counted_send, heap_send}
+use Rattle.space_node.proofs.SeatSends.{inbox_send, counted_shared_send}
 use Rattle.space_node.proofs.cluster.start_node.Lts.{arg-10-1, arg-14-1}
 use Rattle.space_node.proofs.cluster.start_node.Goals as goal
 

@@ -1,4 +1,4 @@
-use Rattle.std.proofs.Common.{arith, rules, ◌≡◌, ◌≤◌, ◌+◌, length, List, [], ◌∷◌, ◌++◌, false, true, map, subst}
+use Rattle.std.proofs.Common.{arith, rules, ◌≡◌, ◌≤◌, length, List, [], ◌∷◌, ◌++◌, false, true, map, subst}
 use Rattle.std.proofs.lemmas.List.{take_all}
 use Rattle.terms.specs.Parties.{party_number}
 use Rattle.space_node.specs.Runs.{stopped_of}

@@ -1,4 +1,4 @@
-use Rattle.std.proofs.Common.{◌≡◌, sym, subst, ℕ, List, IfOk}
+use Rattle.std.proofs.Common.{sym, subst, ℕ, List, IfOk}
 use Rattle.events.specs.Outputs.{after_event}
 use Rattle.protocol.specs.System.Trace.Entry.{Got}
 use Rattle.replica.specs.Parted.{FitBoth}

@@ -28,7 +28,7 @@ returns-clause-ok c =
       few = c.are_few.ensures;
     })
     (subst (λ (e : ExecutedData). Executes e c.args.text.now (map told c.in_ok-ran.ran.items) c.execute.new.self) lent c.in_ok-ran.ensures.executed) number
-    (ap (λ (n : ℕ). Executed old.me n c.in_ok-copy.copy.items)
+    (ap (λ (n : ℕ). Executed old.me n c.in_ok-batch.batch)
     (c.number.ensures.value ∙ ap (λ (e : ExecutedData). e.state.number) shown ∙ ap (λ e. e.state.number) (kept_executed (record old { executed = c.execute.new.self }) kept kept_is) ∙ number ∙ one_more old.executed.state.number)
-    ∙ ap (Executed old.me (suc old.executed.state.number)) c.in_ok-copy.ensures.items)
+    ∙ ap (Executed old.me (suc old.executed.state.number)) (c.in_ok-batch.ensures ∙ c.in_ok-copy.ensures.items))
     c.in_ok-give.ensures.given)

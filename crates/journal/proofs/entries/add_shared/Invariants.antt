@@ -1,5 +1,5 @@
 use Rattle.std.proofs.Common.{◌≡◌, ◌++◌, take}
-use Rattle.journal.proofs.entries.add_copies.Given as goal
+use Rattle.journal.proofs.entries.add_shared.Given as goal
 
 abbrev pub invariant-loop-entry : goal.invariant-loop-entry
 invariant-loop-entry l = l.copies.items ≡ l.fn.copies.items ++ take l.entry-index l.entries
