@@ -7,6 +7,7 @@ use Rattle.std.specs.contracts.alloc.Global as heap
 use Rattle.std.below.std_heap.specs.contracts.GlobalAllocator.TheImpl.{ghosts}
 use Rattle.std.specs.contracts.sync.Arc as arc
 use Rattle.std.specs.contracts.vec.Vec as vec
+use Rattle.std.proofs.sync.atomic.AtomicU64.TheSendSync.{the_send as word_send, the_sync as word_sync}
 use Rattle.std.proofs.sync.Mutex.TheSendSync.{the_send as mutex_send, the_sync as mutex_sync}
 use Rattle.std.proofs.vec.Vec.TheSendSync.{the_sync as vec_sync}
 use Rattle.crossbeam_channel.specs.contracts.channel.Receiver as receiver
@@ -18,6 +19,7 @@ use Rattle.journal.specs.contracts.locked.Journal as journal
 use Rattle.replica.proofs.parted.Orderer.TheSendSync.{the_send as orderer_send}
 use Rattle.space_node.proofs.note.Note.TheSendSync.{the_send as note_send}
 use Rattle.space_node.specs.contracts.note.Note as note
+use Rattle.space_node.specs.contracts.note.Inbox as inbox
 use Rattle.space_node.specs.contracts.order_seat.OrderSeat as order_seat
 use Rattle.space_node.specs.contracts.order_seat.OrderSeat.TheInside as in_order_seat
 use Rattle.space_node.specs.contracts.desk_seat.DeskSeat as desk_seat
@@ -35,11 +37,17 @@ vec_field_sync R s =
 
 -- ---- inboxes
 
-to_inbox_send : IsSend (sender.the_row note.the_row heap.the_row ghosts)
-to_inbox_send = sender_send note.the_row heap.the_row ghosts note_send heap_send heap_sync heap_frees
+sender_of_notes_send : IsSend (sender.the_row note.the_row heap.the_row ghosts)
+sender_of_notes_send = sender_send note.the_row heap.the_row ghosts note_send heap_send heap_sync heap_frees
 
-to_inbox_sync : IsSync (sender.the_row note.the_row heap.the_row ghosts)
-to_inbox_sync = sender_sync note.the_row heap.the_row ghosts note_send heap_send heap_sync heap_frees
+sender_of_notes_sync : IsSync (sender.the_row note.the_row heap.the_row ghosts)
+sender_of_notes_sync = sender_sync note.the_row heap.the_row ghosts note_send heap_send heap_sync heap_frees
+
+to_inbox_send : IsSend inbox.the_row
+to_inbox_send = declared_send inbox.the_type (sender_of_notes_send, (search (sendable, word_send), tt))
+
+to_inbox_sync : IsSync inbox.the_row
+to_inbox_sync = declared_sync inbox.the_type (sender_of_notes_sync, (search (sendable, word_sync), tt))
 
 inboxes_send : IsSend inboxes.the_row
 inboxes_send = declared_send inboxes.the_type (to_inbox_send, (to_inbox_send, tt))
@@ -84,7 +92,7 @@ module _ (N : RattleType) (g : Ghosts N.Denot) where
       vec_field (node.the_row N g) node_send,
       (
         vec_field inboxes.the_row inboxes_send,
-        (vec_field (sender.the_row note.the_row heap.the_row ghosts) to_inbox_send, tt),
+        (vec_field inbox.the_row to_inbox_send, tt),
       ),
     ),
   )
@@ -96,7 +104,7 @@ module _ (N : RattleType) (g : Ghosts N.Denot) where
       vec_field_sync (node.the_row N g) node_sync,
       (
         vec_field_sync inboxes.the_row inboxes_sync,
-        (vec_field_sync (sender.the_row note.the_row heap.the_row ghosts) to_inbox_sync, tt),
+        (vec_field_sync inbox.the_row to_inbox_sync, tt),
       ),
     ),
   )

@@ -208,9 +208,9 @@ fn new_handles<N: Naming>(
 {
     let mut handles = Vec::new(alloc);
     for end in ends {
-        let ClientEnd { seat, inbox } = end;
+        let ClientEnd { seat, notes } = end;
         let shared = Arc::try_clone(shared)?;
-        handles.push(ClientHandle::new(seat, shared, inbox))?;
+        handles.push(ClientHandle::new(seat, shared, notes))?;
     }
     Ok(handles)
 }

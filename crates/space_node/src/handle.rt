@@ -27,7 +27,7 @@ use tuple_codec::{Answer, Op};
 pub struct ClientHandle<N: Naming> {
     seat: ClientSeat<N>,
     shared: Arc<Shared<N>, Global>,
-    inbox: Receiver<Note>,
+    notes: Receiver<Note>,
 }
 
 impl<N: Naming> Model for ClientHandle<N> {
@@ -47,7 +47,7 @@ impl<N: Naming> ClientHandle<N> {
     pub(crate) fn new(
         seat: ClientSeat<N>,
         shared: Arc<Shared<N>, Global>,
-        inbox: Receiver<Note>,
+        notes: Receiver<Note>,
     ) -> ClientHandle<N>
         requires { IsNew seat }
         ensures { result ≡ seat }
@@ -55,7 +55,7 @@ impl<N: Naming> ClientHandle<N> {
         ClientHandle {
             seat,
             shared,
-            inbox,
+            notes,
         }
     }
 
@@ -128,7 +128,7 @@ impl<N: Naming> ClientHandle<N> {
     {
         let request = self.seat.invoke(rt, alloc, &self.shared.journal, op)?;
         self.shared.send(rt, &request);
-        wait_answer(rt, alloc, &mut self.seat, &self.shared, &self.inbox)
+        wait_answer(rt, alloc, &mut self.seat, &self.shared, &self.notes)
     }
 }
 
@@ -138,17 +138,21 @@ fn wait_answer<N: Naming, R: Wait>(
     alloc: Global,
     seat: &mut ClientSeat<N>,
     shared: &Shared<N>,
-    inbox: &Receiver<Note>,
+    notes: &Receiver<Note>,
 ) -> Result<Answer<Global>, AppendFault>
     requires running { seat.old.stopped ≡ false }
     ensures ends { IfOk result (λ answer. Ends seat.old (outcome_of answer) seat.new) }
     ensures refused { OnErr result (Refused seat.old seat.new) }
 {
+    let Some(inbox) = shared.inbox(seat.share().party()) else {
+        seat.stop();
+        return Err(AppendFault::NotInJournal);
+    };
     for _ in rt.forever() {
-        let input = match inbox.recv(rt) {
-            Ok(Note::Frame(bytes, from)) => Input::Got(bytes, from),
-            Ok(Note::Pulse) => Input::Tick,
-            Ok(Note::End) | Err(_) => {
+        let input = match inbox.take(rt, notes) {
+            Some(Note::Frame(bytes, from)) => Input::Got(bytes, from),
+            Some(Note::Pulse) => Input::Tick,
+            Some(Note::End) | None => {
                 seat.stop();
                 return Err(AppendFault::NotInJournal);
             }

@@ -40,6 +40,8 @@
 //! - If memory or the journal refuses, or a test's gate says so, the parts stop and nothing is sent. A frame goes into
 //!   an inbox with the position at which it was sent. Its bytes lie in memory once, for the trace, the shares and all
 //!   receivers.
+//! - A thread that finds its inbox empty sleeps on a word beside the channel (`src/note.rt`). So it is woken once, by a
+//!   thread that holds no lock.
 //! - A faulty replica has the same inboxes, and no seat. Its threads do its drill (`src/drilling.rt`), which takes what
 //!   comes, or answers reads from the empty space. Its frames name a faulty sender, so no position is asked of them.
 //! - A new cluster has a handle of each client, and one that is handed out is new.

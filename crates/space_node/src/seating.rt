@@ -7,12 +7,12 @@ ghost use Rattle.space_node.specs.Seats.{IsNew};
 
 use crate::client_seat::ClientSeat;
 use crate::desk_seat::DeskSeat;
-use crate::note::Note;
+use crate::note::{Inbox, Note};
 use crate::order_seat::OrderSeat;
 use crate::shared::{Inboxes, Node, Shared};
 use authenticator::Ring;
 use client_cert::Client;
-use crossbeam_channel::{Receiver, Sender, unbounded};
+use crossbeam_channel::{Receiver, unbounded};
 use events::Config;
 use journal::{Journal, Naming, Opened, OrderShare, Share};
 use replica::Replica;
@@ -34,7 +34,7 @@ pub(crate) struct NodeEnd {
 #[derive(Drop)]
 pub(crate) struct ClientEnd<N: Naming> {
     pub(crate) seat: ClientSeat<N>,
-    pub(crate) inbox: Receiver<Note>,
+    pub(crate) notes: Receiver<Note>,
     ghost is_new: { IsNew seat },
 }
 
@@ -42,7 +42,7 @@ pub(crate) struct ClientEnd<N: Naming> {
 #[derive(Drop)]
 struct Parties<N: Naming> {
     nodes: Vec<Node<N>>,
-    clients: Vec<Sender<Note>>,
+    clients: Vec<Inbox>,
     client_ends: Vec<ClientEnd<N>>,
 }
 
@@ -85,8 +85,8 @@ fn open_inboxes(alloc: Global, config: &Config) -> Result<(Vec<Inboxes>, Vec<Nod
         let (to_orders, orders) = unbounded(alloc)?;
         let (to_reads, reads) = unbounded(alloc)?;
         inboxes.push(Inboxes {
-            orders: to_orders,
-            reads: to_reads,
+            orders: Inbox::new(to_orders),
+            reads: Inbox::new(to_reads),
         })?;
         ends.push(NodeEnd {
             replica: ReplicaId(number),
@@ -201,7 +201,7 @@ fn new_client<N: Naming>(
     publics: &PublicKeys,
     id: ClientId,
     share: Share<N>,
-) -> Result<(Sender<Note>, ClientEnd<N>), NoMemory>
+) -> Result<(Inbox, ClientEnd<N>), NoMemory>
     requires config { config.now ≡ N.config }
     requires keys { publics.now ≡ config.now.seed }
     requires party { share.party ≡ 256 + id.number }
@@ -210,7 +210,7 @@ fn new_client<N: Naming>(
 {
     let ring = Ring::new(alloc, config.seed(), config.faults(), config.clients());
     let client = Client::new(id, config.faults(), ring, publics.share()?);
-    let (to_inbox, inbox) = unbounded(alloc)?;
+    let (to_notes, notes) = unbounded(alloc)?;
     let seat = ClientSeat::new(id, client, share);
-    Ok((to_inbox, ClientEnd { seat, inbox }))
+    Ok((Inbox::new(to_notes), ClientEnd { seat, notes }))
 }

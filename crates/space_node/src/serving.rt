@@ -9,7 +9,7 @@ use crossbeam_channel::Receiver;
 use journal::{Journal, Naming};
 use std::alloc::Global;
 use std::sync::{Mutex, Wait};
-use terms::ReplicaId;
+use terms::{Party, ReplicaId};
 
 /// The ordering thread.
 pub(crate) fn serve_orders<N: Naming, G: Gate, R: Wait>(
@@ -18,17 +18,18 @@ pub(crate) fn serve_orders<N: Naming, G: Gate, R: Wait>(
     shared: &Shared<N>,
     gate: &G,
     replica: ReplicaId,
-    inbox: &Receiver<Note>,
+    notes: &Receiver<Note>,
 ) {
-    let Some(node) = shared.node(replica) else {
+    let party = Party::Replica(replica);
+    let (Some(node), Some(inbox)) = (shared.node(replica), shared.inbox(party)) else {
         return;
     };
     let mut event_no = 0u64;
     for _ in rt.forever() {
-        let input = match inbox.recv(rt) {
-            Ok(Note::Frame(bytes, from)) => Input::Got(bytes, from),
-            Ok(Note::Pulse) => Input::Tick,
-            Ok(Note::End) | Err(_) => break,
+        let input = match inbox.take(rt, notes) {
+            Some(Note::Frame(bytes, from)) => Input::Got(bytes, from),
+            Some(Note::Pulse) => Input::Tick,
+            Some(Note::End) | None => break,
         };
         let journal = &shared.journal;
         let given = order_event(rt, alloc, node, journal, gate, replica, event_no, input);
@@ -66,20 +67,21 @@ pub(crate) fn serve_reads<N: Naming, R: Wait>(
     alloc: Global,
     shared: &Shared<N>,
     replica: ReplicaId,
-    inbox: &Receiver<Note>,
+    notes: &Receiver<Note>,
 ) {
-    let Some(node) = shared.node(replica) else {
+    let party = Party::Replica(replica);
+    let (Some(node), Some(inbox)) = (shared.node(replica), shared.read_inbox(party)) else {
         return;
     };
     let mut arena = Bump::new(alloc);
     for _ in rt.forever() {
-        let given = match inbox.recv(rt) {
-            Ok(Note::Frame(bytes, from)) => {
+        let given = match inbox.take(rt, notes) {
+            Some(Note::Frame(bytes, from)) => {
                 let mut shelf = node.shelf.lock(rt);
                 shelf.read(rt, alloc, &mut arena, &shared.journal, bytes, from)
             }
-            Ok(Note::Pulse) => None,
-            Ok(Note::End) | Err(_) => break,
+            Some(Note::Pulse) => None,
+            Some(Note::End) | None => break,
         };
         if let Some(given) = given {
             shared.send(rt, &given);

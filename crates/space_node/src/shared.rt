@@ -2,9 +2,8 @@
 
 use crate::desk_seat::DeskSeat;
 use crate::input::Given;
-use crate::note::{Note, end};
+use crate::note::{Inbox, Note};
 use crate::order_seat::OrderSeat;
-use crossbeam_channel::Sender;
 use events::{Output, SharedBytes};
 use journal::{Journal, Naming};
 use read_only::asks_read;
@@ -23,9 +22,9 @@ pub(crate) struct Node<N: Naming> {
 #[derive(Drop)]
 pub(crate) struct Inboxes {
     /// The ordering thread's.
-    pub(crate) orders: Sender<Note>,
+    pub(crate) orders: Inbox,
     /// The read thread's.
-    pub(crate) reads: Sender<Note>,
+    pub(crate) reads: Inbox,
 }
 
 /// The journal, whose lock is taken last, the correct replicas, and the inboxes of all replicas and of the clients, by
@@ -35,7 +34,7 @@ pub(crate) struct Shared<N: Naming> {
     pub(crate) journal: Mutex<Journal<N>>,
     pub(crate) nodes: Vec<Node<N>>,
     pub(crate) replicas: Vec<Inboxes>,
-    pub(crate) clients: Vec<Sender<Note>>,
+    pub(crate) clients: Vec<Inbox>,
 }
 
 impl<N: Naming> Shared<N> {
@@ -52,7 +51,7 @@ impl<N: Naming> Shared<N> {
     /// Tells the party that time went by. Does nothing if no party has that number.
     pub(crate) fn pulse<R: Wait>(&self, rt: &R, party: Party) {
         if let Some(inbox) = self.inbox(party) {
-            let _ = inbox.send(rt, Note::Pulse);
+            inbox.send(rt, Note::Pulse);
         }
     }
 
@@ -95,12 +94,13 @@ impl<N: Naming> Shared<N> {
                 self.inbox(*receiver)
             };
             if let (Some(inbox), Ok(bytes)) = (inbox, frame.share()) {
-                let _ = inbox.send(rt, Note::Frame(bytes, at));
+                inbox.send(rt, Note::Frame(bytes, at));
             }
         }
     }
 
-    fn inbox(&self, party: Party) -> Option<&Sender<Note>> {
+    /// The inbox of a party, of a replica that of its ordering thread.
+    pub(crate) fn inbox(&self, party: Party) -> Option<&Inbox> {
         match party {
             Party::Replica(replica) => match self.replicas.get(usize::from(replica.0)) {
                 Some(inboxes) => Some(&inboxes.orders),
@@ -110,8 +110,8 @@ impl<N: Naming> Shared<N> {
         }
     }
 
-    // The inbox from which the party takes bytes with the marks of a read.
-    fn read_inbox(&self, party: Party) -> Option<&Sender<Note>> {
+    /// The inbox from which the party takes bytes with the marks of a read.
+    pub(crate) fn read_inbox(&self, party: Party) -> Option<&Inbox> {
         match party {
             Party::Replica(replica) => match self.replicas.get(usize::from(replica.0)) {
                 Some(inboxes) => Some(&inboxes.reads),
@@ -124,11 +124,11 @@ impl<N: Naming> Shared<N> {
     /// Ends all threads that take from inboxes.
     pub(crate) fn end<R: Wait>(&self, rt: &R) {
         for inboxes in &self.replicas {
-            end(rt, &inboxes.orders);
-            end(rt, &inboxes.reads);
+            inboxes.orders.end(rt);
+            inboxes.reads.end(rt);
         }
         for inbox in &self.clients {
-            end(rt, inbox);
+            inbox.end(rt);
         }
     }
 }
