@@ -5,9 +5,8 @@
 
 ghost use Rattle.std.specs.Prelude.{◌≡◌, ◌⊎◌, ◌↔◌, true, false, [], None, Some, Err, is_none, IfOk, IsOk, OnErr, OnOk, IsTrue};
 ghost use Rattle.events.specs.declared.output.Stop.TheVariants as Stop;
-ghost use Rattle.replica.specs.State.{AreOne};
 ghost use Rattle.replica.specs.MemberView.{member_data};
-ghost use Rattle.replica.specs.Parted.{AreTogether, BothLead, BothSendAsMeant, DeskStops, OrdererStops, Reacts, ReadLeads, ReadSendsAsMeant};
+ghost use Rattle.replica.specs.Parted.{AreTogether, BothLead, BothSendAsMeant, DeskStops, OrdererStops, ReadLeads, ReadSendsAsMeant};
 ghost use Rattle.wire.specs.Marks.{asks_read};
 
 use crate::joined::Joined;
@@ -167,9 +166,19 @@ impl Orderer {
     {
         let orderer = take_orderer(&mut self.holds);
         let state = take_desk(&mut desk.holds);
-        let (orderer, state, outputs) = react(alloc, orderer, state, event)?;
-        self.holds = Some(orderer);
-        desk.holds = Some(state);
+        let mut joined = Joined {
+            orderer,
+            desk: state,
+        };
+        let Ok(outputs) = joined.step(alloc, event) else {
+            return Err(Stop::NoMemory);
+        };
+        let Joined {
+            orderer: later_orderer,
+            desk: later_state,
+        } = joined;
+        self.holds = Some(later_orderer);
+        desk.holds = Some(later_state);
         Ok(outputs)
     }
 }
@@ -201,26 +210,6 @@ fn take_desk(holds: &mut Option<DeskState>) -> DeskState
         Some(desk) => desk,
         None => unreachable!(),
     }
-}
-
-// The orderer, the desk, and their outputs for the event.
-fn react(
-    alloc: Global,
-    orderer: OrdererState,
-    desk: DeskState,
-    event: Event<'_>,
-) -> Result<(OrdererState, DeskState, Outputs), Stop>
-    requires { AreOne orderer desk }
-    ensures goes { IfOk result (λ r. Reacts orderer desk event.entry r.2.items r.0 r.1) }
-    ensures refused { OnErr result (result ≡ Err Stop.NoMemory) }
-{
-    let mut joined = Joined { orderer, desk };
-    let Ok(outputs) = joined.react(alloc, event) else {
-        return Err(Stop::NoMemory);
-    };
-    joined.orderer.note_changes();
-    let Joined { orderer, desk } = joined;
-    Ok((orderer, desk, outputs))
 }
 
 impl Desk {

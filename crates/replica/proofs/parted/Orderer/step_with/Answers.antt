@@ -1,7 +1,22 @@
 use Rattle.std.proofs.Common.{◌≡◌, Some, sym, ap, ◌∙◌, subst}
-use Rattle.replica.specs.State.{OrdererPart, DeskPart, IsOrdererPart, IsDeskPart, AreOne}
+use Rattle.replica.specs.State.{OrdererPart, DeskPart, JoinedData, IsOrdererPart, IsDeskPart, AreOne}
+use Rattle.replica.specs.Changing.{AreChanges}
+use Rattle.replica.specs.Joined.{EventLeads, joined}
+use Rattle.replica.specs.Parted.{Reacts}
 use Rattle.replica.proofs.PartsLead.{orders, answers, steps, steps_send, together_one}
 use Rattle.replica.proofs.parted.Orderer.step_with.Goals as goal
+
+pub invariant_of-joined : goal.invariant_of-joined
+invariant_of-joined c =
+    let o = c.args.self.now in
+    let d = c.args.desk.now in
+    let x = c.take_orderer-orderer.result in
+    let y = c.take_desk-state.result in
+    let o_is : o.holds ≡ Some x = ap (λ (p : OrdererPart). p.holds) (sym c.self.view_is) ∙ c.take_orderer-orderer.ensures.is in
+    let d_is : d.holds ≡ Some y = ap (λ (p : DeskPart). p.holds) (sym c.desk.view_is) ∙ c.take_desk-state.ensures.is in
+    let are_o : IsOrdererPart o = subst IsOrdererPart c.self.view_is c.self.invariant in
+    let are_d : IsDeskPart d = subst IsDeskPart c.desk.view_is c.desk.invariant in
+    together_one o d x y c.requires.together are_o are_d o_is d_is
 
 pub returns-clause-leads : goal.returns-clause-leads
 returns-clause-leads c =
@@ -14,9 +29,15 @@ returns-clause-leads c =
     let are_o : IsOrdererPart o = subst IsOrdererPart c.self.view_is c.self.invariant in
     let are_d : IsDeskPart d = subst IsDeskPart c.desk.view_is c.desk.invariant in
     let one : AreOne x y = together_one o d x y c.requires.together are_o are_d o_is d_is in
-    steps o _ d _ x c.in_ok-orderer.orderer y c.in_ok-orderer.state c.args.event c.in_ok-orderer.outputs.items o_is d_is c.requires.together.member are_o one c.in_ok-orderer.ensures.goes
-    (ap (λ (p : OrdererPart). orders p.member c.in_ok-orderer.orderer) c.self.view_is)
-    (ap (λ (p : DeskPart). answers p.member c.in_ok-orderer.state) c.desk.view_is)
+    let reacts : Reacts x y c.args.event c.in-Ok.outputs.items c.joined.inside.orderer c.joined.inside.desk = record {
+      leads = subst (λ (n : JoinedData). EventLeads (joined x y) c.args.event c.in-Ok.outputs.items n) (sym c.joined.view_is) c.in-Ok.ensures.leads;
+      one = c.joined.invariant;
+      changes = subst (λ (n : JoinedData). AreChanges n.orderer.received.held) (sym c.joined.view_is) c.in-Ok.ensures.changes;
+      endpoint = ap (λ (n : JoinedData). n.orderer.endpoint) c.joined.view_is ∙ c.in-Ok.ensures.endpoint;
+    } in
+    steps o _ d _ x c.joined.inside.orderer y c.joined.inside.desk c.args.event c.in-Ok.outputs.items o_is d_is c.requires.together.member are_o one reacts
+    (ap (λ (p : OrdererPart). orders p.member c.joined.inside.orderer) c.self.view_is)
+    (ap (λ (p : DeskPart). answers p.member c.joined.inside.desk) c.desk.view_is)
 
 pub returns-clause-sends : goal.returns-clause-sends
 returns-clause-sends c =
@@ -29,4 +50,10 @@ returns-clause-sends c =
     let are_o : IsOrdererPart o = subst IsOrdererPart c.self.view_is c.self.invariant in
     let are_d : IsDeskPart d = subst IsDeskPart c.desk.view_is c.desk.invariant in
     let one : AreOne x y = together_one o d x y c.requires.together are_o are_d o_is d_is in
-    steps_send o d x c.in_ok-orderer.orderer y c.in_ok-orderer.state c.args.event c.in_ok-orderer.outputs.items o_is d_is c.requires.together.member are_o one c.in_ok-orderer.ensures.goes
+    let reacts : Reacts x y c.args.event c.in-Ok.outputs.items c.joined.inside.orderer c.joined.inside.desk = record {
+      leads = subst (λ (n : JoinedData). EventLeads (joined x y) c.args.event c.in-Ok.outputs.items n) (sym c.joined.view_is) c.in-Ok.ensures.leads;
+      one = c.joined.invariant;
+      changes = subst (λ (n : JoinedData). AreChanges n.orderer.received.held) (sym c.joined.view_is) c.in-Ok.ensures.changes;
+      endpoint = ap (λ (n : JoinedData). n.orderer.endpoint) c.joined.view_is ∙ c.in-Ok.ensures.endpoint;
+    } in
+    steps_send o d x c.joined.inside.orderer y c.joined.inside.desk c.args.event c.in-Ok.outputs.items o_is d_is c.requires.together.member are_o one reacts
