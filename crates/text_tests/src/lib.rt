@@ -1,7 +1,11 @@
-//! Tests of texts that are read and written line by line: operations, answers and tuples (`tuple_text`), schedules
-//! (`schedule_text`), and the entries of a trace (`trace_text`).
+//! Tests of texts that are read and written: operations, answers and tuples (`tuple_text`), schedules
+//! (`schedule_text`), the entries of a trace (`trace_text`), configurations (`config_text`), and pictures (`picture`).
 #![tactic(auto)]
 
+#[cfg(test)]
+mod config;
+#[cfg(test)]
+mod pictures;
 #[cfg(test)]
 mod schedule;
 #[cfg(test)]

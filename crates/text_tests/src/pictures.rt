@@ -1,7 +1,4 @@
 //! Tests of pictures (`picture`).
-#![tactic(auto)]
 
-#[cfg(test)]
 mod drawings;
-#[cfg(test)]
 mod escapes;
