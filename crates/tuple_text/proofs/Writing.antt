@@ -4,7 +4,7 @@ use Rattle.std.specs.List.{flat_map}
 use Rattle.std.proofs.lemmas.Bool.{eqb-true}
 use Rattle.std.proofs.lemmas.Grind.{flat_map-append}
 use Rattle.std.proofs.lemmas.List.{take_at, take-append-drop}
-use Rattle.std.proofs.Math.Seq.{drop-cons, drop-nil}
+use Rattle.std.proofs.Math.Seq.{drop-cons, drop-nil, get_or-take}
 use Rattle.tuple_tree.specs.Items.{Item, leaf, inner, Items, none, item, item_levels, levels_in, items_of}
 use Rattle.tuple_text.specs.Texts.{ItemText, ItemsText, MoreText, escaped, hex_pair}
 use Rattle.tuple_tree.specs.Values.{TupleTree}
@@ -156,3 +156,16 @@ flat_map_some f xs i n =
 pub some_more : (f : ℕ → List ℕ) (xs tail : List ℕ) (i n : ℕ) → flat_map f (drop i xs) ++ tail ≡ flat_map f (take n (drop i xs)) ++ (flat_map f (drop (i + n) xs) ++ tail)
 some_more f xs tail i n =
     ap (λ t. t ++ tail) (flat_map_some f xs i n) ∙ append_assoc (flat_map f (take n (drop i xs))) (flat_map f (drop (i + n) xs)) tail
+
+-- ---- a test that fails along the front of a list
+
+pub further : (test : ℕ → Bool) (xs : List ℕ) (n m : ℕ) → ((k : ℕ) → k < n → test (get_or xs k 0) ≡ false)
+    → ((k : ℕ) → k < m → test (get_or (drop n xs) k 0) ≡ false) → (k : ℕ) → k < n + m → test (get_or xs k 0) ≡ false
+further test xs zero m p q k h = q k (omega arith)
+further test [] (suc n) m p q k h = p 0 (omega arith)
+further test (x ∷ xs) (suc n) m p q zero h = p 0 (omega arith)
+further test (x ∷ xs) (suc n) m p q (suc k) h = further test xs n m (λ j l. p (suc j) (omega arith)) q k (omega arith)
+
+pub in_front : (test : ℕ → Bool) (xs ys : List ℕ) (n : ℕ) → ys ≡ take n xs → length ys ≡ n → ((k : ℕ) → k < length ys → test (get_or ys k 0) ≡ false)
+    → (k : ℕ) → k < n → test (get_or xs k 0) ≡ false
+in_front test xs ys n e l p k h = subst (λ b. test b ≡ false) (ap (λ zs. get_or zs k 0) e ∙ get_or-take n xs k 0 h) (p k (omega (arith, l)))
