@@ -10,7 +10,7 @@ use Rattle.std.proofs.lemmas.Bool.{cases_lt, cases_eq, ne_eqb, eqb-true, le-ltb}
 use Rattle.std.proofs.lemmas.List.{get_or_append_left, get_or_at}
 use Rattle.tuple_tree.specs.Values.{TupleTree}
 use Rattle.space.specs.Births.{Entry}
-use Rattle.space.specs.Stored.{in_order}
+use Rattle.space.specs.Stored.{in_order, AreApart}
 use Rattle.space.proofs.Determining.{Rises}
 use Rattle.space.proofs.Filing.{at_same, at_other}
 use Rattle.space.proofs.Trees.{greater, less, inserted_last}
@@ -212,6 +212,10 @@ longer (e ∷ es) b t h = elim (cases_lt b e.0) [
 pub absent : (b : ℕ) (es : List Entry) → AllByRecursion (λ k. (b == k) ≡ false) (keys_of es) → lookup (λ k. b == k) es ≡ None
 absent b [] h = refl
 absent b (e ∷ es) h = ap (λ a. cond a (Some e.1) (lookup (λ k. b == k) es)) h.0 ∙ absent b es h.1
+
+pub none_apart : AreApart []
+unfolding IsDistinct
+none_apart = tt
 
 pub length-in_order : (es : List Entry) → IsDistinct ◌==◌ (keys_of es) → length (in_order es) ≡ length es
 unfolding IsDistinct

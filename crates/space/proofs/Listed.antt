@@ -7,8 +7,9 @@ use Rattle.std.specs.HashMap.{HashMap, get_by, UpdatesBy}
 use Rattle.std.proofs.lemmas.Bool.{cases_Bool, cond-true, cond-false, eqb-true}
 use Rattle.std.proofs.lemmas.Cmp.{nat_list_eq_equiv}
 use Rattle.std.proofs.lemmas.Slice.Eq.{bytes_eq-Decides}
-use Rattle.space.specs.Ages.{without, ListedBirths}
+use Rattle.space.specs.Ages.{without}
 use Rattle.space.specs.Filing.{births_at, births_or_none}
+use Rattle.space.specs.declared.key_births.KeyBirths.{KeyBirths}
 use Rattle.space.specs.declared.lists.Lists.{Lists}
 
 apart : (bs cs ks : List ℕ) → bytes_eq bs cs ≡ false → bytes_eq bs ks ≡ true → bytes_eq cs ks ≡ false
@@ -28,23 +29,23 @@ updated m n bytes_of bs w h cs = elim (cases_Bool (bytes_eq bs cs)) [
 ]
 
 -- under each key n has what m has, but for w at this one
-abbrev pub Puts : Lists → Lists → List ℕ → Option ListedBirths → Type 0
+abbrev pub Puts : Lists → Lists → List ℕ → Option KeyBirths → Type 0
 Puts m n key w = (q : List ℕ) → get_by (λ k. bytes_eq q k.items) n.lists ≡ cond (bytes_eq key q) w (get_by (λ k. bytes_eq q k.items) m.lists)
 
-pub puts : (m n : Lists) (key : List ℕ) (w : Option ListedBirths) → UpdatesBy (λ x y. bytes_eq x.items y.items) (λ k. bytes_eq key k.items) m.lists n.lists w → Puts m n key w
+pub puts : (m n : Lists) (key : List ℕ) (w : Option KeyBirths) → UpdatesBy (λ x y. bytes_eq x.items y.items) (λ k. bytes_eq key k.items) m.lists n.lists w → Puts m n key w
 puts m n key w h = updated m.lists n.lists (λ k. k.items) key w h
 
 -- ---- lists of births
 
 module _ (m n : Lists) (key : List ℕ) where
-  listed : (w : Option ListedBirths) → Puts m n key w → (q : List ℕ) → births_at n q ≡ cond (bytes_eq key q) (births_or_none w) (births_at m q)
+  listed : (w : Option KeyBirths) → Puts m n key w → (q : List ℕ) → births_at n q ≡ cond (bytes_eq key q) (births_or_none w) (births_at m q)
   listed w h q = ap births_or_none (h q) ∙ go (bytes_eq key q)
     where
       go : (b : Bool) → births_or_none (cond b w (get_by (λ k. bytes_eq q k.items) m.lists)) ≡ cond b (births_or_none w) (births_at m q)
       go true = refl
       go false = refl
 
-  pub births_added : (births : List ℕ) (b : ℕ) (w : Option ListedBirths) → births_at m key ≡ births → births_or_none w ≡ births ++ b ∷ [] → Puts m n key w
+  pub births_added : (births : List ℕ) (b : ℕ) (w : Option KeyBirths) → births_at m key ≡ births → births_or_none w ≡ births ++ b ∷ [] → Puts m n key w
       → (q : List ℕ) → births_at n q ≡ births_at m q ++ cond (bytes_eq key q) (b ∷ []) []
   births_added births b w is more h q = listed w h q ∙ go (bytes_eq key q) refl
     where
@@ -52,7 +53,7 @@ module _ (m n : Lists) (key : List ℕ) where
       go true e = more ∙ ap (λ xs. xs ++ b ∷ []) (sym is ∙ ap (births_at m) ((bytes_eq-Decides key q).0 e))
       go false e = sym (append-nil (births_at m q))
 
-  pub births_removed : (births : List ℕ) (b : ℕ) (w : Option ListedBirths) → births_at m key ≡ births → births_or_none w ≡ without b births → Puts m n key w
+  pub births_removed : (births : List ℕ) (b : ℕ) (w : Option KeyBirths) → births_at m key ≡ births → births_or_none w ≡ without b births → Puts m n key w
       → (q : List ℕ) → births_at n q ≡ cond (bytes_eq key q) (without b (births_at m q)) (births_at m q)
   births_removed births b w is left h q = listed w h q ∙ go (bytes_eq key q) refl
     where
@@ -61,7 +62,7 @@ module _ (m n : Lists) (key : List ℕ) where
       go false e = refl
 
   -- under a key stands what stood there
-  pub births_unchanged : (w : Option ListedBirths) → births_or_none w ≡ births_at m key → Puts m n key w → (q : List ℕ) → births_at n q ≡ births_at m q
+  pub births_unchanged : (w : Option KeyBirths) → births_or_none w ≡ births_at m key → Puts m n key w → (q : List ℕ) → births_at n q ≡ births_at m q
   births_unchanged w is h q = listed w h q ∙ go (bytes_eq key q) refl
     where
       go : (t : Bool) → bytes_eq key q ≡ t → cond t (births_or_none w) (births_at m q) ≡ births_at m q

@@ -7,22 +7,24 @@ use Rattle.tuple_tree.specs.Values.{TemplateTree, IsTuple}
 use Rattle.space.specs.Ages.{without, AreRising, ListedBirths}
 use Rattle.space.specs.Births.{Entry}
 use Rattle.space.specs.Candidates.{is_candidate}
+use Rattle.space.specs.KeyBirths.{births_of, room_of}
 use Rattle.space.specs.Keys.{tuple_key}
+use Rattle.space.specs.declared.key_births.KeyBirths.{KeyBirths}
 use Rattle.space.specs.declared.birth_table.BirthTable.{BirthTable}
 use Rattle.space.specs.declared.lists.Lists.{Lists}
 use Rattle.space.specs.declared.index.Index.{Index}
 
-abbrev pub births_or_none : Option ListedBirths → List ℕ
+abbrev pub births_or_none : Option KeyBirths → List ℕ
 births_or_none None = []
-births_or_none (Some list) = list.births
+births_or_none (Some births) = births_of births
 
 -- the births that are listed under a key
 abbrev pub births_at : Lists → List ℕ → List ℕ
 births_at l key = births_or_none (get_by (λ k. bytes_eq key k.items) l.lists)
 
-abbrev pub room_or_none : Option ListedBirths → ℕ
+abbrev pub room_or_none : Option KeyBirths → ℕ
 room_or_none None = 0
-room_or_none (Some list) = list.room
+room_or_none (Some births) = room_of births
 
 -- how many more births fit under a key
 abbrev pub room_at : Lists → List ℕ → ℕ

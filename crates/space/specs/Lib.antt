@@ -8,6 +8,7 @@ pub mod Candidates
 pub mod Counted
 pub mod Filing
 pub mod Found
+pub mod KeyBirths
 pub mod Keys
 pub mod Laws
 pub mod Marking

@@ -3,7 +3,7 @@
 ghost use Rattle.std.specs.Prelude.{◌≡◌, ◌<◌, [], ℕ, List, OnOk, IsTrue};
 ghost use Rattle.space.specs.Filing.{births_at, room_at, AddsBirth, TakesBirth, KeepsBirths, LetsGo};
 
-use crate::birth_list::BirthList;
+use crate::key_births::KeyBirths;
 use std::alloc::Global;
 use std::collections::HashMap;
 use terms::NoMemory;
@@ -12,7 +12,7 @@ use terms::NoMemory;
 #[derive(Drop)]
 pub struct Lists {
     alloc: Global,
-    lists: HashMap<Vec<u8>, BirthList>,
+    lists: HashMap<Vec<u8>, KeyBirths>,
 }
 
 impl Lists {
@@ -42,11 +42,10 @@ impl Lists {
         ensures births { KeepsBirths self.old self.new }
     {
         if let Some(births) = self.lists.get_mut(key) {
-            return births.reserve();
+            return births.reserve(self.alloc);
         }
-        let births = BirthList::with_room(self.alloc)?;
         let key = Vec::from_slice(self.alloc, key)?;
-        match self.lists.insert(key, births) {
+        match self.lists.insert(key, KeyBirths::Empty) {
             Ok(_) => Ok(()),
             Err(_) => Err(NoMemory),
         }

@@ -8,15 +8,16 @@ ghost use Rattle.std.specs.BTreeMap.{is_at, insert_entry};
 ghost use Rattle.space.specs.Prints.{IsUnlike, HasOtherPrint};
 ghost use Rattle.space.specs.Stored.{LiesAt, LeadsTo};
 
+use crate::place_table::PlaceTable;
 use crate::prints::print_of_tuple;
 use std::alloc::Global;
-use std::collections::{BTreeMap, HashMap};
+use std::collections::BTreeMap;
 use std::marker::Model;
 use terms::NoMemory;
 use tuple_tree::Tuple;
 
-/// The stored tuples. One is found by the hash of its birth, in the same time however many there are. If births are
-/// asked for in the order in which their tuples were put in, mostly each lies behind the one before.
+/// The stored tuples. One is found by its birth, in the same time however many there are. If births are asked for in
+/// the order in which their tuples were put in, mostly each lies behind the one before.
 #[derive(Drop)]
 pub struct Stored {
     // In the order in which they were put in, but for the last one, which takes the place of one that is taken.
@@ -24,7 +25,7 @@ pub struct Stored {
     // The print of each tuple. Most that don't match are told by it, and not looked at.
     prints: Vec<u64>,
     // Where the tuple of a birth lies. Each place is looked at before it is believed.
-    places: HashMap<u64, usize>,
+    places: PlaceTable,
 }
 
 impl Model for Stored {
@@ -47,7 +48,7 @@ impl Stored {
         Stored {
             entries: Vec::new(alloc),
             prints: Vec::new(alloc),
-            places: HashMap::new(alloc),
+            places: PlaceTable::new(alloc),
         }
     }
 
@@ -116,14 +117,10 @@ impl Stored {
     {
         make_room(&mut self.entries, &mut self.prints)?;
         let place = self.entries.len();
-        match self.places.insert(birth, place) {
-            Ok(_) => {
-                self.prints.push_reserved(print_of_tuple(&tuple));
-                self.entries.push_reserved((birth, tuple));
-                Ok(())
-            }
-            Err(_) => Err(NoMemory),
-        }
+        self.prints.push_reserved(print_of_tuple(&tuple));
+        self.entries.push_reserved((birth, tuple));
+        self.places.note(birth, place, self.entries.as_slice());
+        Ok(())
     }
 
     /// Takes the tuple of a birth.
@@ -166,24 +163,17 @@ fn is_unlike(print: u64, wanted: Option<u64>) -> bool
 }
 
 // Forgets a birth, and notes which entry lies at its place now.
-fn move_place(
-    places: &mut HashMap<u64, usize>,
-    birth: u64,
-    entries: &[(u64, Tuple<Global>)],
-    place: usize,
-) {
-    places.remove(&birth);
+fn move_place(places: &mut PlaceTable, birth: u64, entries: &[(u64, Tuple<Global>)], place: usize) {
+    places.forget(birth);
     if place < entries.len() {
-        if let Some(noted) = places.get_mut(&entries[place].0) {
-            *noted = place;
-        }
+        places.note(entries[place].0, place, entries);
     }
 }
 
 // The place of a birth's entry, which may be `near`, and else is mostly the one that was noted.
 fn place_of(
     entries: &[(u64, Tuple<Global>)],
-    places: &HashMap<u64, usize>,
+    places: &PlaceTable,
     birth: u64,
     near: usize,
 ) -> Option<usize>
@@ -192,10 +182,14 @@ fn place_of(
     if lies_at(entries, birth, near) {
         return Some(near);
     }
-    match places.get(&birth) {
+    let place = places.near(birth);
+    if lies_at(entries, birth, place) {
+        return Some(place);
+    }
+    match places.other(birth) {
         Some(place) => {
-            if lies_at(entries, birth, *place) {
-                return Some(*place);
+            if lies_at(entries, birth, place) {
+                return Some(place);
             }
             search(entries, birth)
         }

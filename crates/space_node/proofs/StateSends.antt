@@ -1,25 +1,21 @@
 -- The values that a replica's desk owns may go to another thread: its replies, its space, and its executed batches.
 use mathlib.Core.List.{List, [], ◌∷◌}
 use denote.RattleType.{RattleType}
-use denote.Builtin.{u64, usize}
+use denote.Builtin.{u64}
 use denote.Param.Send.{IsSend, sendable}
 use denote.Param.SendFields.{as_row_send, declared_send}
 use denote.Struct.Field.{row_field}
 use denote.Struct.Tuple.{Tuple, tuple_type}
 use Rattle.std.specs.contracts.alloc.Global as heap
 use Rattle.std.below.std_heap.specs.contracts.GlobalAllocator.TheImpl.{ghosts}
-use Rattle.std.specs.contracts.hash.BuildHasherDefault as hashing
-use Rattle.std.specs.contracts.hash.FoldHasher as folding
 use Rattle.std.specs.contracts.option.Option as option
-use Rattle.std.proofs.collections.HashMap.TheSendSync.{the_send as map_send}
-use Rattle.std.proofs.hash.BuildHasherDefault.TheSendSync.{the_send as hashing_send}
-use Rattle.std.proofs.hash.FoldHasher.TheSendSync.{the_send as folding_send}
 use Rattle.std.proofs.option.Option.TheSendSync.{the_send as option_send}
 use Rattle.tuple_tree.specs.contracts.tuples.Tuple as tuple
 use Rattle.reply_cache.specs.contracts.cache.Reply as reply
 use Rattle.reply_cache.specs.contracts.cache.ReplyCache as cache
 use Rattle.reply_cache.specs.contracts.cache.ReplyCache.TheInside as in_cache
 use Rattle.space.proofs.index.Index.TheSendSync.{the_send as index_send}
+use Rattle.space.proofs.place_table.PlaceTable.TheSendSync.{the_send as places_send}
 use Rattle.space.proofs.version.Version.TheSendSync.{the_send as version_send}
 use Rattle.space.specs.contracts.stored.Stored as stored
 use Rattle.space.specs.contracts.stored.Stored.TheInside as in_stored
@@ -32,7 +28,7 @@ use Rattle.execution.specs.contracts.replies.WatchedReplies as replies
 use Rattle.execution.specs.contracts.replies.WatchedReplies.TheInside as in_replies
 use Rattle.execution.specs.contracts.executed.Executed as executed
 use Rattle.execution.specs.contracts.executed.Executed.TheInside as in_executed
-use Rattle.space_node.proofs.Sends.{heap_send, heap_frees, vec_field, tuple_send, answer_send}
+use Rattle.space_node.proofs.Sends.{heap_send, vec_field, tuple_send, answer_send}
 
 -- ---- replies
 
@@ -70,8 +66,7 @@ in_stored_send = declared_send in_stored.the_type (
   (
     vec_field u64 (search sendable),
     (
-      as_row_send (row_field _) (map_send u64 usize (hashing.the_row folding.the_row) heap.the_row folding.the_row _ _ _ _ _
-          (search sendable) (search sendable) (hashing_send folding.the_row (search (sendable, folding_send))) heap_send heap_frees),
+      search (sendable, places_send),
       tt,
     ),
   ),

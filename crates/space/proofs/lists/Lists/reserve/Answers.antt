@@ -1,6 +1,7 @@
 use Rattle.std.proofs.Common.{◌≡◌, ◌<◌, [], Some, sym, ap, subst, ◌∙◌, rules}
 use Rattle.std.proofs.lemmas.Result.{on_ok_weaker}
 use Rattle.space.specs.Filing.{births_at, births_or_none, room_or_none}
+use Rattle.space.specs.declared.key_births.KeyBirths.TheVariants.{Empty}
 use Rattle.space.specs.declared.lists.Lists.{Lists}
 use Rattle.space.proofs.Listed.{Puts, puts, births_unchanged}
 use Rattle.space.proofs.lists.Lists.reserve.Goals as goal
@@ -25,9 +26,8 @@ returns-in-Ok-clause-births c =
     let n : Lists = record { alloc = c.args.self.now.alloc; lists = c.insert.new.self } in
     let key = c.args.key.now in
     let none : births_at m key ≡ [] = sym (ap births_or_none c.in_default.ensures.value) in
-    let empty : c.in_ok-births.births.births ≡ [] = (c.in_ok-births.ensures {u = tt}).births in
     let made : Lists = record { alloc = c.args.self.now.alloc; lists = c.get_mut.follows.lender-at-none } in
-    let h = puts made n c.in_ok-key.key.items (Some c.in_ok-births.births) (c.in-Ok.ensures {u = tt}).updates in
-    let k = subst (λ s. Puts made n s (Some c.in_ok-births.births)) (c.in_ok-key.ensures {u = tt}).items h in
-    births_unchanged m n key (Some c.in_ok-births.births) (empty ∙ sym none)
-    (subst (λ s. Puts (record { alloc = c.args.self.now.alloc; lists = s }) n key (Some c.in_ok-births.births)) c.get_mut.follows.holds-at-none k)
+    let h = puts made n c.in_ok-key.key.items (Some Empty) (c.in-Ok.ensures {u = tt}).updates in
+    let k = subst (λ s. Puts made n s (Some Empty)) (c.in_ok-key.ensures {u = tt}).items h in
+    births_unchanged m n key (Some Empty) (sym none)
+    (subst (λ s. Puts (record { alloc = c.args.self.now.alloc; lists = s }) n key (Some Empty)) c.get_mut.follows.holds-at-none k)

@@ -3,6 +3,7 @@ use Rattle.std.specs.Prelude.{AllPairs, if◌then◌else◌}
 use Rattle.std.specs.Str.{bytes_eq}
 use Rattle.space.specs.Ages.{without}
 use Rattle.space.specs.Filing.{births_at, births_or_none}
+use Rattle.space.specs.KeyBirths.{births_of}
 use Rattle.space.specs.declared.lists.Lists.{Lists}
 use Rattle.space.proofs.Listed.{puts, births_removed, nothing_removed, emptied}
 use Rattle.space.proofs.lists.Lists.take.Goals as goal
@@ -11,8 +12,8 @@ pub returns-in-Some-clause-taken : goal.returns-in-Some-clause-taken
 returns-in-Some-clause-taken c rising =
     let m = c.args.self.now in
     let n : Lists = record { alloc = c.args.self.now.alloc; lists = c.get_mut.follows.lender c.remove.new.self } in
-    let is : births_at m c.args.key.now ≡ c.in-Some.births.now.births = sym (ap births_or_none c.in-Some.ensures.value) in
-    births_removed m n c.args.key.now c.in-Some.births.now.births c.args.birth (Some c.remove.new.self) is
+    let is : births_at m c.args.key.now ≡ births_of c.in-Some.births.now = sym (ap births_or_none c.in-Some.ensures.value) in
+    births_removed m n c.args.key.now (births_of c.in-Some.births.now) c.args.birth (Some c.remove.new.self) is
     (c.remove.ensures (subst (AllPairs (λ a b. a < b)) is rising))
     (puts m n c.args.key.now (Some c.remove.new.self) ((c.get_mut.follows.holds c.remove.new.self).3 (search rules)))
 

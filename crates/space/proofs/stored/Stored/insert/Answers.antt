@@ -13,25 +13,22 @@ use Rattle.space.proofs.stored.Stored.insert.Goals as goal
 pub invariant_of-self : goal.invariant_of-self
 invariant_of-self c = printed_same _ _ _ _ c.make_room.ensures.entries c.make_room.ensures.prints c.self.invariant
 
-pub invariant_of-self-in-Err-1 : goal.invariant_of-self-in-Err-1
-invariant_of-self-in-Err-1 c = printed_same _ _ _ _ c.make_room.ensures.entries c.make_room.ensures.prints c.self.invariant
-
 pub same-tuple : goal.same-tuple
 same-tuple c = refl
 
 pub push_reserved-requires : goal.push_reserved-requires
 push_reserved-requires c = (c.in_ok-make_room.ensures {u = tt}).prints_room
 
-pub push_reserved-requires-in-Ok : goal.push_reserved-requires-in-Ok
-push_reserved-requires-in-Ok c = (c.in_ok-make_room.ensures {u = tt}).room
+pub push_reserved-requires-2 : goal.push_reserved-requires-2
+push_reserved-requires-2 c = (c.in_ok-make_room.ensures {u = tt}).room
 
-pub invariant_of-self-in-Ok : goal.invariant_of-self-in-Ok
-invariant_of-self-in-Ok c =
+pub invariant_of-self-2 : goal.invariant_of-self-2
+invariant_of-self-2 c =
     let es = c.self.inside.entries.items in
     let new = c.args.birth in
     let none_there : lookup (λ k. new == k) es ≡ None = newest_is_new es new (subst (λ s. All (λ e. e.0 < new) s.entries) (sym c.self.view_is) c.requires) in
-    let pushed : c.push_reserved-in-Ok.new.self.items ≡ es ++ (new, c.args.tuple) ∷ [] =
-    c.push_reserved-in-Ok.ensures.items ∙ ap (λ xs. xs ++ (new, c.args.tuple) ∷ []) c.make_room.ensures.entries in
+    let pushed : c.push_reserved-2.new.self.items ≡ es ++ (new, c.args.tuple) ∷ [] =
+    c.push_reserved-2.ensures.items ∙ ap (λ xs. xs ++ (new, c.args.tuple) ∷ []) c.make_room.ensures.entries in
     record {
       apart = subst AreApart (sym pushed) (distinct_more es new c.args.tuple c.self.invariant.apart none_there);
       kept =
@@ -40,13 +37,13 @@ invariant_of-self-in-Ok c =
           ∙ prints_more es c.self.inside.prints.items (new, c.args.tuple) c.self.invariant.kept ∙ ap (map entry_print) (sym pushed);
     }
 
-pub returns-in-Ok-clause-entries : goal.returns-in-Ok-clause-entries
-returns-in-Ok-clause-entries c =
+pub returns-clause-entries : goal.returns-clause-entries
+returns-clause-entries c =
     let es = c.self.inside.entries.items in
     let new = c.args.birth in
     let none_there : lookup (λ k. new == k) es ≡ None = newest_is_new es new (subst (λ s. All (λ e. e.0 < new) s.entries) (sym c.self.view_is) c.requires) in
-    let all = c.push_reserved-in-Ok.new.self.items in
-    let pushed : all ≡ es ++ (new, c.args.tuple) ∷ [] = c.push_reserved-in-Ok.ensures.items ∙ ap (λ xs. xs ++ (new, c.args.tuple) ∷ []) c.make_room.ensures.entries in
+    let all = c.push_reserved-2.new.self.items in
+    let pushed : all ≡ es ++ (new, c.args.tuple) ∷ [] = c.push_reserved-2.ensures.items ∙ ap (λ xs. xs ++ (new, c.args.tuple) ∷ []) c.make_room.ensures.entries in
     let put : Puts es all new (Some c.args.tuple) = subst (λ xs. Puts es xs new (Some c.args.tuple)) (sym pushed) (put_last es new c.args.tuple c.self.invariant.apart none_there) in
     inserted_in_order es all new c.args.tuple put
     ∙ ap (λ s. insert_entry nat_cmp s.entries new c.args.tuple) c.self.view_is
