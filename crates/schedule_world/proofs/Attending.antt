@@ -12,7 +12,7 @@ use Rattle.protocol.specs.Replica.Owed.{IsReplica}
 use Rattle.protocol.specs.System.Run.{GaveNothingLast}
 use Rattle.events.specs.declared.output.Output.{Output}
 use Rattle.events.specs.declared.output.Output.TheVariants as outputs
-use Rattle.events.specs.Outputs.{entry_of, after_entries, after_event}
+use Rattle.events.specs.Outputs.{entry_of, after_entries, after_event, AreSentAsMeant}
 use Rattle.replica.specs.State.{ReplicaData, has_stopped}
 use Rattle.replica.specs.Fits as replica_fits
 use Rattle.replica.specs.Inputs as replica_inputs
@@ -220,3 +220,22 @@ attend_call c trace rs seats new k op timestamp outs valid attend within numbers
     led : client_fits.Fits c m.after.client (after_entries (map (entry_of (256 + k)) outs) (Invoke k timestamp op ∷ history))
     led = subst (λ n. client_fits.Fits c m.after.client (after_event (256 + n) (Invoke n timestamp op) outs history)) number
         (subst (λ t. client_fits.Fits c m.after.client (after_event (256 + m.before.client.number) (Invoke m.before.client.number t op) outs history)) next (m.leads is_closed c history fit.0))
+
+-- ---- to whom outputs go
+
+pub replica_meant : (c : Configuration) (trace : List Entry) (rs new : List ReplicaData) (seats : List Seat) (p : ℕ) (event : ReplicaEvent) (outs : List Output)
+    → AreNumbered c rs → Attend c trace rs seats → is_correct_replica c p ≡ true → Moves rs p event outs new → AreSentAsMeant c p outs
+replica_meant c trace rs new seats p event outs numbered attend correct m =
+    let below = replica_below c p correct in
+    let within : p < length rs = omega (arith, numbered.0, below) in
+    let number : replica_fits.me_of m.before ≡ p = ap replica_fits.me_of (sym (m.was m.before)) ∙ numbered.1 p m.before within in
+    let fit : replica_fits.Fits c m.before (history_of p trace) = subst (λ r. replica_fits.Fits c r (history_of p trace)) (m.was m.before) (attend.replicas p m.before correct).0 in
+    subst (λ n. AreSentAsMeant c n outs) number (m.meant c (history_of p trace) fit)
+
+pub client_meant : (c : Configuration) (trace : List Entry) (rs : List ReplicaData) (seats : List Seat) (k : ℕ) (before : Seat) (outs : List Output)
+    → Attend c trace rs seats → ((d : Seat) → (get_or seats k d).client.number ≡ k) → is_correct_client c (256 + k) ≡ true
+    → ((d : Seat) → get_or seats k d ≡ before) → client_steps.SendsAsMeant before.client outs → AreSentAsMeant c (256 + k) outs
+client_meant c trace rs seats k before outs attend numbers correct was meant =
+    let number : before.client.number ≡ k = ap (λ (s : Seat). s.client.number) (sym (was before)) ∙ numbers before in
+    let fit : FitsSeat c before (history_of (256 + k) trace) = subst (λ (s : Seat). FitsSeat c s (history_of (256 + k) trace)) (was before) (attend.clients k before correct) in
+    subst (λ n. AreSentAsMeant c (256 + n) outs) number (meant c fit.0.members_are)

@@ -17,22 +17,23 @@ was : {X : Type 0} (xs : List X) (i p : ℕ) (x : X) → i ≡ p → p < length 
 was xs i p x same within is d = get_or_default xs p d x within ∙ ap (λ j. get_or xs j x) (sym same) ∙ sym is
 
 pub moves : (rs : List ReplicaData) (i p : ℕ) (before after : ReplicaData) (event : ReplicaEvent) (outs : List Output) → i ≡ p → p < length rs → before ≡ get_or rs i before
-    → replica_fits.me_of after ≡ replica_fits.me_of before → replica_fits.EventLeads before event outs after
+    → replica_fits.me_of after ≡ replica_fits.me_of before → replica_fits.EventLeads before event outs after → replica_fits.SendsAsMeant before outs
     → (has_stopped after ≡ true → outs ≡ []) → Moves rs p event outs (set rs i after)
-moves rs i p before after event outs same within is number leads silent = record {
+moves rs i p before after event outs same within is number leads meant silent = record {
   before = before;
   after = after;
   was = was rs i p before same within is;
   becomes = ap (λ j. set rs j after) same;
   number = number;
   leads = leads;
+  meant = meant;
   silent = silent;
 }
 
 pub moves_client : (seats : List Seat) (i k : ℕ) (before after : Seat) (event : ClientEvent) (outs : List Output) → i ≡ k → k < length seats → before ≡ get_or seats i before
     → after.client.number ≡ before.client.number → after.calls ≡ before.calls → client_steps.EventLeads before.client event outs after.client
-    → (after.client.stopped ≡ true → outs ≡ []) → MovesClient seats k event outs (set seats i after)
-moves_client seats i k before after event outs same within is number calls leads silent = record {
+    → client_steps.SendsAsMeant before.client outs → (after.client.stopped ≡ true → outs ≡ []) → MovesClient seats k event outs (set seats i after)
+moves_client seats i k before after event outs same within is number calls leads meant silent = record {
   before = before;
   after = after;
   was = was seats i k before same within is;
@@ -40,15 +41,16 @@ moves_client seats i k before after event outs same within is number calls leads
   number = number;
   calls = calls;
   leads = leads;
+  meant = meant;
   silent = silent;
 }
 
 pub makes_call : (seats : List Seat) (i k : ℕ) (before after : Seat) (op : Operation) (timestamp : ℕ) (outs : List Output) → i ≡ k → k < length seats → before ≡ get_or seats i before
     → after.client.number ≡ before.client.number → timestamp ≡ suc before.calls → after.calls ≡ timestamp
     → (is_some before.client.call ≡ false → client_steps.Leads before.client (Invoke before.client.number (suc before.client.calls) op) outs after.client)
-    → (is_some before.client.call ≡ false → after.client.stopped ≡ true → outs ≡ [])
+    → client_steps.SendsAsMeant before.client outs → (is_some before.client.call ≡ false → after.client.stopped ≡ true → outs ≡ [])
     → Calls seats k op timestamp outs (set seats i after)
-makes_call seats i k before after op timestamp outs same within is number next calls leads silent = record {
+makes_call seats i k before after op timestamp outs same within is number next calls leads meant silent = record {
   before = before;
   after = after;
   was = was seats i k before same within is;
@@ -57,5 +59,6 @@ makes_call seats i k before after op timestamp outs same within is number next c
   timestamp_is = next;
   calls = calls;
   leads = leads;
+  meant = meant;
   silent = silent;
 }

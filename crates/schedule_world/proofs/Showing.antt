@@ -9,13 +9,13 @@ use Rattle.protocol.specs.System.Trace.Entry.{Invoke, Got, Tick, Executed, Insta
 use Rattle.protocol.specs.System.Schedule as schedules
 use Rattle.protocol.specs.System.Schedule.{World, with_entry, made_by, acceptances}
 use Rattle.events.specs.declared.output.Output.{Output}
-use Rattle.events.specs.Outputs.{entry_of, receivers_in}
+use Rattle.events.specs.Outputs.{entry_of, receivers_in, AreSentAsMeant, IsSentAsMeant}
 use Rattle.schedule_world.specs.declared.report.Acceptance.{Acceptance}
 use Rattle.schedule_world.specs.declared.stage.Stage.{Stage}
 use Rattle.schedule_world.specs.Pooled.{Frame, added}
 use Rattle.schedule_world.specs.Pooling.{IsPool}
 use Rattle.schedule_world.specs.Stages.{Shows, acceptance_of, with_entries}
-use Rattle.schedule_world.specs.Moving.{Adds, AddsAll, AreOf, IsOutputOf, IsPlain, KeepsRecords}
+use Rattle.schedule_world.specs.Moving.{Adds, AddsAll, AddsIfMeant, AddsAllIfMeant, AreOf, IsOutputOf, IsPlain, KeepsRecords}
 use Rattle.schedule_world.proofs.Pools.{pool_kept, pool_sent}
 
 -- one more at the end
@@ -95,6 +95,17 @@ pub adds_more : (c : Configuration) (me : ℕ) (outs : List Output) (output : Ou
     → AddsAll c (map (entry_of me) (outs ++ output ∷ [])) old new
 adds_more c me outs output old mid new before adds w shows =
     subst (λ v. Shows c v new) (sym (entries_more c me w outs output)) (adds (with_entries c w (map (entry_of me) outs)) (before w shows))
+
+-- the frames of the outputs, and that of one more
+parted : (c : Configuration) (me : ℕ) (outs : List Output) (output : Output) → AreSentAsMeant c me (outs ++ output ∷ []) → AreSentAsMeant c me outs × IsSentAsMeant c me output
+parted c me [] output h = (tt, h.0)
+parted c me (o ∷ outs) output h = let rest = parted c me outs output h.1 in ((h.0, rest.0), rest.1)
+
+pub adds_more_meant : (c : Configuration) (me : ℕ) (outs : List Output) (output : Output) (old mid new : Stage) → AddsAllIfMeant c me outs old mid
+    → AddsIfMeant c me output mid new → AddsAllIfMeant c me (outs ++ output ∷ []) old new
+adds_more_meant c me outs output old mid new before adds meant =
+    let parts = parted c me outs output meant in
+    adds_more c me outs output old mid new (before parts.0) (adds parts.1)
 
 pub own_more : (me : ℕ) (outs : List Output) (output : Output) → AreOf me (map (entry_of me) outs) → IsOutputOf me (entry_of me output) → AreOf me (map (entry_of me) (outs ++ output ∷ []))
 own_more me [] output all own = (own, tt)

@@ -23,11 +23,11 @@ use Rattle.schedule_world.specs.declared.stage.Stage.{Stage}
 use Rattle.schedule_world.specs.Stages.{IsSeated, Attend, Stands, with_entries, acceptance_of}
 use Rattle.schedule_world.specs.Pooled.{added}
 use Rattle.schedule_world.specs.Pooling.{IsPool}
-use Rattle.schedule_world.specs.Moving.{Adds, AddsAll, AreOf, KeepsParties, KeepsRecords, Moves, MovesClient, Calls, Behind, Comes, CallComes, Frames}
+use Rattle.schedule_world.specs.Moving.{Adds, AddsAll, AddsAllIfMeant, AreOf, KeepsParties, KeepsRecords, Moves, MovesClient, Calls, Behind, Comes, CallComes, Frames}
 use Rattle.schedule_world.proofs.Projecting.{follow, input_follows, parties}
 use Rattle.schedule_world.proofs.Showing.{shows_same}
 use Rattle.schedule_world.proofs.Pools.{pool_with_frame}
-use Rattle.schedule_world.proofs.Attending.{AreNumbered, replica_below, replica_input, client_input, attend_replica, attend_client, attend_call, apart_from}
+use Rattle.schedule_world.proofs.Attending.{AreNumbered, replica_below, replica_input, client_input, attend_replica, attend_client, attend_call, replica_meant, client_meant, apart_from}
 
 -- ---- which parties are correct
 
@@ -122,32 +122,35 @@ client_within c s k seated h = let below = client_below c k h in let count = sea
 pub comes_replica : (c : Configuration) (old mid late new : Stage) (p : ℕ) (event : ReplicaEvent) (outs : List Output)
     → IsSeated c old → p < 256 → is_correct c p ≡ true → Moves old.replicas.items p event outs mid.replicas.items → mid.seats ≡ old.seats → KeepsRecords old mid
     → Adds c (replica_inputs.input_of p event) mid late → KeepsParties mid late
-    → AddsAll c (map (entry_of p) outs) late new → AreOf p (map (entry_of p) outs) → KeepsParties late new → Comes c (replica_inputs.input_of p event) old new
+    → AddsAllIfMeant c p outs late new → AreOf p (map (entry_of p) outs) → KeepsParties late new → Comes c (replica_inputs.input_of p event) old new
 comes_replica c old mid late new p event outs seated low correct m seats records adds first all of last w st =
     let is = replica_input p event in
-    behind_event c w old mid late new p (replica_inputs.input_of p event) (map (entry_of p) outs) st correct is.0 is.1 records adds first all of last
+    let meant = replica_meant c w.past old.replicas.items mid.replicas.items old.seats.items p event outs (numbered c old seated) st.attend (replica_is_correct c p low correct) m in
+    behind_event c w old mid late new p (replica_inputs.input_of p event) (map (entry_of p) outs) st correct is.0 is.1 records adds first (all meant) of last
     (subst (λ (xs : List Seat). Attend c (after_entries (map (entry_of p) outs) (replica_inputs.input_of p event ∷ w.past)) mid.replicas.items xs) (ap (λ x. x.items) (sym seats))
     (attend_replica c w.past old.replicas.items mid.replicas.items old.seats.items p event outs seated.valid (numbered c old seated) st.attend (replica_is_correct c p low correct) m of))
 
 pub comes_client : (c : Configuration) (old mid late new : Stage) (k : ℕ) (event : ClientEvent) (outs : List Output)
     → IsSeated c old → is_correct_client c (256 + k) ≡ true → MovesClient old.seats.items k event outs mid.seats.items → mid.replicas ≡ old.replicas → KeepsRecords old mid
     → Adds c (client_steps.input_of (256 + k) event) mid late → KeepsParties mid late
-    → AddsAll c (map (entry_of (256 + k)) outs) late new → AreOf (256 + k) (map (entry_of (256 + k)) outs) → KeepsParties late new → Comes c (client_steps.input_of (256 + k) event) old new
+    → AddsAllIfMeant c (256 + k) outs late new → AreOf (256 + k) (map (entry_of (256 + k)) outs) → KeepsParties late new → Comes c (client_steps.input_of (256 + k) event) old new
 comes_client c old mid late new k event outs seated correct m kept records adds first all of last w st =
     let is = client_input (256 + k) event in
     let within = client_within c old k seated correct in
-    behind_event c w old mid late new (256 + k) (client_steps.input_of (256 + k) event) (map (entry_of (256 + k)) outs) st (or_other (is_correct_replica c (256 + k)) (is_correct_client c (256 + k)) correct) is.0 is.1 records adds first all of last
+    behind_event c w old mid late new (256 + k) (client_steps.input_of (256 + k) event) (map (entry_of (256 + k)) outs) st (or_other (is_correct_replica c (256 + k)) (is_correct_client c (256 + k)) correct) is.0 is.1 records adds first
+    (all (client_meant c w.past old.replicas.items old.seats.items k m.before outs st.attend (λ d. seated.client_numbers k d within) correct m.was m.meant)) of last
     (subst (λ (xs : List ReplicaData). Attend c (after_entries (map (entry_of (256 + k)) outs) (client_steps.input_of (256 + k) event ∷ w.past)) xs mid.seats.items) (ap (λ x. x.items) (sym kept))
     (attend_client c w.past old.replicas.items old.seats.items mid.seats.items k event outs seated.valid st.attend within (λ d. seated.client_numbers k d within) correct m of))
 
 pub comes_call : (c : Configuration) (old mid late new : Stage) (k : ℕ) (op : Operation) (timestamp : ℕ) (outs : List Output)
     → IsSeated c old → is_correct_client c (256 + k) ≡ true → Calls old.seats.items k op timestamp outs mid.seats.items → mid.replicas ≡ old.replicas → KeepsRecords old mid
     → Adds c (Invoke k timestamp op) mid late → KeepsParties mid late
-    → AddsAll c (map (entry_of (256 + k)) outs) late new → AreOf (256 + k) (map (entry_of (256 + k)) outs) → KeepsParties late new → CallComes c k op old new
+    → AddsAllIfMeant c (256 + k) outs late new → AreOf (256 + k) (map (entry_of (256 + k)) outs) → KeepsParties late new → CallComes c k op old new
 comes_call c old mid late new k op timestamp outs seated correct m kept records adds first all of last w st allowed =
     let within = client_within c old k seated correct in (
       timestamp,
-      behind_event c w old mid late new (256 + k) (Invoke k timestamp op) (map (entry_of (256 + k)) outs) st (or_other (is_correct_replica c (256 + k)) (is_correct_client c (256 + k)) correct) refl refl records adds first all of last
+      behind_event c w old mid late new (256 + k) (Invoke k timestamp op) (map (entry_of (256 + k)) outs) st (or_other (is_correct_replica c (256 + k)) (is_correct_client c (256 + k)) correct) refl refl records adds first
+          (all (client_meant c w.past old.replicas.items old.seats.items k m.before outs st.attend (λ d. seated.client_numbers k d within) correct m.was m.meant)) of last
           (subst (λ (xs : List ReplicaData). Attend c (after_entries (map (entry_of (256 + k)) outs) (Invoke k timestamp op ∷ w.past)) xs mid.seats.items) (ap (λ x. x.items) (sym kept))
           (attend_call c w.past old.replicas.items old.seats.items mid.seats.items k op timestamp outs seated.valid st.attend within (λ d. seated.client_numbers k d within) correct allowed.1 m of)),
     )
@@ -156,7 +159,7 @@ comes_call c old mid late new k op timestamp outs seated correct m kept records 
 pub from_replica : (c : Configuration) (old mid step late new : Stage) (p q : ℕ) (event : ReplicaEvent) (outs given : List Output) (input : Entry)
     → IsSeated c old → p ≡ q → q < 256 → is_correct c p ≡ true → Moves old.replicas.items q event given step.replicas.items → step.seats ≡ old.seats → KeepsRecords old step
     → mid ≡ step → outs ≡ given → input ≡ replica_inputs.input_of q event
-    → Adds c input mid late → KeepsParties mid late → AddsAll c (map (entry_of p) outs) late new → AreOf p (map (entry_of p) outs) → KeepsParties late new → Comes c input old new
+    → Adds c input mid late → KeepsParties mid late → AddsAllIfMeant c p outs late new → AreOf p (map (entry_of p) outs) → KeepsParties late new → Comes c input old new
 from_replica c old mid step late new p q event outs given input seated same low correct moved seats records mid_is outs_are input_is adds first all of last =
     let is : input ≡ replica_inputs.input_of p event = input_is ∙ ap (λ n. replica_inputs.input_of n event) (sym same) in
     let m : Moves old.replicas.items p event outs mid.replicas.items =
@@ -171,7 +174,7 @@ from_replica c old mid step late new p q event outs given input seated same low 
 pub from_client : (c : Configuration) (old mid step late new : Stage) (p k : ℕ) (event : ClientEvent) (outs given : List Output) (input : Entry)
     → IsSeated c old → p ≡ 256 + k → is_correct c p ≡ true → MovesClient old.seats.items k event given step.seats.items → step.replicas ≡ old.replicas → KeepsRecords old step
     → mid ≡ step → outs ≡ given → input ≡ client_steps.input_of (256 + k) event
-    → Adds c input mid late → KeepsParties mid late → AddsAll c (map (entry_of p) outs) late new → AreOf p (map (entry_of p) outs) → KeepsParties late new → Comes c input old new
+    → Adds c input mid late → KeepsParties mid late → AddsAllIfMeant c p outs late new → AreOf p (map (entry_of p) outs) → KeepsParties late new → Comes c input old new
 from_client c old mid step late new p k event outs given input seated same correct moved rs records mid_is outs_are is adds first all of last =
     let m : MovesClient old.seats.items k event outs mid.seats.items =
     subst (λ (xs : List Output). MovesClient old.seats.items k event xs mid.seats.items) (sym outs_are)
@@ -180,7 +183,7 @@ from_client c old mid step late new p k event outs given input seated same corre
     let still : mid.replicas ≡ old.replicas = ap (λ (s : Stage). s.replicas) mid_is ∙ rs in
     subst (λ e. Comes c e old new) (sym is)
     (comes_client c old mid late new k event outs seated (client_is_correct c k seated.valid (subst (λ n. is_correct c n ≡ true) same correct)) m still kept (subst (λ e. Adds c e mid late) is adds) first
-    (subst (λ n. AddsAll c (map (entry_of n) outs) late new) same all) (subst (λ n. AreOf n (map (entry_of n) outs)) same of) last)
+    (subst (λ n. AddsAllIfMeant c n outs late new) same all) (subst (λ n. AreOf n (map (entry_of n) outs)) same of) last)
 
 -- ---- places
 

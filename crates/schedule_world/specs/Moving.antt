@@ -14,7 +14,8 @@ use Rattle.protocol.specs.System.Trace.Entry.{Invoke, Got, Sent, Accepted}
 use Rattle.protocol.specs.System.Schedule.{Step, Made, World, with_entry, with_frame, IsAllowed}
 use Rattle.protocol.specs.System.Schedule.Step.{calls, seal, sign}
 use Rattle.events.specs.declared.output.Output.{Output}
-use Rattle.events.specs.Outputs.{entry_of}
+use Rattle.events.specs.declared.output.Output.TheVariants as outputs
+use Rattle.events.specs.Outputs.{entry_of, AreSentAsMeant, IsSentAsMeant}
 use Rattle.replica.specs.State.{ReplicaData, has_stopped}
 use Rattle.replica.specs.Fits as replica_fits
 use Rattle.replica.specs.declared.replica.Event.{Event as ReplicaEvent}
@@ -68,6 +69,19 @@ AddsAccepted c client timestamp answer old new =
 abbrev pub AddsAll : Configuration → List Entry → Stage → Stage → Type 0
 AddsAll c entries old new = (w : World) → Shows c w old → Shows c (with_entries c w entries) new
 
+-- the new stage has the party's output more if, where it is a frame, it goes to the parties for whom the frame is
+abbrev pub AddsIfMeant : Configuration → ℕ → Output → Stage → Stage → Type 0
+AddsIfMeant c p output old new = IsSentAsMeant c p output → Adds c (entry_of p output) old new
+
+-- so is a frame that the party sends to these receivers
+abbrev pub AddsSent : Configuration → Party → Vec Party Global → List ℕ → Stage → Stage → Type 0
+AddsSent c party receivers frame old new =
+    AddsIfMeant c (party_number party) (outputs.Send receivers frame) old new
+
+-- and so are all these outputs, the oldest first
+abbrev pub AddsAllIfMeant : Configuration → ℕ → List Output → Stage → Stage → Type 0
+AddsAllIfMeant c p outs old new = AreSentAsMeant c p outs → AddsAll c (map (entry_of p) outs) old new
+
 -- the entry is an output of the party, or all of them are
 abbrev pub IsOutputOf : ℕ → Entry → Type 0
 IsOutputOf p e = (party_of e ≡ p) × (is_output e ≡ true)
@@ -87,6 +101,7 @@ pub record Moves (old : List ReplicaData) (p : ℕ) (event : ReplicaEvent) (outs
   pub becomes : new ≡ slice_set old p after
   pub number : replica_fits.me_of after ≡ replica_fits.me_of before
   pub leads : replica_fits.EventLeads before event outs after
+  pub meant : replica_fits.SendsAsMeant before outs
   pub silent : has_stopped after ≡ true → outs ≡ []
 
 -- client k takes the event and gives the outputs, and no other client moves
@@ -99,6 +114,7 @@ pub record MovesClient (old : List Seat) (k : ℕ) (event : ClientEvent) (outs :
   pub number : after.client.number ≡ before.client.number
   pub calls : after.calls ≡ before.calls
   pub leads : client_steps.EventLeads before.client event outs after.client
+  pub meant : client_steps.SendsAsMeant before.client outs
   pub silent : after.client.stopped ≡ true → outs ≡ []
 
 -- client k calls the operation, with this timestamp, and gives the outputs, and no other client moves
@@ -113,6 +129,7 @@ pub record Calls (old : List Seat) (k : ℕ) (op : Operation) (timestamp : ℕ) 
   pub calls : after.calls ≡ timestamp
   pub leads : is_some before.client.call ≡ false
       → client_steps.Leads before.client (Invoke before.client.number (suc before.client.calls) op) outs after.client
+  pub meant : client_steps.SendsAsMeant before.client outs
   pub silent : is_some before.client.call ≡ false → after.client.stopped ≡ true → outs ≡ []
 
 -- the same of the stage that they are in

@@ -1,5 +1,5 @@
 -- The correct receivers of frames.
-use Rattle.std.specs.Prelude.{◌≡◌, ℕ, List, ◌++◌, map, filter, Vec, Result, OnOk}
+use Rattle.std.specs.Prelude.{◌≡◌, ℕ, List, map, filter, Vec}
 use Rattle.std.specs.declared.alloc.Global.{Global}
 use Rattle.terms.specs.Parties.{party_number}
 use Rattle.terms.specs.declared.parties.Party.{Party}
@@ -12,9 +12,3 @@ correct_in c = filter (is_correct c)
 -- The parties are the correct ones of these.
 abbrev pub AreCorrectOf : Configuration → List ℕ → Vec Party Global → Type 0
 AreCorrectOf c numbers parties = map party_number parties.items ≡ correct_in c numbers
-
--- Unless it fails, the function adds the correct ones of these parties after those that were there.
-abbrev pub AddsCorrect : {U E : Type 0} → Configuration → List ℕ → Vec Party Global → Vec Party Global → Result U E
-    → Type 0
-AddsCorrect c numbers old new result =
-    OnOk result (map party_number new.items ≡ map party_number old.items ++ correct_in c numbers)

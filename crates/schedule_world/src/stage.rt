@@ -9,7 +9,8 @@ ghost use Rattle.protocol.specs.System.Configuration.{is_correct, is_correct_cli
 ghost use Rattle.protocol.specs.System.Trace.Entry.{Got, Sent, Tick};
 ghost use Rattle.protocol.specs.System.Schedule.Step.{flush};
 ghost use Rattle.schedule_world.specs.Opening.{AreNewReplicas, AreNewSeats, IsNewSeat};
-ghost use Rattle.schedule_world.specs.Moving.{Adds, AddsAccepted, AddsAll, AreOf, IsOutputOf, IsPlain, KeepsParties};
+ghost use Rattle.schedule_world.specs.Moving.{Adds, AddsAccepted, AddsAllIfMeant, AddsIfMeant, AddsSent, AreOf};
+ghost use Rattle.schedule_world.specs.Moving.{IsOutputOf, IsPlain, KeepsParties};
 ghost use Rattle.schedule_world.specs.Moving.{entries_by, entry_by};
 ghost use Rattle.schedule_world.specs.Moving.{CallComes, Comes, Delivers, FramesFor, LeadsBy, WaitsFirst};
 ghost use Rattle.schedule_world.specs.Moving.{Invokes, KeepsRecords, StepsClient, StepsReplica};
@@ -19,7 +20,7 @@ ghost use Rattle.schedule_world.specs.Stopped.{AddsParties, is_stopped_client, i
 ghost use Rattle.schedule_world.specs.Stopped.{stopped_clients, stopped_parties, stopped_replicas};
 
 use crate::pool::Pool;
-use crate::receivers::{correct_of, correct_receivers};
+use crate::receivers::{correct_of, keep_correct};
 use crate::report::Acceptance;
 use authenticator::Ring;
 use client_cert::{Client, Event as ClientEvent};
@@ -380,7 +381,7 @@ impl Stage {
         party: Party,
         outputs: Outputs,
     ) -> Result<(), NoMemory>
-        ensures adds { OnOk result (AddsAll config.now (entries_by party outputs) self.old self.new) }
+        ensures adds { OnOk result (AddsAllIfMeant config.now (party_number party) outputs.items self.old self.new) }
         ensures own { OnOk result (AreOf (party_number party) (entries_by party outputs)) }
         ensures kept { KeepsParties self.old self.new }
     {
@@ -390,7 +391,7 @@ impl Stage {
         Ok(())
     }
 
-    // Adds one output. Only replicas execute, and only clients accept.
+    // Adds one output, a frame with its correct receivers. Only replicas execute, and only clients accept.
     fn add_output(
         &mut self,
         alloc: Global,
@@ -398,12 +399,12 @@ impl Stage {
         party: Party,
         output: Output,
     ) -> Result<(), NoMemory>
-        ensures adds { OnOk result (Adds config.now (entry_by party output) self.old self.new) }
+        ensures adds { OnOk result (AddsIfMeant config.now (party_number party) output self.old self.new) }
         ensures own { OnOk result (IsOutputOf (party_number party) (entry_by party output)) }
         ensures kept { KeepsParties self.old self.new }
     {
         match (party, output) {
-            (_, Output::Send(_, frame)) => self.add_sent(alloc, config, party, frame),
+            (_, Output::Send(receivers, frame)) => self.add_sent(config, party, receivers, frame),
             (Party::Replica(replica), Output::Executed(number, batch)) => {
                 self.add(config, EntryKind::Executed(replica, number, batch))
             }
@@ -419,18 +420,19 @@ impl Stage {
         }
     }
 
-    // Adds a frame that a party sent, with its correct receivers.
+    // Adds a frame that a party sent, with the correct ones of its receivers.
     fn add_sent(
         &mut self,
-        alloc: Global,
         config: &Config,
         party: Party,
+        receivers: Vec<Party>,
         frame: SharedBytes,
     ) -> Result<(), NoMemory>
-        ensures adds { OnOk result (Adds config.now (Sent (party_number party) frame) self.old self.new) }
+        ensures adds { OnOk result (AddsSent config.now party receivers frame self.old self.new) }
         ensures kept { KeepsParties self.old self.new }
     {
-        let waiting = correct_receivers(alloc, config, party, frame.as_slice())?;
+        let mut waiting = receivers;
+        keep_correct(config, &mut waiting);
         self.pool.add(frame.share()?, waiting)?;
         self.trace.push(Entry::new(EntryKind::Sent(party, frame)))?;
         Ok(())

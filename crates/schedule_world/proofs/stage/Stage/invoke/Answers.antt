@@ -1,6 +1,8 @@
 use Rattle.std.proofs.Common.{◌≡◌, suc, refl, sym, subst, arith}
 use Rattle.tuple_codec.specs.OperationView.{operation_of}
+use Rattle.client_cert.specs.State.{me_of}
 use Rattle.client_cert.specs.Steps.{CallLeads}
+use Rattle.events.specs.Outputs.{AreSentAsMeant}
 use Rattle.schedule_world.specs.declared.stage.Seat.{Seat}
 use Rattle.schedule_world.proofs.Moved.{makes_call}
 use Rattle.schedule_world.proofs.stage.Stage.invoke.Goals as goal
@@ -13,4 +15,5 @@ returns-in-Err-clause-calls c =
     makes_call c.args.self.now.seats.items c.from.result c.args.client.number c.index_mut-seat.result.now after (operation_of c.args.op) c.in-Some.calls c.new.result.items c.from.ensures c.requires.known
     c.index_mut-seat.ensures.value c.invoke.ensures.number next refl
     (λ none. subst (λ outs. CallLeads c.index_mut-seat.result.now.client c.args.op outs c.invoke.new.self) (sym c.new.ensures.items) ((c.in-Err.ensures {u = tt}).stops none))
+    (λ config members. subst (AreSentAsMeant config (me_of c.index_mut-seat.result.now.client)) (sym c.new.ensures.items) tt)
     (λ none stopped. c.new.ensures.items)
