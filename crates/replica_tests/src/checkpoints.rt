@@ -1,11 +1,9 @@
 //! Checkpoints: the own one at each multiple of the period, those that come, and parts of the states that are kept.
 
+use crate::answers::holds;
 use crate::frames::Sent;
-use crate::replicas::{Given, Row, gives_all, replica_of_period};
+use crate::replicas::{Given, Row, runs};
 use crate::states::{At, PAGE, ROOT, State, root_of};
-use replica::Replica;
-use std::alloc::{AllocError, Global};
-use std::test::Fail;
 
 const ONE: State = State::Behind(1);
 
@@ -28,14 +26,9 @@ const ROOT_OF_ONE: [u8; 32] = [
     0x4c, 0x6a, 0x54, 0xca, 0x70, 0x64, 0xd0, 0x84, 0x4c, 0x7c, 0x78, 0xb0, 0x2f, 0x8b, 0x62, 0x99,
 ];
 
-fn has_root(alloc: Global) -> Result<bool, AllocError> {
-    Ok(root_of(alloc, ONE)? == ROOT_OF_ONE)
-}
-
 #[test]
-fn a_worked_root(rt: HostRuntime) -> Result<(), Fail> {
-    assert!(rt; has_root(rt.alloc())?);
-    Ok(())
+fn a_worked_root(rt: HostRuntime) {
+    holds(&rt, root_of(rt.alloc(), ONE).is(&ROOT_OF_ONE));
 }
 
 // With a period of 2 number 1 has no checkpoint, and number 2 has one.
@@ -286,54 +279,37 @@ static GOES_AGAIN: [Row<'static>; 11] = [
     ),
 ];
 
-fn gives_rows(alloc: Global, me: u8, period: u8, rows: &[Row<'_>]) -> Result<bool, Fail> {
-    let mut replica = replica_of_period(alloc, period, me)?;
-    gives_all(&mut *replica, alloc, rows)
-}
-
 // Number 2 has a checkpoint, and then is stable.
-fn marks_two(
-    alloc: Global,
-    me: u8,
-    second: &[Row<'_>],
-    is_marked: &[Row<'_>],
-) -> Result<bool, Fail> {
-    let mut replica = replica_of_period(alloc, 2, me)?;
-    gives_both(&mut *replica, alloc, second, is_marked)
-}
-
-fn gives_both(
-    replica: &mut Replica,
-    alloc: Global,
-    first: &[Row<'_>],
-    second: &[Row<'_>],
-) -> Result<bool, Fail> {
-    Ok(gives_all(replica, alloc, first)? && gives_all(replica, alloc, second)?)
+#[test]
+fn a_checkpoint_at_each_multiple(rt: HostRuntime) {
+    holds(
+        &rt,
+        runs(rt.alloc(), 1, 2, &[&SECOND_AT_BACKUP, &IS_MARKED_AT_BACKUP]),
+    );
+    holds(
+        &rt,
+        runs(
+            rt.alloc(),
+            0,
+            2,
+            &[&SECOND_AT_PRIMARY, &IS_MARKED_AT_PRIMARY],
+        ),
+    );
 }
 
 #[test]
-fn a_checkpoint_at_each_multiple(rt: HostRuntime) -> Result<(), Fail> {
-    assert!(rt; marks_two(rt.alloc(), 1, &SECOND_AT_BACKUP, &IS_MARKED_AT_BACKUP)?);
-    assert!(rt; marks_two(rt.alloc(), 0, &SECOND_AT_PRIMARY, &IS_MARKED_AT_PRIMARY)?);
-    Ok(())
+fn a_stable_checkpoint_moves_the_marks(rt: HostRuntime) {
+    holds(&rt, runs(rt.alloc(), 1, 1, &[&BECOMES_STABLE]));
+    holds(&rt, runs(rt.alloc(), 1, 1, &[&STABLE_AT_ONCE]));
+    holds(&rt, runs(rt.alloc(), 0, 1, &[&FREES_NUMBERS]));
 }
 
 #[test]
-fn a_stable_checkpoint_moves_the_marks(rt: HostRuntime) -> Result<(), Fail> {
-    assert!(rt; gives_rows(rt.alloc(), 1, 1, &BECOMES_STABLE)?);
-    assert!(rt; gives_rows(rt.alloc(), 1, 1, &STABLE_AT_ONCE)?);
-    assert!(rt; gives_rows(rt.alloc(), 0, 1, &FREES_NUMBERS)?);
-    Ok(())
+fn three_checkpoints_of_a_sender(rt: HostRuntime) {
+    holds(&rt, runs(rt.alloc(), 1, 1, &[&FOURTH]));
 }
 
 #[test]
-fn three_checkpoints_of_a_sender(rt: HostRuntime) -> Result<(), Fail> {
-    assert!(rt; gives_rows(rt.alloc(), 1, 1, &FOURTH)?);
-    Ok(())
-}
-
-#[test]
-fn the_latest_checkpoint_goes_again(rt: HostRuntime) -> Result<(), Fail> {
-    assert!(rt; gives_rows(rt.alloc(), 1, 1, &GOES_AGAIN)?);
-    Ok(())
+fn the_latest_checkpoint_goes_again(rt: HostRuntime) {
+    holds(&rt, runs(rt.alloc(), 1, 1, &[&GOES_AGAIN]));
 }

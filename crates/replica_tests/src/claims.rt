@@ -1,15 +1,16 @@
 //! A view change whose list of claims is as long as it can be, and the effect of one claim more.
 
-use crate::frames::{Sent, eight};
+use crate::answers::{holds, of_stop};
+use crate::frames::{Sent, put_front};
 use crate::replicas::{Given, gives, gives_for, replica_of_period};
-use crate::signed::{key_tree, signed};
+use crate::signed::{key_tree, put_count, signed};
 use crate::states::{ROOT, State, root_of};
-use events::{Output, Outputs};
+use events::{Output, Outputs, Stop};
 use replica::{Event, Replica};
 use signing::KeyTree;
 use std::alloc::{AllocError, Global};
-use std::test::Fail;
-use test_bytes::{ORDERED, batch_text, client_party, joined, piece, request_body, sealed};
+use terms::NoMemory;
+use test_bytes::{Buffer, ORDERED, Verdict, all_hold, both, put_request, seal};
 
 // So many claims fit: a view change has 16,606 bytes, 40 for each checkpoint and 48 for each claim, and 262,144 at the
 // most. With this many and one checkpoint it has 262,118.
@@ -27,43 +28,60 @@ const OF_UPPER_HALF: usize = 139_198;
 const SIGNATURE_LEN: usize = 16_577;
 
 // The request of a view, of client 0, for replica 3: no other view has it.
-fn request_of(alloc: Global, view: u8) -> Result<Vec<u8>, AllocError> {
-    let op = joined(alloc, &[&[0x21, 1, 1], &eight(view)])?;
-    let body = request_body(alloc, 0, 1, ORDERED, &op)?;
-    sealed(alloc, client_party(0), &[3], &body)
+fn request_of(alloc: Global, view: u8) -> Buffer {
+    let mut body = Buffer::new(alloc);
+    put_request(0, 1, ORDERED, b"\x21\x01\x01", &mut body);
+    body.put_number(u64::from(view));
+    seal(alloc, &body, &[3])
 }
 
-// The batch of that request.
-fn batch_of(alloc: Global, view: u8) -> Result<Vec<u8>, AllocError> {
-    let request = request_of(alloc, view)?;
-    batch_text(alloc, &[&request])
+// Puts the batch of that request.
+fn put_batch(alloc: Global, view: u8, out: &mut Buffer) {
+    out.put_byte(1);
+    out.put_framed(&request_of(alloc, view));
 }
 
 // The pre-prepare of that batch, for replica 3.
-fn proposal(alloc: Global, view: u8, number: u8) -> Result<Vec<u8>, AllocError> {
-    let primary = view & 3;
-    let batch = batch_of(alloc, view)?;
-    let body = joined(
-        alloc,
-        &[&[0x42, 0, primary], &eight(view), &eight(number), &batch],
-    )?;
-    sealed(alloc, u16::from(primary), &[3], &body)
+fn proposal(alloc: Global, view: u8, number: u8) -> Buffer {
+    let mut body = Buffer::new(alloc);
+    put_front(0x42, view & 3, view, &mut body);
+    body.put_number(u64::from(number));
+    put_batch(alloc, view, &mut body);
+    seal(alloc, &body, &[3])
 }
 
-// Whether replica 3 answers the pre-prepares of the numbers up to the last by a frame each, its prepare.
-fn logs(replica: &mut Replica, alloc: Global, view: u8, last: u8) -> Result<bool, Fail> {
+// Whether the step gave so many outputs.
+fn are_so_many(stepped: Result<Outputs, Stop>, count: usize) -> Verdict {
+    match stepped {
+        Ok(outputs) => {
+            let is_right = outputs.len() == count;
+            drop(outputs);
+            Ok(is_right)
+        }
+        Err(stop) => of_stop(stop),
+    }
+}
+
+// Whether replica 3 answers the pre-prepare by a frame, its prepare.
+fn logs_one(replica: &mut Replica, alloc: Global, view: u8, number: u8) -> Verdict {
+    let frame = proposal(alloc, view, number);
+    let verdict = are_so_many(replica.step(alloc, Event::Got(frame.bytes())), 1);
+    frame.end(verdict)
+}
+
+// Whether it does so for the numbers up to the last.
+fn logs(replica: &mut Replica, alloc: Global, view: u8, last: u8) -> Verdict {
     for number in 1..=last {
-        let frame = proposal(alloc, view, number)?;
-        let outputs = replica.step(alloc, Event::Got(frame.as_slice()))?;
-        if outputs.len() != 1 {
-            return Ok(false);
+        match logs_one(replica, alloc, view, number) {
+            Ok(true) => {}
+            other => return other,
         }
     }
     Ok(true)
 }
 
 // A state that a new view starts from, by its number and root.
-type Start = (u8, [u8; 32]);
+type Start<'a> = (u8, &'a [u8]);
 
 // The trees of replicas 0, 1 and 2, each made once.
 fn key_trees(alloc: Global) -> Result<Vec<KeyTree>, AllocError> {
@@ -75,94 +93,61 @@ fn key_trees(alloc: Global) -> Result<Vec<KeyTree>, AllocError> {
 }
 
 // The frame of a body that one of them signs with its first key.
-fn signed_by(
-    alloc: Global,
-    trees: &[KeyTree],
-    replica: u8,
-    body: &[u8],
-) -> Result<Vec<u8>, AllocError> {
+fn signed_by(alloc: Global, trees: &[KeyTree], replica: u8, body: &Buffer) -> Buffer {
     match trees.get(usize::from(replica)) {
         Some(tree) => signed(alloc, tree, 0, body),
-        None => Ok(Vec::new(alloc)),
+        None => Buffer::new(alloc),
     }
 }
 
-// The view change of a replica that has nothing to claim, and keeps the checkpoint of this state.
+fn put_start((number, root): Start<'_>, out: &mut Buffer) {
+    out.put_number(u64::from(number));
+    out.put(root);
+}
+
+// Puts the view change of a replica that has nothing to claim, and keeps the checkpoint of this state.
+fn put_empty_change(sender: u8, view: u8, start: Start<'_>, out: &mut Buffer) {
+    put_front(0x46, sender, view, out);
+    out.put_number(u64::from(start.0));
+    out.put_byte(1);
+    put_start(start, out);
+    out.put(&[0; 4]);
+}
+
 fn empty_change(
     alloc: Global,
     trees: &[KeyTree],
     sender: u8,
     view: u8,
-    (low, root): Start,
-) -> Result<Vec<u8>, AllocError> {
-    let low = eight(low);
-    let body = joined(
-        alloc,
-        &[
-            &[0x46, 0, sender],
-            &eight(view),
-            &low,
-            &[1],
-            &low,
-            &root,
-            &[0; 4],
-        ],
-    )?;
+    start: Start<'_>,
+) -> Buffer {
+    let mut body = Buffer::new(alloc);
+    put_empty_change(sender, view, start, &mut body);
     signed_by(alloc, trees, sender, &body)
 }
 
-// Puts the length of that view change, and the view change.
-fn put_change(
-    alloc: Global,
-    trees: &[KeyTree],
-    sender: u8,
-    view: u8,
-    start: Start,
-    out: &mut Vec<u8>,
-) -> Result<(), AllocError> {
-    let change = empty_change(alloc, trees, sender, view, start)?;
-    let carried = piece(alloc, &change)?;
-    out.extend_from_slice(&carried)
-}
-
-// The view changes of replicas 0, 1 and 2.
-fn empty_changes(
+// Puts the view changes of replicas 0, 1 and 2.
+fn put_empty_changes(
     alloc: Global,
     trees: &[KeyTree],
     view: u8,
-    start: Start,
-) -> Result<Vec<u8>, AllocError> {
-    let mut changes = Vec::new(alloc);
+    start: Start<'_>,
+    out: &mut Buffer,
+) {
+    put_count(3, out);
     for sender in 0..3 {
-        put_change(alloc, trees, sender, view, start, &mut changes)?;
+        out.put_framed(&empty_change(alloc, trees, sender, view, start));
     }
-    Ok(changes)
 }
 
 // The new view that starts from this state, with no batches, over these view changes.
-fn empty_new_view(
-    alloc: Global,
-    trees: &[KeyTree],
-    view: u8,
-    start: Start,
-) -> Result<Vec<u8>, AllocError> {
-    let primary = view & 3;
-    let (number, root) = start;
-    let changes = empty_changes(alloc, trees, view, start)?;
-    let front = [0x47, 0, primary];
-    let body = joined(
-        alloc,
-        &[
-            &front,
-            &eight(view),
-            &[3],
-            &changes,
-            &eight(number),
-            &root,
-            &[0],
-        ],
-    )?;
-    signed_by(alloc, trees, primary, &body)
+fn empty_new_view(alloc: Global, trees: &[KeyTree], view: u8, start: Start<'_>) -> Buffer {
+    let mut body = Buffer::new(alloc);
+    put_front(0x47, view & 3, view, &mut body);
+    put_empty_changes(alloc, trees, view, start, &mut body);
+    put_start(start, &mut body);
+    put_count(0, &mut body);
+    signed_by(alloc, trees, view & 3, &body)
 }
 
 // How many numbers it logs in a view, of so many claims that are left.
@@ -176,10 +161,29 @@ fn enters(
     alloc: Global,
     trees: &[KeyTree],
     view: u8,
-    start: Start,
-) -> Result<bool, Fail> {
-    let new = empty_new_view(alloc, trees, view, start)?;
-    gives(replica, alloc, &new, &[])
+    start: Start<'_>,
+) -> Verdict {
+    let new = empty_new_view(alloc, trees, view, start);
+    let verdict = gives(replica, alloc, new.bytes(), &[]);
+    new.end(verdict)
+}
+
+// It is in view 0 from the first.
+fn claims_in(
+    replica: &mut Replica,
+    alloc: Global,
+    trees: &[KeyTree],
+    (view, count): (u8, u8),
+    start: Start<'_>,
+) -> Verdict {
+    if view == 0 {
+        logs(replica, alloc, view, count)
+    } else {
+        both(
+            enters(replica, alloc, trees, view, start),
+            logs(replica, alloc, view, count),
+        )
+    }
 }
 
 // Makes as many claims as fit, view after view. It is the primary of each fourth, which nobody begins.
@@ -187,19 +191,17 @@ fn claims_most(
     replica: &mut Replica,
     alloc: Global,
     trees: &[KeyTree],
-    start: Start,
-) -> Result<bool, Fail> {
+    start: Start<'_>,
+) -> Verdict {
     let mut left = MOST;
     for view in 0..=LAST_VIEW {
         if view & 3 != 3 {
-            if view > 0 && !enters(replica, alloc, trees, view, start)? {
-                return Ok(false);
-            }
             let count = numbers_of(left);
-            if !logs(replica, alloc, view, count)? {
-                return Ok(false);
-            }
             left = left.saturating_sub(usize::from(count));
+            match claims_in(replica, alloc, trees, (view, count), start) {
+                Ok(true) => {}
+                other => return other,
+            }
         }
     }
     Ok(left == 0)
@@ -233,74 +235,87 @@ fn moves_in_time(
     before: usize,
     len: usize,
     leaf: u8,
-) -> Result<bool, Fail> {
-    let outputs = replica.step(alloc, Event::Timeout)?;
-    Ok(ends_with_change(&outputs, before, len, leaf))
+) -> Verdict {
+    match replica.step(alloc, Event::Timeout) {
+        Ok(outputs) => {
+            let is_right = ends_with_change(&outputs, before, len, leaf);
+            drop(outputs);
+            Ok(is_right)
+        }
+        Err(stop) => of_stop(stop),
+    }
 }
 
-// With one claim more nothing happens when time goes by: it is still active in its view.
+// With one claim more nothing happens when time goes by: it is still active in its view, and logs another.
 fn stays_with_one_more(
     replica: &mut Replica,
     alloc: Global,
     trees: &[KeyTree],
-    start: Start,
-) -> Result<bool, Fail> {
-    if !enters(replica, alloc, trees, 214, start)? || !logs(replica, alloc, 214, 1)? {
-        return Ok(false);
-    }
-    Ok(gives_nothing_in_time(replica, alloc)? && logs_another(replica, alloc)?)
+    start: Start<'_>,
+) -> Verdict {
+    all_hold(&[
+        enters(replica, alloc, trees, 214, start),
+        logs(replica, alloc, 214, 1),
+        are_so_many(replica.step(alloc, Event::Timeout), 0),
+        logs_one(replica, alloc, 214, 2),
+    ])
 }
 
-fn gives_nothing_in_time(replica: &mut Replica, alloc: Global) -> Result<bool, Fail> {
-    let outputs = replica.step(alloc, Event::Timeout)?;
-    Ok(outputs.is_empty())
+static FETCHES: [Given; 1] = [Given::Sends(Sent::Fetch(16, ROOT, 3))];
+
+// A view that starts at number 16 takes away the claims up to it.
+fn is_cut(replica: &mut Replica, alloc: Global, trees: &[KeyTree]) -> Verdict {
+    let new = empty_new_view(alloc, trees, 216, (16, &[0xff; 32]));
+    let verdict = gives(replica, alloc, new.bytes(), &FETCHES);
+    new.end(verdict)
 }
 
-fn logs_another(replica: &mut Replica, alloc: Global) -> Result<bool, Fail> {
-    let frame = proposal(alloc, 214, 2)?;
-    let outputs = replica.step(alloc, Event::Got(frame.as_slice()))?;
-    Ok(outputs.len() == 1)
-}
-
-// A view that starts at number 16 takes away the claims up to it, and the second of its keys is the next that signs.
-fn moves_when_cut(replica: &mut Replica, alloc: Global, trees: &[KeyTree]) -> Result<bool, Fail> {
-    let new = empty_new_view(alloc, trees, 216, (16, [0xff; 32]))?;
-    is_cut(replica, alloc, &new)
-}
-
-fn is_cut(replica: &mut Replica, alloc: Global, new: &[u8]) -> Result<bool, Fail> {
-    let fetch = [Given::Sends(Sent::Fetch(16, ROOT, 3))];
-    Ok(gives(replica, alloc, new, &fetch)? && moves_in_time(replica, alloc, 1, OF_UPPER_HALF, 1)?)
-}
-
-fn claims_all_that_fit(alloc: Global) -> Result<bool, Fail> {
-    let trees = key_trees(alloc)?;
-    claims_from_the_start(alloc, &trees)
-}
-
-fn claims_from_the_start(alloc: Global, trees: &[KeyTree]) -> Result<bool, Fail> {
-    let opening = (0, root_of(alloc, State::Behind(0))?);
-    let mut replica = replica_of_period(alloc, 16, 3)?;
-    claims_and_moves(&mut *replica, alloc, trees, opening)
-}
-
+// Behind that view the second of its keys is the next that signs.
 fn claims_and_moves(
     replica: &mut Replica,
     alloc: Global,
     trees: &[KeyTree],
-    opening: Start,
-) -> Result<bool, Fail> {
-    Ok(
-        claims_most(replica, alloc, trees, opening)?
-            && gives_for(replica, alloc, Sent::Request(1), &[])?
-            && moves_in_time(replica, alloc, 0, LONGEST, 0)?
-            && stays_with_one_more(replica, alloc, trees, opening)?
-            && moves_when_cut(replica, alloc, trees)?,
-    )
+    opening: Start<'_>,
+) -> Verdict {
+    all_hold(&[
+        claims_most(replica, alloc, trees, opening),
+        gives_for(replica, alloc, Sent::Request(1), &[]),
+        moves_in_time(replica, alloc, 0, LONGEST, 0),
+        stays_with_one_more(replica, alloc, trees, opening),
+        is_cut(replica, alloc, trees),
+        moves_in_time(replica, alloc, 1, OF_UPPER_HALF, 1),
+    ])
+}
+
+fn replica_claims(alloc: Global, trees: &[KeyTree], opening: Start<'_>) -> Verdict {
+    match replica_of_period(alloc, 16, 3) {
+        Ok(mut replica) => {
+            let verdict = claims_and_moves(&mut *replica, alloc, trees, opening);
+            drop(replica);
+            verdict
+        }
+        Err(stop) => of_stop(stop),
+    }
+}
+
+fn claims_from_the_start(alloc: Global, trees: &[KeyTree]) -> Verdict {
+    let root = root_of(alloc, State::Behind(0));
+    let verdict = replica_claims(alloc, trees, (0, root.bytes()));
+    root.end(verdict)
+}
+
+fn claims_all_that_fit(alloc: Global) -> Verdict {
+    match key_trees(alloc) {
+        Ok(trees) => {
+            let verdict = claims_from_the_start(alloc, &trees);
+            drop(trees);
+            verdict
+        }
+        Err(AllocError) => Err(NoMemory),
+    }
 }
 
 #[test]
-fn claims_in_many_views(rt: HostRuntime) -> Result<(), Fail> {
-    assert!(rt; claims_all_that_fit(rt.alloc())?);
-    Ok(())
+fn claims_in_many_views(rt: HostRuntime) {
+    holds(&rt, claims_all_that_fit(rt.alloc()));
 }

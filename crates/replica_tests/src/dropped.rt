@@ -1,10 +1,11 @@
 //! Frames that give nothing.
 
+use crate::answers::{holds, of_stop};
 use crate::frames::{Sent, frame_of};
 use crate::replicas::{Given, gives, gives_for, replica_of_period};
 use replica::Replica;
 use std::alloc::Global;
-use std::test::Fail;
+use test_bytes::{Buffer, Verdict};
 
 // The receiver of the frame, the frame, and its changed byte, if any.
 type Row = (u8, Sent, Option<usize>);
@@ -35,71 +36,61 @@ static DROPPED: [Row; 16] = [
 ];
 
 // Turns the lowest bit of a byte.
-fn change(bytes: &mut [u8], at: Option<usize>) {
+fn change(frame: &mut Buffer, at: Option<usize>) {
     if let Some(at) = at {
-        if let Some(byte) = bytes.get_mut(at) {
-            *byte ^= 1;
-        }
+        frame.turn(at, 1);
     }
 }
 
 // Whether nothing is given for it, and the request is then ordered as if it had not come.
-fn is_dropped(alloc: Global, (me, sent, at): Row) -> Result<bool, Fail> {
-    let mut frame = frame_of(alloc, sent)?;
+fn is_dropped(alloc: Global, (me, sent, at): Row) -> Verdict {
+    let mut frame = frame_of(alloc, sent);
     change(&mut frame, at);
-    is_dropped_by(alloc, me, frame.as_slice())
+    let verdict = are_dropped(alloc, me, &[frame.bytes()]);
+    frame.end(verdict)
 }
 
-fn is_dropped_by(alloc: Global, me: u8, frame: &[u8]) -> Result<bool, Fail> {
-    let mut replica = replica_of_period(alloc, 16, me)?;
-    drops(&mut *replica, alloc, me, frame)
-}
-
-fn drops(replica: &mut Replica, alloc: Global, me: u8, frame: &[u8]) -> Result<bool, Fail> {
-    Ok(gives(replica, alloc, frame, &[])? && goes_on(replica, alloc, me)?)
-}
-
-fn goes_on(replica: &mut Replica, alloc: Global, me: u8) -> Result<bool, Fail> {
-    if me == 0 {
-        return gives_for(
-            replica,
-            alloc,
-            Sent::Request(1),
-            &[Given::Sends(Sent::PrePrepare(1))],
-        );
+fn are_dropped(alloc: Global, me: u8, all: &[&[u8]]) -> Verdict {
+    match replica_of_period(alloc, 16, me) {
+        Ok(mut replica) => {
+            let verdict = drops_all(&mut *replica, alloc, me, all);
+            drop(replica);
+            verdict
+        }
+        Err(stop) => of_stop(stop),
     }
-    gives_for(
-        replica,
-        alloc,
-        Sent::PrePrepare(1),
-        &[Given::Sends(Sent::Prepare(1, me))],
-    )
 }
 
-#[test]
-fn frames_that_are_dropped(rt: HostRuntime) -> Result<(), Fail> {
-    for row in &DROPPED {
-        assert!(rt; is_dropped(rt.alloc(), *row)?, "{row:?}");
-    }
-    Ok(())
-}
-
-fn are_dropped(alloc: Global, all: &[&[u8]]) -> Result<bool, Fail> {
-    let mut replica = replica_of_period(alloc, 16, 0)?;
-    drops_all(&mut *replica, alloc, all)
-}
-
-fn drops_all(replica: &mut Replica, alloc: Global, all: &[&[u8]]) -> Result<bool, Fail> {
+fn drops_all(replica: &mut Replica, alloc: Global, me: u8, all: &[&[u8]]) -> Verdict {
     for bytes in all {
-        if !gives(replica, alloc, bytes, &[])? {
-            return Ok(false);
+        match gives(replica, alloc, bytes, &[]) {
+            Ok(true) => {}
+            other => return other,
         }
     }
-    goes_on(replica, alloc, 0)
+    goes_on(replica, alloc, me)
+}
+
+static NUMBERS_IT: [Given; 1] = [Given::Sends(Sent::PrePrepare(1))];
+
+fn goes_on(replica: &mut Replica, alloc: Global, me: u8) -> Verdict {
+    if me == 0 {
+        gives_for(replica, alloc, Sent::Request(1), &NUMBERS_IT)
+    } else {
+        let prepares = [Given::Sends(Sent::Prepare(1, me))];
+        gives_for(replica, alloc, Sent::PrePrepare(1), &prepares)
+    }
 }
 
 #[test]
-fn bytes_that_are_no_frame(rt: HostRuntime) -> Result<(), Fail> {
-    assert!(rt; are_dropped(rt.alloc(), &[b"", b"\0", b"\0\0\0\0", &[0xff; 64]])?);
-    Ok(())
+fn frames_that_are_dropped(rt: HostRuntime) {
+    for &row in &DROPPED {
+        holds(&rt, is_dropped(rt.alloc(), row));
+    }
+}
+
+#[test]
+fn bytes_that_are_no_frame(rt: HostRuntime) {
+    let all: [&[u8]; 4] = [b"", b"\0", b"\0\0\0\0", &[0xff; 64]];
+    holds(&rt, are_dropped(rt.alloc(), 0, &all));
 }

@@ -2,16 +2,14 @@
 //! its states and views. They are written by docs/formats.md without the code that reads them.
 
 use crate::signed::{Begun, Change, change_frame, new_view_frame};
-use crate::states::{At, PAGE, State, children_at, page_text, root_of};
-use sha2::{Digest, Sha256};
-use std::alloc::{AllocError, Global};
+use crate::states::{At, PAGE, State, put_children, put_page, put_root};
+use std::alloc::Global;
 use test_bytes::{
-    ABSENT, DONE, ORDERED, READ, READ_ONLY, TAKE, batch_text, client_party, joined, reply_body,
-    request_body, sealed,
+    ABSENT, Buffer, DONE, ORDERED, READ, READ_ONLY, TAKE, put_reply, put_request, seal,
 };
 
 /// A frame of the run, mostly by its number and the replica that sends it.
-#[derive(Clone, Copy, Debug)]
+#[derive(Clone, Copy)]
 pub enum Sent {
     Request(u8),
     /// The read-only request of client 0 for a read, and for an operation that takes a tuple.
@@ -37,59 +35,60 @@ pub enum Sent {
     Part(u8, State, At, u8, u8),
     ViewChange(&'static Change),
     NewView(&'static Begun),
+    /// No frame: time goes by.
+    Nothing,
 }
 
-// Parties are below this.
-const PARTIES: u16 = 260;
+// The bytes in front of the number in `out (n)`, and in `found (1)`.
+const OUT: &[u8] = b"\x21\x01\x01";
 
-// The bytes in front of the number in `found (1)`.
 const FOUND: &[u8] = b"\x32\x01\x01";
-
-/// A number in eight bytes.
-pub fn eight(number: u8) -> [u8; 8] {
-    u64::from(number).to_be_bytes()
-}
 
 // The client that asks for the number.
 fn client_of(number: u8) -> u8 {
     number.wrapping_sub(1)
 }
 
-// The frame of a body with a MAC for each party that it is for.
-fn sealed_for(alloc: Global, sent: Sent, sender: u16, body: &[u8]) -> Result<Vec<u8>, AllocError> {
-    let mut receivers = Vec::new(alloc);
-    for party in 0..PARTIES {
-        if is_for(sent, party) {
-            receivers.push(party)?;
-        }
-    }
-    sealed(alloc, sender, &receivers, body)
+// Puts the body of the request for the number.
+fn put_out(number: u8, out: &mut Buffer) {
+    put_request(client_of(number), 1, ORDERED, OUT, out);
+    out.put_number(u64::from(number));
 }
 
-fn request(alloc: Global, number: u8, mode: u8, op: &[u8]) -> Result<Vec<u8>, AllocError> {
-    let client = client_of(number);
-    let body = request_body(alloc, client, 1, mode, op)?;
-    sealed_for(alloc, Sent::Request(number), client_party(client), &body)
+fn out_request(alloc: Global, number: u8) -> Buffer {
+    let mut body = Buffer::new(alloc);
+    put_out(number, &mut body);
+    seal(alloc, &body, receivers_of(Sent::Request(number)))
 }
 
-fn out_request(alloc: Global, number: u8) -> Result<Vec<u8>, AllocError> {
-    let op = joined(alloc, &[&[0x21, 1, 1], &eight(number)])?;
-    request(alloc, number, ORDERED, &op)
+// Puts the text of a batch of one frame.
+fn put_batch_of(frame: &Buffer, out: &mut Buffer) {
+    out.put_byte(1);
+    out.put_framed(frame);
+}
+
+/// Puts the text of the run's batch of the number.
+pub fn put_batch(alloc: Global, number: u8, out: &mut Buffer) {
+    put_batch_of(&out_request(alloc, number), out);
 }
 
 /// The text of the run's batch of the number.
-pub fn batch(alloc: Global, number: u8) -> Result<Vec<u8>, AllocError> {
-    let request = out_request(alloc, number)?;
-    batch_text(alloc, &[&request])
+pub fn batch(alloc: Global, number: u8) -> Buffer {
+    let mut text = Buffer::new(alloc);
+    put_batch(alloc, number, &mut text);
+    text
+}
+
+/// Puts the digest of the run's batch of the number.
+pub fn put_digest(alloc: Global, number: u8, out: &mut Buffer) {
+    out.put_digest(&batch(alloc, number));
 }
 
 // The MACs of the request stand at 31, 65, 99 and 133.
-fn forged_batch(alloc: Global) -> Result<Vec<u8>, AllocError> {
-    let mut request = out_request(alloc, 1)?;
-    if let Some(byte) = request.get_mut(65) {
-        *byte ^= 1;
-    }
-    batch_text(alloc, &[&request])
+fn put_forged_batch(alloc: Global, out: &mut Buffer) {
+    let mut request = out_request(alloc, 1);
+    request.turn(65, 1);
+    put_batch_of(&request, out);
 }
 
 // The primary of a view.
@@ -97,208 +96,167 @@ fn primary_of(view: u8) -> u8 {
     view & 3
 }
 
-fn pre_prepare(alloc: Global, view: u8, number: u8, batch: &[u8]) -> Result<Vec<u8>, AllocError> {
-    let primary = primary_of(view);
-    let body = joined(
-        alloc,
-        &[&[0x42, 0, primary], &eight(view), &eight(number), batch],
-    )?;
-    let sent = Sent::PrePrepareIn(view, number);
-    sealed_for(alloc, sent, u16::from(primary), &body)
+/// Puts a message's type, its sender and its first number, mostly its view.
+pub fn put_front(kind: u8, replica: u8, number: u8, out: &mut Buffer) {
+    out.put_byte(kind);
+    out.put_short(u16::from(replica));
+    out.put_number(u64::from(number));
 }
 
-// The pre-prepare of the run's batch of the number.
-fn pre_prepare_of_run(alloc: Global, view: u8, number: u8) -> Result<Vec<u8>, AllocError> {
-    let batch = batch(alloc, number)?;
-    pre_prepare(alloc, view, number, &batch)
+// Puts what is in front of the batch.
+fn put_numbered(view: u8, number: u8, out: &mut Buffer) {
+    put_front(0x42, primary_of(view), view, out);
+    out.put_number(u64::from(number));
 }
 
-fn forged_pre_prepare(alloc: Global) -> Result<Vec<u8>, AllocError> {
-    let batch = forged_batch(alloc)?;
-    pre_prepare(alloc, 0, 1, &batch)
+// Puts the pre-prepare of the run's batch of the number.
+fn put_pre_prepare(alloc: Global, view: u8, number: u8, out: &mut Buffer) {
+    put_numbered(view, number, out);
+    put_batch(alloc, number, out);
 }
 
-/// The digest of the run's batch of the number.
-pub fn digest(alloc: Global, number: u8) -> Result<[u8; 32], AllocError> {
-    Ok(Sha256::digest(batch(alloc, number)?.as_slice()))
+fn put_forged(alloc: Global, out: &mut Buffer) {
+    put_numbered(0, 1, out);
+    put_forged_batch(alloc, out);
 }
 
-// A prepare or a commit.
-fn vote(alloc: Global, kind: u8, view: u8, number: u8, replica: u8) -> Result<Vec<u8>, AllocError> {
-    let digest = digest(alloc, number)?;
-    let body = joined(
-        alloc,
-        &[&[kind, 0, replica], &eight(view), &eight(number), &digest],
-    )?;
-    sealed_for(
-        alloc,
-        Sent::Prepare(number, replica),
-        u16::from(replica),
-        &body,
-    )
+// Puts a prepare or a commit: its type, view, number and sender.
+fn put_vote(alloc: Global, (kind, view, number, replica): (u8, u8, u8, u8), out: &mut Buffer) {
+    put_front(kind, replica, view, out);
+    out.put_number(u64::from(number));
+    put_digest(alloc, number, out);
 }
 
 // It says done.
-fn reply(alloc: Global, number: u8, replica: u8) -> Result<Vec<u8>, AllocError> {
+fn put_done(number: u8, replica: u8, out: &mut Buffer) {
     let said = (1, ORDERED, u64::from(number), DONE);
-    let body = reply_body(alloc, replica, client_of(number), said)?;
-    sealed_for(
-        alloc,
-        Sent::Reply(number, replica),
-        u16::from(replica),
-        &body,
-    )
+    put_reply(replica, client_of(number), said, out);
 }
 
 // In the opening state nothing is found, and after the first number its tuple.
-fn read_answer(alloc: Global, number: u8) -> Result<Vec<u8>, AllocError> {
+fn put_read_reply(number: u8, replica: u8, out: &mut Buffer) {
+    let at = u64::from(number);
     if number == 0 {
-        joined(alloc, &[ABSENT])
+        put_reply(replica, 0, (1, READ_ONLY, at, ABSENT), out);
     } else {
-        joined(alloc, &[FOUND, &eight(number)])
+        put_reply(replica, 0, (1, READ_ONLY, at, FOUND), out);
+        out.put_number(at);
     }
 }
 
-fn read_reply(alloc: Global, number: u8, replica: u8) -> Result<Vec<u8>, AllocError> {
-    let answer = read_answer(alloc, number)?;
-    let said = (1, READ_ONLY, u64::from(number), answer.as_slice());
-    let body = reply_body(alloc, replica, 0, said)?;
-    sealed_for(
-        alloc,
-        Sent::ReadReply(number, replica),
-        u16::from(replica),
-        &body,
-    )
+fn put_checkpoint(alloc: Global, number: u8, state: State, replica: u8, out: &mut Buffer) {
+    put_front(0x45, replica, number, out);
+    put_root(alloc, state, out);
 }
 
-fn checkpoint(alloc: Global, number: u8, state: State, replica: u8) -> Result<Vec<u8>, AllocError> {
-    let root = root_of(alloc, state)?;
-    let body = joined(alloc, &[&[0x45, 0, replica], &eight(number), &root])?;
-    let sent = Sent::Checkpoint(number, state, replica);
-    sealed_for(alloc, sent, u16::from(replica), &body)
+fn put_fetch(number: u8, (level, index): At, replica: u8, out: &mut Buffer) {
+    put_front(0x49, replica, number, out);
+    out.put_byte(level);
+    out.put_short(index);
 }
 
-fn fetch(alloc: Global, number: u8, at: At, replica: u8) -> Result<Vec<u8>, AllocError> {
-    let (level, index) = at;
-    let index = index.to_be_bytes();
-    let body = joined(
-        alloc,
-        &[&[0x49, 0, replica], &eight(number), &[level], &index],
-    )?;
-    let sent = Sent::Fetch(number, at, replica);
-    sealed_for(alloc, sent, u16::from(replica), &body)
+fn put_page_part(number: u8, state: State, page: u16, replica: u8, out: &mut Buffer) {
+    put_front(0x4b, replica, number, out);
+    out.put_short(page);
+    put_page(state, page, out);
 }
 
-fn page_body(
-    alloc: Global,
-    number: u8,
-    state: State,
-    page: u16,
-    replica: u8,
-) -> Result<Vec<u8>, AllocError> {
-    let text = page_text(alloc, state, page)?;
-    joined(
-        alloc,
-        &[
-            &[0x4b, 0, replica],
-            &eight(number),
-            &page.to_be_bytes(),
-            &text,
-        ],
-    )
-}
-
-fn digests_body(
-    alloc: Global,
-    number: u8,
-    state: State,
-    (level, index): At,
-    replica: u8,
-) -> Result<Vec<u8>, AllocError> {
-    let digests = children_at(alloc, state, (level, index))?;
-    let front = [0x4a, 0, replica];
-    joined(
-        alloc,
-        &[
-            &front,
-            &eight(number),
-            &[level],
-            &index.to_be_bytes(),
-            &digests,
-        ],
-    )
+fn put_digests(alloc: Global, number: u8, state: State, at: At, replica: u8, out: &mut Buffer) {
+    put_front(0x4a, replica, number, out);
+    out.put_byte(at.0);
+    out.put_short(at.1);
+    put_children(alloc, state, at, out);
 }
 
 // A page has no byte for its level.
-fn part_body(
-    alloc: Global,
-    number: u8,
-    state: State,
-    at: At,
-    replica: u8,
-) -> Result<Vec<u8>, AllocError> {
+fn put_part(alloc: Global, number: u8, state: State, at: At, replica: u8, out: &mut Buffer) {
     if at.0 == PAGE {
-        return page_body(alloc, number, state, at.1, replica);
+        put_page_part(number, state, at.1, replica, out);
+    } else {
+        put_digests(alloc, number, state, at, replica, out);
     }
-    digests_body(alloc, number, state, at, replica)
 }
 
-// A part, from a replica to another one.
-fn part(
-    alloc: Global,
-    number: u8,
-    state: State,
-    at: At,
-    (from, to): (u8, u8),
-) -> Result<Vec<u8>, AllocError> {
-    let body = part_body(alloc, number, state, at, from)?;
-    sealed(alloc, u16::from(from), &[u16::from(to)], &body)
+// Puts the body of a frame with MACs.
+fn put_body(alloc: Global, sent: Sent, out: &mut Buffer) {
+    match sent {
+        Sent::Request(number) => put_out(number, out),
+        Sent::Read => put_request(0, 1, READ_ONLY, READ, out),
+        Sent::ReadOnlyTake => put_request(0, 1, READ_ONLY, TAKE, out),
+        Sent::ReadReply(number, replica) => put_read_reply(number, replica, out),
+        Sent::PrePrepare(number) => put_pre_prepare(alloc, 0, number, out),
+        Sent::PrePrepareIn(view, number) => put_pre_prepare(alloc, view, number, out),
+        Sent::Forged => put_forged(alloc, out),
+        Sent::Prepare(number, replica) => put_vote(alloc, (0x43, 0, number, replica), out),
+        Sent::PrepareIn(view, number, replica) => {
+            put_vote(alloc, (0x43, view, number, replica), out);
+        }
+        Sent::Commit(number, replica) => put_vote(alloc, (0x44, 0, number, replica), out),
+        Sent::CommitIn(view, number, replica) => {
+            put_vote(alloc, (0x44, view, number, replica), out);
+        }
+        Sent::Reply(number, replica) => put_done(number, replica, out),
+        Sent::Checkpoint(number, state, replica) => {
+            put_checkpoint(alloc, number, state, replica, out);
+        }
+        Sent::Fetch(number, at, replica) => put_fetch(number, at, replica, out),
+        Sent::Part(number, state, at, from, _) => put_part(alloc, number, state, at, from, out),
+        Sent::ViewChange(_) | Sent::NewView(_) | Sent::Nothing => {}
+    }
+}
+
+fn sealed_frame(alloc: Global, sent: Sent) -> Buffer {
+    let mut body = Buffer::new(alloc);
+    put_body(alloc, sent, &mut body);
+    seal(alloc, &body, receivers_of(sent))
 }
 
 /// Its bytes.
-pub fn frame_of(alloc: Global, sent: Sent) -> Result<Vec<u8>, AllocError> {
+pub fn frame_of(alloc: Global, sent: Sent) -> Buffer {
     match sent {
-        Sent::Request(number) => out_request(alloc, number),
-        Sent::Read => request(alloc, 1, READ_ONLY, READ),
-        Sent::ReadOnlyTake => request(alloc, 1, READ_ONLY, TAKE),
-        Sent::ReadReply(number, replica) => read_reply(alloc, number, replica),
-        Sent::PrePrepare(number) => pre_prepare_of_run(alloc, 0, number),
-        Sent::PrePrepareIn(view, number) => pre_prepare_of_run(alloc, view, number),
-        Sent::Forged => forged_pre_prepare(alloc),
-        Sent::Prepare(number, replica) => vote(alloc, 0x43, 0, number, replica),
-        Sent::PrepareIn(view, number, replica) => vote(alloc, 0x43, view, number, replica),
-        Sent::Commit(number, replica) => vote(alloc, 0x44, 0, number, replica),
-        Sent::CommitIn(view, number, replica) => vote(alloc, 0x44, view, number, replica),
-        Sent::Reply(number, replica) => reply(alloc, number, replica),
-        Sent::Checkpoint(number, state, replica) => checkpoint(alloc, number, state, replica),
-        Sent::Fetch(number, at, replica) => fetch(alloc, number, at, replica),
-        Sent::Part(number, state, at, from, to) => part(alloc, number, state, at, (from, to)),
         Sent::ViewChange(change) => change_frame(alloc, change),
         Sent::NewView(begun) => new_view_frame(alloc, begun),
+        _ => sealed_frame(alloc, sent),
     }
 }
 
-/// Whether the party of this number is one of those for whom it is.
-pub fn is_for(sent: Sent, party: u16) -> bool {
+static REPLICAS: [u16; 4] = [0, 1, 2, 3];
+
+static CLIENTS: [u16; 3] = [256, 257, 258];
+
+// The party alone, of those in order.
+fn only(parties: &'static [u16], place: u8) -> &'static [u16] {
+    let place = usize::from(place);
+    parties.get(place..place + 1).unwrap_or(&[])
+}
+
+// All replicas but this one.
+fn others_of(replica: u8) -> &'static [u16] {
+    match replica {
+        0 => &[1, 2, 3],
+        1 => &[0, 2, 3],
+        2 => &[0, 1, 3],
+        _ => &[0, 1, 2],
+    }
+}
+
+/// The parties for whom it is, by their numbers, in order.
+pub fn receivers_of(sent: Sent) -> &'static [u16] {
     match sent {
-        Sent::Request(_) | Sent::Read | Sent::ReadOnlyTake => party < 4,
-        Sent::ReadReply(_, _) => party == client_party(0),
-        Sent::PrePrepare(_) | Sent::Forged => party > 0 && party < 4,
-        Sent::PrePrepareIn(view, _) => party < 4 && party != u16::from(primary_of(view)),
+        Sent::Request(_) | Sent::Read | Sent::ReadOnlyTake => &REPLICAS,
+        Sent::ReadReply(_, _) => only(&CLIENTS, 0),
+        Sent::PrePrepare(_) | Sent::Forged => others_of(0),
+        Sent::PrePrepareIn(view, _) => others_of(primary_of(view)),
         Sent::Prepare(_, replica)
         | Sent::Commit(_, replica)
         | Sent::PrepareIn(_, _, replica)
         | Sent::CommitIn(_, _, replica)
         | Sent::Checkpoint(_, _, replica)
-        | Sent::Fetch(_, _, replica) => party < 4 && party != u16::from(replica),
-        Sent::Reply(number, _) => party == client_party(client_of(number)),
-        Sent::Part(_, _, _, _, to) => party == u16::from(to),
-        Sent::ViewChange(change) => party < 4 && party != u16::from(change.sender),
-        Sent::NewView(begun) => party < 4 && party != u16::from(begun.sender),
+        | Sent::Fetch(_, _, replica) => others_of(replica),
+        Sent::Reply(number, _) => only(&CLIENTS, client_of(number)),
+        Sent::Part(_, _, _, _, to) => only(&REPLICAS, to),
+        Sent::ViewChange(change) => others_of(change.sender),
+        Sent::NewView(begun) => others_of(begun.sender),
+        Sent::Nothing => &[],
     }
-}
-
-/// For how many it is.
-pub fn count_of_receivers(sent: Sent) -> usize {
-    (0..PARTIES).filter(|party| is_for(sent, *party)).count()
 }

@@ -1,9 +1,8 @@
 //! A request that goes through the three phases, and reads beside it.
 
+use crate::answers::holds;
 use crate::frames::Sent;
-use crate::replicas::{Given, Row, gives_all, replica_of_period};
-use std::alloc::Global;
-use std::test::Fail;
+use crate::replicas::{Given, Row, runs};
 
 // The primary numbers the request, commits with prepares of two backups, executes with two commits beside its own,
 // and answers. Further frames than it needs give nothing.
@@ -110,29 +109,21 @@ pub static READS: [Row<'static>; 7] = [
     (Sent::Read, &[Given::Sends(Sent::ReadReply(1, 1))]),
 ];
 
-fn orders(alloc: Global, me: u8, rows: &[Row<'_>]) -> Result<bool, Fail> {
-    let mut replica = replica_of_period(alloc, 16, me)?;
-    gives_all(&mut *replica, alloc, rows)
+#[test]
+fn a_request_is_ordered(rt: HostRuntime) {
+    holds(&rt, runs(rt.alloc(), 0, 16, &[&AT_PRIMARY]));
+    holds(&rt, runs(rt.alloc(), 1, 16, &[&AT_BACKUP]));
+    holds(&rt, runs(rt.alloc(), 2, 16, &[&WITHOUT_REQUEST]));
+    holds(&rt, runs(rt.alloc(), 3, 16, &[&BACKWARDS]));
 }
 
 #[test]
-fn a_request_is_ordered(rt: HostRuntime) -> Result<(), Fail> {
-    assert!(rt; orders(rt.alloc(), 0, &AT_PRIMARY)?);
-    assert!(rt; orders(rt.alloc(), 1, &AT_BACKUP)?);
-    assert!(rt; orders(rt.alloc(), 2, &WITHOUT_REQUEST)?);
-    assert!(rt; orders(rt.alloc(), 3, &BACKWARDS)?);
-    Ok(())
+fn a_waiting_request_comes_again(rt: HostRuntime) {
+    holds(&rt, runs(rt.alloc(), 0, 16, &[&AGAIN_AT_PRIMARY]));
+    holds(&rt, runs(rt.alloc(), 1, 16, &[&AGAIN_AT_BACKUP]));
 }
 
 #[test]
-fn a_waiting_request_comes_again(rt: HostRuntime) -> Result<(), Fail> {
-    assert!(rt; orders(rt.alloc(), 0, &AGAIN_AT_PRIMARY)?);
-    assert!(rt; orders(rt.alloc(), 1, &AGAIN_AT_BACKUP)?);
-    Ok(())
-}
-
-#[test]
-fn reads_are_answered_beside_the_order(rt: HostRuntime) -> Result<(), Fail> {
-    assert!(rt; orders(rt.alloc(), 1, &READS)?);
-    Ok(())
+fn reads_are_answered_beside_the_order(rt: HostRuntime) {
+    holds(&rt, runs(rt.alloc(), 1, 16, &[&READS]));
 }

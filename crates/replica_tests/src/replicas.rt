@@ -1,17 +1,17 @@
 //! One of four replicas, and its outputs.
 
-use crate::frames::{Sent, batch, count_of_receivers, frame_of, is_for};
+use crate::answers::of_stop;
+use crate::frames::{Sent, batch, frame_of, receivers_of};
 use crate::states::{State, root_of};
-use events::{Config, Output, Outputs};
+use events::{Config, Output, Outputs, Stop};
 use replica::{Desk, Event, Orderer, Replica};
 use signing::PublicKeys;
-use std::alloc::{AllocError, Global};
-use std::test::Fail;
+use std::alloc::Global;
 use terms::{NoMemory, Party, ReplicaId};
-use test_bytes::FRAME_SEED;
+use test_bytes::{FRAME_SEED, Verdict, both};
 
 /// An output of an event: a frame, the batch of a number that is executed, or a state of a number that is installed.
-#[derive(Clone, Copy, Debug)]
+#[derive(Clone, Copy)]
 pub enum Given {
     Sends(Sent),
     Executes(u8),
@@ -21,9 +21,10 @@ pub enum Given {
 /// A frame that comes, and the outputs for it.
 pub type Row<'a> = (Sent, &'a [Given]);
 
-/// The configuration of four replicas and three clients, all correct, with a checkpoint at each multiple of the period.
-pub fn config_of_period(alloc: Global, period: u8) -> Result<Config, Fail> {
-    Ok(Config::new(1, 3, FRAME_SEED, period, Vec::new(alloc), Vec::new(alloc))?)
+/// The configuration of four replicas and three clients, all correct, with a checkpoint at each multiple of the period;
+/// none if that is no valid one.
+pub fn config_of_period(alloc: Global, period: u8) -> Option<Config> {
+    Config::new(1, 3, FRAME_SEED, period, Vec::new(alloc), Vec::new(alloc)).ok()
 }
 
 /// The replica of this number below 4, before its first event.
@@ -33,114 +34,165 @@ pub fn new_replica(alloc: Global, config: &Config, me: u8) -> Result<Replica, No
     Replica::new(alloc, config, ReplicaId(me.min(last)), publics)
 }
 
-/// The same in the configuration of this period. It lies in a box: a function that owns all of a replica takes long
-/// to prove.
-pub fn replica_of_period(alloc: Global, period: u8, me: u8) -> Result<Box<Replica>, Fail> {
-    let config = config_of_period(alloc, period)?;
-    Ok(Box::new(alloc, new_replica(alloc, &config, me)?)?)
+// It lies in a box: a function that owns all of a replica takes long to prove.
+fn boxed<T: Drop>(alloc: Global, value: T) -> Result<Box<T>, Stop> {
+    match Box::new(alloc, value) {
+        Ok(value) => Ok(value),
+        Err(_) => Err(Stop::NoMemory),
+    }
 }
 
-/// Its parts, in boxes too.
-pub fn parts_of_period(
-    alloc: Global,
-    period: u8,
-    me: u8,
-) -> Result<(Box<Orderer>, Box<Desk>), Fail> {
-    let config = config_of_period(alloc, period)?;
-    let (orderer, desk) = new_replica(alloc, &config, me)?.split();
-    Ok(both(boxed(alloc, orderer), boxed(alloc, desk))?)
+fn boxed_in(alloc: Global, config: &Config, me: u8) -> Result<Box<Replica>, Stop> {
+    match new_replica(alloc, config, me) {
+        Ok(replica) => boxed(alloc, replica),
+        Err(NoMemory) => Err(Stop::NoMemory),
+    }
 }
 
-fn boxed<T: Drop>(alloc: Global, value: T) -> Result<Box<T>, NoMemory> {
-    Ok(Box::new(alloc, value)?)
+/// The replica in the configuration of this period. Where there is none it is as one that stopped.
+pub fn replica_of_period(alloc: Global, period: u8, me: u8) -> Result<Box<Replica>, Stop> {
+    match config_of_period(alloc, period) {
+        Some(config) => boxed_in(alloc, &config, me),
+        None => Err(Stop::Stopped),
+    }
 }
+
+/// The parts of a replica, in boxes.
+pub type Parts = (Box<Orderer>, Box<Desk>);
 
 // Both are boxed before either is asked for, so that neither is dropped outside of its box.
-fn both(
-    orderer: Result<Box<Orderer>, NoMemory>,
-    desk: Result<Box<Desk>, NoMemory>,
-) -> Result<(Box<Orderer>, Box<Desk>), NoMemory> {
+fn both_parts(
+    orderer: Result<Box<Orderer>, Stop>,
+    desk: Result<Box<Desk>, Stop>,
+) -> Result<Parts, Stop> {
     let orderer = orderer?;
     Ok((orderer, desk?))
 }
 
-fn are_receivers(parties: &[Party], sent: Sent) -> bool {
-    parties.len() == count_of_receivers(sent)
-        && parties.iter().all(|party| is_for(sent, party.number()))
-        && parties.is_sorted_by(|one, next| one.number() < next.number())
+fn split(alloc: Global, replica: Replica) -> Result<Parts, Stop> {
+    let (orderer, desk) = replica.split();
+    both_parts(boxed(alloc, orderer), boxed(alloc, desk))
 }
 
-fn is_frame(alloc: Global, bytes: &[u8], sent: Sent) -> Result<bool, AllocError> {
-    let frame = frame_of(alloc, sent)?;
-    Ok(frame.as_slice() == bytes)
+fn split_in(alloc: Global, config: &Config, me: u8) -> Result<Parts, Stop> {
+    match new_replica(alloc, config, me) {
+        Ok(replica) => split(alloc, replica),
+        Err(NoMemory) => Err(Stop::NoMemory),
+    }
 }
 
-fn is_batch(alloc: Global, bytes: &[u8], number: u8) -> Result<bool, AllocError> {
-    let batch = batch(alloc, number)?;
-    Ok(batch.as_slice() == bytes)
+/// The parts of that replica.
+pub fn parts_of_period(alloc: Global, period: u8, me: u8) -> Result<Parts, Stop> {
+    match config_of_period(alloc, period) {
+        Some(config) => split_in(alloc, &config, me),
+        None => Err(Stop::Stopped),
+    }
 }
 
-fn is_given(alloc: Global, output: &Output, given: Given) -> Result<bool, AllocError> {
+fn are_receivers(parties: &[Party], numbers: &[u16]) -> bool {
+    parties.len() == numbers.len()
+        && parties
+            .iter()
+            .zip(numbers)
+            .all(|(party, number)| party.number() == *number)
+}
+
+fn is_given(alloc: Global, output: &Output, given: Given) -> Verdict {
     match (output, given) {
-        (Output::Send(parties, frame), Given::Sends(sent)) => {
-            Ok(are_receivers(parties, sent) && is_frame(alloc, frame.as_slice(), sent)?)
-        }
-        (Output::Executed(at, text), Given::Executes(number)) => {
-            Ok(at.0 == u64::from(number) && is_batch(alloc, text.as_slice(), number)?)
-        }
-        (Output::Installed(at, root), Given::Installs(number, state)) => {
-            Ok(at.0 == u64::from(number) && *root == root_of(alloc, state)?)
-        }
+        (Output::Send(parties, frame), Given::Sends(sent)) => both(
+            Ok(are_receivers(parties, receivers_of(sent))),
+            frame_of(alloc, sent).is(frame.as_slice()),
+        ),
+        (Output::Executed(at, text), Given::Executes(number)) => both(
+            Ok(at.0 == u64::from(number)),
+            batch(alloc, number).is(text.as_slice()),
+        ),
+        (Output::Installed(at, root), Given::Installs(number, state)) => both(
+            Ok(at.0 == u64::from(number)),
+            root_of(alloc, state).is(root),
+        ),
         _ => Ok(false),
     }
 }
 
 /// Whether the outputs are these.
-pub fn are_given(alloc: Global, outputs: &Outputs, all: &[Given]) -> Result<bool, AllocError> {
+pub fn are_given(alloc: Global, outputs: &Outputs, all: &[Given]) -> Verdict {
     for (output, given) in outputs.as_slice().iter().zip(all) {
-        if !is_given(alloc, output, *given)? {
-            return Ok(false);
+        match is_given(alloc, output, *given) {
+            Ok(true) => {}
+            other => return other,
         }
     }
     Ok(outputs.len() == all.len())
 }
 
-/// Whether the replica gives this for bytes that come, and goes on.
-pub fn gives(
-    replica: &mut Replica,
-    alloc: Global,
-    bytes: &[u8],
-    all: &[Given],
-) -> Result<bool, Fail> {
-    let outputs = replica.step(alloc, Event::Got(bytes))?;
-    let is_right = are_given(alloc, &outputs, all)?;
-    Ok(is_right && !replica.is_stopped())
+/// Whether the step gave these.
+pub fn are_given_by(alloc: Global, stepped: Result<Outputs, Stop>, all: &[Given]) -> Verdict {
+    match stepped {
+        Ok(outputs) => {
+            let verdict = are_given(alloc, &outputs, all);
+            drop(outputs);
+            verdict
+        }
+        Err(stop) => of_stop(stop),
+    }
 }
 
-/// Whether the replica gives this for a frame of the run.
-pub fn gives_for(
-    replica: &mut Replica,
-    alloc: Global,
-    sent: Sent,
-    all: &[Given],
-) -> Result<bool, Fail> {
-    let frame = frame_of(alloc, sent)?;
-    gives(replica, alloc, frame.as_slice(), all)
+// Whether the replica gives this for an event, and goes on.
+fn gives_at(replica: &mut Replica, alloc: Global, event: Event<'_>, all: &[Given]) -> Verdict {
+    let verdict = are_given_by(alloc, replica.step(alloc, event), all);
+    both(verdict, Ok(!replica.is_stopped()))
+}
+
+/// Whether the replica gives this for bytes that come, and goes on.
+pub fn gives(replica: &mut Replica, alloc: Global, bytes: &[u8], all: &[Given]) -> Verdict {
+    gives_at(replica, alloc, Event::Got(bytes), all)
+}
+
+fn gives_for_frame(replica: &mut Replica, alloc: Global, sent: Sent, all: &[Given]) -> Verdict {
+    let frame = frame_of(alloc, sent);
+    let verdict = gives(replica, alloc, frame.bytes(), all);
+    frame.end(verdict)
+}
+
+/// Whether the replica gives this for a frame of the run, or when time goes by.
+pub fn gives_for(replica: &mut Replica, alloc: Global, sent: Sent, all: &[Given]) -> Verdict {
+    match sent {
+        Sent::Nothing => gives_at(replica, alloc, Event::Timeout, all),
+        _ => gives_for_frame(replica, alloc, sent, all),
+    }
 }
 
 /// Whether the replica gives the expected outputs for each frame, one after another.
-pub fn gives_all(replica: &mut Replica, alloc: Global, rows: &[Row<'_>]) -> Result<bool, Fail> {
+pub fn gives_all(replica: &mut Replica, alloc: Global, rows: &[Row<'_>]) -> Verdict {
     for (sent, all) in rows {
-        if !gives_for(replica, alloc, *sent, all)? {
-            return Ok(false);
+        match gives_for(replica, alloc, *sent, all) {
+            Ok(true) => {}
+            other => return other,
         }
     }
     Ok(true)
 }
 
-/// Whether it gives this when time goes by.
-pub fn gives_in_time(replica: &mut Replica, alloc: Global, all: &[Given]) -> Result<bool, Fail> {
-    let outputs = replica.step(alloc, Event::Timeout)?;
-    let is_right = are_given(alloc, &outputs, all)?;
-    Ok(is_right && !replica.is_stopped())
+fn gives_tables(replica: &mut Replica, alloc: Global, tables: &[&[Row<'_>]]) -> Verdict {
+    for rows in tables {
+        match gives_all(replica, alloc, rows) {
+            Ok(true) => {}
+            other => return other,
+        }
+    }
+    Ok(true)
+}
+
+/// Whether the replica of this number, in the configuration of this period, gives the expected outputs for each frame of
+/// each table.
+pub fn runs(alloc: Global, me: u8, period: u8, tables: &[&[Row<'_>]]) -> Verdict {
+    match replica_of_period(alloc, period, me) {
+        Ok(mut replica) => {
+            let verdict = gives_tables(&mut *replica, alloc, tables);
+            drop(replica);
+            verdict
+        }
+        Err(stop) => of_stop(stop),
+    }
 }

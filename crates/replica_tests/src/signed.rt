@@ -1,18 +1,18 @@
 //! Frames that replicas sign, written by docs/formats.md without the code that reads them.
 
-use crate::frames::{batch, digest, eight};
-use crate::states::{State, root_of};
+use crate::frames::{put_batch, put_digest, put_front};
+use crate::states::{State, put_root};
 use authenticator::signing_seed;
 use signing::KeyTree;
-use std::alloc::{AllocError, Global};
+use std::alloc::Global;
 use terms::{Party, ReplicaId};
-use test_bytes::{FRAME_SEED, piece};
+use test_bytes::{Buffer, FRAME_SEED};
 
 /// A number and a view: the run's batch of this number was prepared, or logged, in this view.
 pub type Claim = (u8, u8);
 
 /// A view change.
-#[derive(Clone, Copy, Debug)]
+#[derive(Clone, Copy)]
 pub struct Change {
     pub sender: u8,
     /// Of the sender's tree the leaf that signs it, below 64.
@@ -28,7 +28,7 @@ pub struct Change {
 }
 
 /// A new view.
-#[derive(Clone, Copy, Debug)]
+#[derive(Clone, Copy)]
 pub struct Begun {
     pub sender: u8,
     pub leaf: u8,
@@ -47,129 +47,110 @@ pub fn key_tree(replica: u8) -> KeyTree {
     KeyTree::new(&signing_seed(&FRAME_SEED, party))
 }
 
+// Puts the signature of a body by this leaf of a tree, below 64.
+fn put_signature(alloc: Global, tree: &KeyTree, leaf: u8, body: &[u8], out: &mut Buffer) {
+    match tree.sign_with(alloc, leaf % 64, body) {
+        Ok(signature) => out.put(signature.as_slice()),
+        Err(_) => out.cut(),
+    }
+}
+
 /// The frame of a body that is signed with this leaf of a tree, below 64.
-pub fn signed(alloc: Global, tree: &KeyTree, leaf: u8, body: &[u8]) -> Result<Vec<u8>, AllocError> {
-    let signature = tree.sign_with(alloc, leaf % 64, body)?;
-    put_signature(alloc, body, signature.as_slice())
+pub fn signed(alloc: Global, tree: &KeyTree, leaf: u8, body: &Buffer) -> Buffer {
+    let mut frame = Buffer::new(alloc);
+    frame.put_framed(body);
+    frame.put_byte(1);
+    put_signature(alloc, tree, leaf, body.bytes(), &mut frame);
+    frame
 }
 
-fn put_signature(alloc: Global, body: &[u8], signature: &[u8]) -> Result<Vec<u8>, AllocError> {
-    let mut frame = piece(alloc, body)?;
-    frame.push(1)?;
-    frame.extend_from_slice(signature)?;
-    Ok(frame)
+// With the lowest bit of the last byte turned, which is the signature's, if it is to be wrong.
+fn signed_by(alloc: Global, by: (u8, u8), body: &Buffer, is_forged: bool) -> Buffer {
+    let (sender, leaf) = by;
+    let mut frame = signed(alloc, &key_tree(sender), leaf, body);
+    let last = frame.bytes().len().saturating_sub(1);
+    frame.turn(last, u8::from(is_forged));
+    frame
 }
 
-// Turns the lowest bit of the last byte, which is the signature's, if it is to be wrong.
-fn forge(frame: &mut [u8], is_forged: bool) {
-    if let Some(byte) = frame.last_mut() {
-        *byte ^= u8::from(is_forged);
-    }
+/// Puts how many follow, below 256.
+pub fn put_count(count: usize, out: &mut Buffer) {
+    out.put_byte((count & 0xff) as u8);
 }
 
-fn signed_by(
-    alloc: Global,
-    (sender, leaf): (u8, u8),
-    body: &[u8],
-    is_forged: bool,
-) -> Result<Vec<u8>, AllocError> {
-    let tree = key_tree(sender);
-    let mut frame = signed(alloc, &tree, leaf, body)?;
-    forge(&mut frame, is_forged);
-    Ok(frame)
+fn put_claim(alloc: Global, (number, view): Claim, out: &mut Buffer) {
+    out.put_number(u64::from(number));
+    put_digest(alloc, number, out);
+    out.put_number(u64::from(view));
 }
 
-fn put_claims(alloc: Global, claims: &[Claim], out: &mut Vec<u8>) -> Result<(), AllocError> {
-    out.extend_from_slice(&[0, (claims.len() & 0xff) as u8])?;
+fn put_claims(alloc: Global, claims: &[Claim], out: &mut Buffer) {
+    out.put_byte(0);
+    put_count(claims.len(), out);
     for claim in claims {
-        put_claim(alloc, *claim, out)?;
+        put_claim(alloc, *claim, out);
     }
-    Ok(())
 }
 
-fn put_claim(alloc: Global, (number, view): Claim, out: &mut Vec<u8>) -> Result<(), AllocError> {
-    let digest = digest(alloc, number)?;
-    out.extend_from_slice(&eight(number))?;
-    out.extend_from_slice(&digest)?;
-    out.extend_from_slice(&eight(view))
+fn put_checkpoint(alloc: Global, number: u8, out: &mut Buffer) {
+    out.put_number(u64::from(number));
+    put_root(alloc, State::Behind(number), out);
 }
 
-fn put_checkpoints(alloc: Global, kept: &[u8], out: &mut Vec<u8>) -> Result<(), AllocError> {
-    out.push((kept.len() & 3) as u8)?;
+fn put_checkpoints(alloc: Global, kept: &[u8], out: &mut Buffer) {
+    put_count(kept.len(), out);
     for number in kept {
-        put_checkpoint(alloc, *number, out)?;
+        put_checkpoint(alloc, *number, out);
     }
-    Ok(())
 }
 
-fn put_checkpoint(alloc: Global, number: u8, out: &mut Vec<u8>) -> Result<(), AllocError> {
-    let root = root_of(alloc, State::Behind(number))?;
-    out.extend_from_slice(&eight(number))?;
-    out.extend_from_slice(&root)
-}
-
-fn change_body(alloc: Global, change: &Change) -> Result<Vec<u8>, AllocError> {
-    let mut body = Vec::new(alloc);
-    body.extend_from_slice(&[0x46, 0, change.sender])?;
-    body.extend_from_slice(&eight(change.view))?;
-    body.extend_from_slice(&eight(change.low))?;
-    put_checkpoints(alloc, change.kept, &mut body)?;
-    put_claims(alloc, change.prepared, &mut body)?;
-    put_claims(alloc, change.logged, &mut body)?;
-    Ok(body)
+fn put_change(alloc: Global, change: &Change, out: &mut Buffer) {
+    put_front(0x46, change.sender, change.view, out);
+    out.put_number(u64::from(change.low));
+    put_checkpoints(alloc, change.kept, out);
+    put_claims(alloc, change.prepared, out);
+    put_claims(alloc, change.logged, out);
 }
 
 /// The frame of a view change.
-pub fn change_frame(alloc: Global, change: &Change) -> Result<Vec<u8>, AllocError> {
-    let body = change_body(alloc, change)?;
+pub fn change_frame(alloc: Global, change: &Change) -> Buffer {
+    let mut body = Buffer::new(alloc);
+    put_change(alloc, change, &mut body);
     signed_by(alloc, (change.sender, change.leaf), &body, change.is_forged)
 }
 
-fn put_change(alloc: Global, change: &Change, out: &mut Vec<u8>) -> Result<(), AllocError> {
-    let frame = change_frame(alloc, change)?;
-    let len = (frame.len() & 0xff_ffff) as u32;
-    out.extend_from_slice(&len.to_be_bytes())?;
-    out.extend_from_slice(&frame)
-}
-
-fn put_batch(alloc: Global, number: u8, out: &mut Vec<u8>) -> Result<(), AllocError> {
-    if number == 0 {
-        out.push(0)?;
-        return Ok(());
-    }
-    let batch = batch(alloc, number)?;
-    out.extend_from_slice(&batch)
-}
-
-fn new_view_body(alloc: Global, begun: &Begun) -> Result<Vec<u8>, AllocError> {
-    let mut body = Vec::new(alloc);
-    body.extend_from_slice(&[0x47, 0, begun.sender])?;
-    body.extend_from_slice(&eight(begun.view))?;
-    put_changes(alloc, begun.changes, &mut body)?;
-    body.extend_from_slice(&eight(begun.start))?;
-    body.extend_from_slice(&root_of(alloc, State::Behind(begun.start))?)?;
-    put_batches(alloc, begun.batches, &mut body)?;
-    Ok(body)
-}
-
-fn put_changes(alloc: Global, changes: &[Change], out: &mut Vec<u8>) -> Result<(), AllocError> {
-    out.push((changes.len() & 7) as u8)?;
+fn put_changes(alloc: Global, changes: &[Change], out: &mut Buffer) {
+    put_count(changes.len(), out);
     for change in changes {
-        put_change(alloc, change, out)?;
+        out.put_framed(&change_frame(alloc, change));
     }
-    Ok(())
 }
 
-fn put_batches(alloc: Global, batches: &[u8], out: &mut Vec<u8>) -> Result<(), AllocError> {
-    out.push((batches.len() & 0x1f) as u8)?;
-    for number in batches {
-        put_batch(alloc, *number, out)?;
+fn put_batch_or_null(alloc: Global, number: u8, out: &mut Buffer) {
+    if number == 0 {
+        out.put_byte(0);
+    } else {
+        put_batch(alloc, number, out);
     }
-    Ok(())
+}
+
+fn put_batches(alloc: Global, batches: &[u8], out: &mut Buffer) {
+    put_count(batches.len(), out);
+    for number in batches {
+        put_batch_or_null(alloc, *number, out);
+    }
+}
+
+fn put_new_view(alloc: Global, begun: &Begun, out: &mut Buffer) {
+    put_front(0x47, begun.sender, begun.view, out);
+    put_changes(alloc, begun.changes, out);
+    put_checkpoint(alloc, begun.start, out);
+    put_batches(alloc, begun.batches, out);
 }
 
 /// The frame of a new view.
-pub fn new_view_frame(alloc: Global, begun: &Begun) -> Result<Vec<u8>, AllocError> {
-    let body = new_view_body(alloc, begun)?;
+pub fn new_view_frame(alloc: Global, begun: &Begun) -> Buffer {
+    let mut body = Buffer::new(alloc);
+    put_new_view(alloc, begun, &mut body);
     signed_by(alloc, (begun.sender, begun.leaf), &body, begun.is_forged)
 }

@@ -1,13 +1,11 @@
 //! The states of the run, and two that no replica has, by their pages, written by docs/formats.md without the code
 //! that makes them.
 
-use crate::frames::eight;
-use sha2::{Digest, Sha256};
-use std::alloc::{AllocError, Global};
-use test_bytes::joined;
+use std::alloc::Global;
+use test_bytes::{Buffer, DONE};
 
 /// A state of the run, by its pages.
-#[derive(Clone, Copy, Debug)]
+#[derive(Clone, Copy)]
 pub enum State {
     /// The state after so many of its requests.
     Behind(u8),
@@ -29,86 +27,112 @@ pub const PAGE: u8 = 2;
 // So many digests stand below the root and below an inner part.
 const CHILDREN: u16 = 32;
 
-// So many bytes are they.
-const DIGESTS: usize = 1024;
-
 // The page of client 0, and that of the header.
 const FIRST_REPLY: u16 = 256;
 
 const HEADER: u16 = 512;
 
-fn header(alloc: Global, state: State) -> Result<Vec<u8>, AllocError> {
+// The header's version, and how many requests the state has behind it: so many births, and the last number.
+fn header_of(state: State) -> (u8, u8) {
     match state {
-        State::Behind(count) => joined(alloc, &[&[1], &eight(count), &eight(count)]),
-        State::NoState => joined(alloc, &[&[3], &eight(1), &eight(1)]),
-        State::Forgetful => joined(alloc, &[&[1], &eight(2), &eight(2)]),
+        State::Behind(count) => (1, count),
+        State::NoState => (3, 1),
+        State::Forgetful => (1, 2),
     }
 }
 
-fn requests_behind(state: State) -> u8 {
-    match state {
-        State::Behind(count) => count,
-        State::NoState => 1,
-        State::Forgetful => 2,
-    }
+fn put_header(state: State, out: &mut Buffer) {
+    let (version, count) = header_of(state);
+    out.put_byte(version);
+    out.put_number(u64::from(count));
+    out.put_number(u64::from(count));
 }
 
-/// The text of a page. Tuple `(n)` has birth n - 1, and client n - 1 was answered by done at number n.
-pub fn page_text(alloc: Global, state: State, page: u16) -> Result<Vec<u8>, AllocError> {
-    if page == HEADER {
-        return header(alloc, state);
-    }
+fn put_tuple(birth: u8, number: u8, out: &mut Buffer) {
+    out.put_number(u64::from(birth));
+    out.put_byte(1);
+    out.put_byte(1);
+    out.put_number(u64::from(number));
+}
+
+fn put_last_reply(number: u8, out: &mut Buffer) {
+    out.put_number(1);
+    out.put_number(u64::from(number));
+    out.put(DONE);
+}
+
+// Whether the page is an empty one below the header.
+fn is_empty(state: State, page: u16) -> bool {
+    let (_, count) = header_of(state);
+    (page & 0xff) as u8 >= count || matches!((state, page), (State::Forgetful, FIRST_REPLY))
+}
+
+// Puts the tuple of a page, or the reply. Tuple `(n)` has birth n - 1, and client n - 1 was answered by done at number n.
+fn put_entry(page: u16, out: &mut Buffer) {
     let birth = (page & 0xff) as u8;
     let number = birth.wrapping_add(1);
-    if page > HEADER || birth >= requests_behind(state) {
-        return Ok(Vec::new(alloc));
-    }
     if page < FIRST_REPLY {
-        return joined(alloc, &[&eight(birth), &[1, 1], &eight(number)]);
-    }
-    match (state, page) {
-        (State::Forgetful, FIRST_REPLY) => Ok(Vec::new(alloc)),
-        _ => joined(alloc, &[&eight(1), &eight(number), &[0x31]]),
+        put_tuple(birth, number, out);
+    } else {
+        put_last_reply(number, out);
     }
 }
 
-fn put_digest(bytes: &[u8], out: &mut Vec<u8>) -> Result<(), AllocError> {
-    let digest: [u8; 32] = Sha256::digest(bytes);
-    out.extend_from_slice(&digest)
+/// Puts the text of a page.
+pub fn put_page(state: State, page: u16, out: &mut Buffer) {
+    if page == HEADER {
+        put_header(state, out);
+    } else if page < HEADER && !is_empty(state, page) {
+        put_entry(page, out);
+    }
 }
 
-// The digests of an inner part's pages, one after another.
-fn pages_below(alloc: Global, state: State, part: u16) -> Result<Vec<u8>, AllocError> {
-    let mut digests = Vec::with_capacity(alloc, DIGESTS)?;
+fn put_page_digest(alloc: Global, state: State, page: u16, out: &mut Buffer) {
+    let mut text = Buffer::new(alloc);
+    put_page(state, page, &mut text);
+    out.put_digest(&text);
+}
+
+// Puts the digests of an inner part's pages, one after another.
+fn put_pages_below(alloc: Global, state: State, part: u16, out: &mut Buffer) {
     for place in 0..CHILDREN {
         let page = part.wrapping_mul(CHILDREN).wrapping_add(place);
-        let text = page_text(alloc, state, page)?;
-        put_digest(text.as_slice(), &mut digests)?;
+        put_page_digest(alloc, state, page, out);
     }
-    Ok(digests)
 }
 
-// The digests of the inner parts, one after another.
-fn parts_below(alloc: Global, state: State) -> Result<Vec<u8>, AllocError> {
-    let mut digests = Vec::with_capacity(alloc, DIGESTS)?;
+fn put_part_digest(alloc: Global, state: State, part: u16, out: &mut Buffer) {
+    let mut pages = Buffer::new(alloc);
+    put_pages_below(alloc, state, part, &mut pages);
+    out.put_digest(&pages);
+}
+
+// Puts the digests of the inner parts, one after another.
+fn put_parts_below(alloc: Global, state: State, out: &mut Buffer) {
     for part in 0..CHILDREN {
-        let pages = pages_below(alloc, state, part)?;
-        put_digest(pages.as_slice(), &mut digests)?;
+        put_part_digest(alloc, state, part, out);
     }
-    Ok(digests)
 }
 
-/// The 32 digests below the root or an inner part, one after another.
-pub fn children_at(alloc: Global, state: State, (level, index): At) -> Result<Vec<u8>, AllocError> {
+/// Puts the 32 digests below the root or an inner part, one after another.
+pub fn put_children(alloc: Global, state: State, (level, index): At, out: &mut Buffer) {
     if level == INNER {
-        pages_below(alloc, state, index)
+        put_pages_below(alloc, state, index, out);
     } else {
-        parts_below(alloc, state)
+        put_parts_below(alloc, state, out);
     }
+}
+
+/// Puts the root.
+pub fn put_root(alloc: Global, state: State, out: &mut Buffer) {
+    let mut parts = Buffer::new(alloc);
+    put_parts_below(alloc, state, &mut parts);
+    out.put_digest(&parts);
 }
 
 /// The root.
-pub fn root_of(alloc: Global, state: State) -> Result<[u8; 32], AllocError> {
-    let parts = parts_below(alloc, state)?;
-    Ok(Sha256::digest(parts.as_slice()))
+pub fn root_of(alloc: Global, state: State) -> Buffer {
+    let mut root = Buffer::new(alloc);
+    put_root(alloc, state, &mut root);
+    root
 }

@@ -1,11 +1,11 @@
 //! States that are ahead: they are fetched part by part, and installed.
 
+use crate::answers::holds;
 use crate::frames::Sent;
-use crate::replicas::{Given, Row, gives_all, gives_in_time, replica_of_period};
+use crate::replicas::{Given, Row, runs};
 use crate::states::{ROOT, State};
-use replica::Replica;
 use std::alloc::Global;
-use std::test::Fail;
+use test_bytes::Verdict;
 
 const NEW: State = State::Behind(0);
 
@@ -58,6 +58,16 @@ pub static INSTALLS: [Row<'static>; 15] = [
     (Sent::Fetch(0, ROOT, 0), &[]),
     (Sent::Part(1, ONE, (2, 512), 0, 3), &[]),
     (Sent::Checkpoint(1, ONE, 0), &[]),
+];
+
+// A quorum is ahead, and the replica asks for the root.
+static IS_AHEAD: [Row<'static>; 3] = [
+    (Sent::Checkpoint(1, ONE, 0), &[]),
+    (Sent::Checkpoint(1, ONE, 1), &[]),
+    (
+        Sent::Checkpoint(1, ONE, 2),
+        &[Given::Sends(Sent::Fetch(1, ROOT, 3))],
+    ),
 ];
 
 // Batches committed above are executed after the installation.
@@ -468,67 +478,72 @@ static GOES_ON: [Row<'static>; 14] = [
     ),
 ];
 
-// Replica 3 gives all this, and then, when time goes by, the last.
-fn fetches(alloc: Global, rows: &[&[Row<'_>]], last: &[Given]) -> Result<bool, Fail> {
-    let mut replica = replica_of_period(alloc, 1, 3)?;
-    gives_rows(&mut *replica, alloc, rows, last)
-}
+// What is given when time goes by, twice: nothing, or the part that is asked for again.
+static IS_STILL: [Row<'static>; 2] = [(Sent::Nothing, &[]), (Sent::Nothing, &[])];
 
-fn gives_rows(
-    replica: &mut Replica,
-    alloc: Global,
-    rows: &[&[Row<'_>]],
-    last: &[Given],
-) -> Result<bool, Fail> {
-    for all in rows {
-        if !gives_all(replica, alloc, all)? {
-            return Ok(false);
-        }
-    }
-    Ok(gives_in_time(replica, alloc, last)? && gives_in_time(replica, alloc, last)?)
-}
+static ASKS_FOR_ROOT: [Row<'static>; 2] = [
+    (Sent::Nothing, &[Given::Sends(Sent::Fetch(1, ROOT, 3))]),
+    (Sent::Nothing, &[Given::Sends(Sent::Fetch(1, ROOT, 3))]),
+];
 
-#[test]
-fn a_state_is_fetched(rt: HostRuntime) -> Result<(), Fail> {
-    assert!(rt; fetches(rt.alloc(), &[&INSTALLS], &[])?);
-    assert!(rt; fetches(rt.alloc(), &[&EXECUTES_BEHIND], &[])?);
-    Ok(())
+static ASKS_FOR_HEADER_OF_1: [Row<'static>; 2] = [
+    (Sent::Nothing, &[Given::Sends(Sent::Fetch(1, (2, 512), 3))]),
+    (Sent::Nothing, &[Given::Sends(Sent::Fetch(1, (2, 512), 3))]),
+];
+
+static ASKS_FOR_HEADER_OF_2: [Row<'static>; 2] = [
+    (Sent::Nothing, &[Given::Sends(Sent::Fetch(2, (2, 512), 3))]),
+    (Sent::Nothing, &[Given::Sends(Sent::Fetch(2, (2, 512), 3))]),
+];
+
+// Replica 3 gives all this.
+fn fetches(alloc: Global, tables: &[&[Row<'_>]]) -> Verdict {
+    runs(alloc, 3, 1, tables)
 }
 
 #[test]
-fn parts_that_are_refused(rt: HostRuntime) -> Result<(), Fail> {
-    assert!(rt; fetches(rt.alloc(), &[&REFUSED], &[])?);
-    Ok(())
+fn a_state_is_fetched(rt: HostRuntime) {
+    holds(&rt, fetches(rt.alloc(), &[&INSTALLS, &IS_STILL]));
+    holds(&rt, fetches(rt.alloc(), &[&EXECUTES_BEHIND, &IS_STILL]));
 }
 
 #[test]
-fn pages_of_no_state(rt: HostRuntime) -> Result<(), Fail> {
-    let asks = [Given::Sends(Sent::Fetch(1, (2, 512), 3))];
-    assert!(rt; fetches(rt.alloc(), &[&NO_STATE], &asks)?);
-    let asks = [Given::Sends(Sent::Fetch(2, (2, 512), 3))];
-    assert!(rt; fetches(rt.alloc(), &[&OF_ANOTHER_NUMBER], &asks)?);
-    assert!(rt; fetches(rt.alloc(), &[&TIME_FALLS], &asks)?);
-    Ok(())
+fn parts_that_are_refused(rt: HostRuntime) {
+    holds(&rt, fetches(rt.alloc(), &[&REFUSED, &IS_STILL]));
 }
 
 #[test]
-fn transfers_that_are_overtaken(rt: HostRuntime) -> Result<(), Fail> {
-    assert!(rt; fetches(rt.alloc(), &[&NO_STATE, &OVERTAKES], &[])?);
-    assert!(rt; fetches(rt.alloc(), &[&OVERTAKES_EARLY], &[])?);
-    Ok(())
+fn pages_of_no_state(rt: HostRuntime) {
+    holds(
+        &rt,
+        fetches(rt.alloc(), &[&NO_STATE, &ASKS_FOR_HEADER_OF_1]),
+    );
+    holds(
+        &rt,
+        fetches(rt.alloc(), &[&OF_ANOTHER_NUMBER, &ASKS_FOR_HEADER_OF_2]),
+    );
+    holds(
+        &rt,
+        fetches(rt.alloc(), &[&TIME_FALLS, &ASKS_FOR_HEADER_OF_2]),
+    );
 }
 
 #[test]
-fn executions_beside_a_transfer(rt: HostRuntime) -> Result<(), Fail> {
-    assert!(rt; fetches(rt.alloc(), &[&REACHES], &[])?);
-    assert!(rt; fetches(rt.alloc(), &[&GOES_ON], &[])?);
-    Ok(())
+fn transfers_that_are_overtaken(rt: HostRuntime) {
+    holds(
+        &rt,
+        fetches(rt.alloc(), &[&NO_STATE, &OVERTAKES, &IS_STILL]),
+    );
+    holds(&rt, fetches(rt.alloc(), &[&OVERTAKES_EARLY, &IS_STILL]));
 }
 
 #[test]
-fn time_asks_again(rt: HostRuntime) -> Result<(), Fail> {
-    let quorum = INSTALLS.get(..3).unwrap_or(&[]);
-    let asks = [Given::Sends(Sent::Fetch(1, ROOT, 3))];
-    assert!(rt; fetches(rt.alloc(), &[quorum], &asks)?);
-    Ok(())
+fn executions_beside_a_transfer(rt: HostRuntime) {
+    holds(&rt, fetches(rt.alloc(), &[&REACHES, &IS_STILL]));
+    holds(&rt, fetches(rt.alloc(), &[&GOES_ON, &IS_STILL]));
+}
+
+#[test]
+fn time_asks_again(rt: HostRuntime) {
+    holds(&rt, fetches(rt.alloc(), &[&IS_AHEAD, &ASKS_FOR_ROOT]));
 }

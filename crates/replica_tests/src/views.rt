@@ -1,22 +1,10 @@
 //! A replica that moves to later views: its view changes, those of others, and new views.
 
+use crate::answers::holds;
 use crate::frames::Sent;
-use crate::replicas::{Given, gives_for, gives_in_time, replica_of_period};
+use crate::replicas::{Given, Row, runs};
 use crate::signed::{Begun, Change};
 use crate::states::ROOT;
-use replica::Replica;
-use std::alloc::Global;
-use std::test::Fail;
-
-/// An input of a replica: a frame comes, or time goes by.
-#[derive(Clone, Copy, Debug)]
-pub enum Turn {
-    Comes(Sent),
-    Time,
-}
-
-/// An input, and the outputs for it.
-pub type Row<'a> = (Turn, &'a [Given]);
 
 /// The first view change, to view 1, of a replica that has ordered nothing.
 const NOTHING: Change = Change {
@@ -29,32 +17,6 @@ const NOTHING: Change = Change {
     logged: &[],
     is_forged: false,
 };
-
-fn gives_in_turn(
-    replica: &mut Replica,
-    alloc: Global,
-    turn: Turn,
-    all: &[Given],
-) -> Result<bool, Fail> {
-    match turn {
-        Turn::Comes(sent) => gives_for(replica, alloc, sent, all),
-        Turn::Time => gives_in_time(replica, alloc, all),
-    }
-}
-
-fn gives_rows(replica: &mut Replica, alloc: Global, rows: &[Row<'_>]) -> Result<bool, Fail> {
-    for (turn, all) in rows {
-        if !gives_in_turn(replica, alloc, *turn, all)? {
-            return Ok(false);
-        }
-    }
-    Ok(true)
-}
-
-fn moves(alloc: Global, me: u8, period: u8, rows: &[Row<'_>]) -> Result<bool, Fail> {
-    let mut replica = replica_of_period(alloc, period, me)?;
-    gives_rows(&mut *replica, alloc, rows)
-}
 
 // ---- time goes by
 
@@ -73,25 +35,18 @@ const TO_2: Change = Change {
 /// Replica 2 does nothing as long as no request waits. If one does, it moves to the next view each time, and sends
 /// its view change again when the request comes again.
 pub static IN_TIME: [Row<'static>; 7] = [
-    (Turn::Time, &[]),
-    (Turn::Comes(Sent::Request(1)), &[]),
-    (Turn::Time, &[Given::Sends(Sent::ViewChange(&TO_1))]),
-    (
-        Turn::Comes(Sent::Request(1)),
-        &[Given::Sends(Sent::ViewChange(&TO_1))],
-    ),
-    (Turn::Time, &[Given::Sends(Sent::ViewChange(&TO_2))]),
-    (
-        Turn::Comes(Sent::Request(1)),
-        &[Given::Sends(Sent::ViewChange(&TO_2))],
-    ),
-    (Turn::Comes(Sent::ViewChange(&TO_2)), &[]),
+    (Sent::Nothing, &[]),
+    (Sent::Request(1), &[]),
+    (Sent::Nothing, &[Given::Sends(Sent::ViewChange(&TO_1))]),
+    (Sent::Request(1), &[Given::Sends(Sent::ViewChange(&TO_1))]),
+    (Sent::Nothing, &[Given::Sends(Sent::ViewChange(&TO_2))]),
+    (Sent::Request(1), &[Given::Sends(Sent::ViewChange(&TO_2))]),
+    (Sent::ViewChange(&TO_2), &[]),
 ];
 
 #[test]
-fn time_goes_by(rt: HostRuntime) -> Result<(), Fail> {
-    assert!(rt; moves(rt.alloc(), 2, 16, &IN_TIME)?);
-    Ok(())
+fn time_goes_by(rt: HostRuntime) {
+    holds(&rt, runs(rt.alloc(), 2, 16, &[&IN_TIME]));
 }
 
 const LOGGED_TWO: Change = Change {
@@ -104,30 +59,23 @@ const LOGGED_TWO: Change = Change {
 // Replica 1 logs two batches, and prepares the first. Its view change says so, and it goes no further in the view that
 // it has left.
 static LEAVES: [Row<'static>; 9] = [
+    (Sent::PrePrepare(1), &[Given::Sends(Sent::Prepare(1, 1))]),
+    (Sent::Prepare(1, 2), &[Given::Sends(Sent::Commit(1, 1))]),
+    (Sent::PrePrepare(2), &[Given::Sends(Sent::Prepare(2, 1))]),
+    (Sent::Request(3), &[]),
     (
-        Turn::Comes(Sent::PrePrepare(1)),
-        &[Given::Sends(Sent::Prepare(1, 1))],
+        Sent::Nothing,
+        &[Given::Sends(Sent::ViewChange(&LOGGED_TWO))],
     ),
-    (
-        Turn::Comes(Sent::Prepare(1, 2)),
-        &[Given::Sends(Sent::Commit(1, 1))],
-    ),
-    (
-        Turn::Comes(Sent::PrePrepare(2)),
-        &[Given::Sends(Sent::Prepare(2, 1))],
-    ),
-    (Turn::Comes(Sent::Request(3)), &[]),
-    (Turn::Time, &[Given::Sends(Sent::ViewChange(&LOGGED_TWO))]),
-    (Turn::Comes(Sent::Prepare(2, 2)), &[]),
-    (Turn::Comes(Sent::Commit(1, 0)), &[]),
-    (Turn::Comes(Sent::Commit(1, 2)), &[]),
-    (Turn::Comes(Sent::PrePrepare(3)), &[]),
+    (Sent::Prepare(2, 2), &[]),
+    (Sent::Commit(1, 0), &[]),
+    (Sent::Commit(1, 2), &[]),
+    (Sent::PrePrepare(3), &[]),
 ];
 
 #[test]
-fn a_view_is_left(rt: HostRuntime) -> Result<(), Fail> {
-    assert!(rt; moves(rt.alloc(), 1, 16, &LEAVES)?);
-    Ok(())
+fn a_view_is_left(rt: HostRuntime) {
+    holds(&rt, runs(rt.alloc(), 1, 16, &[&LEAVES]));
 }
 
 // ---- others move
@@ -174,34 +122,30 @@ const NEXT: Change = Change {
 /// view 2, and begins it when replica 3 has moved there too. It numbers a request, says the new view and the number
 /// again when the request comes again, and its next view change is signed by the third of its keys.
 pub static JOINS: [Row<'static>; 7] = [
-    (Turn::Comes(Sent::ViewChange(&OF_0)), &[]),
+    (Sent::ViewChange(&OF_0), &[]),
     (
-        Turn::Comes(Sent::ViewChange(&OF_1)),
+        Sent::ViewChange(&OF_1),
         &[Given::Sends(Sent::ViewChange(&OF_2))],
     ),
-    (Turn::Comes(Sent::ViewChange(&OF_1)), &[]),
+    (Sent::ViewChange(&OF_1), &[]),
     (
-        Turn::Comes(Sent::ViewChange(&OF_3)),
+        Sent::ViewChange(&OF_3),
         &[Given::Sends(Sent::NewView(&VIEW_2))],
     ),
+    (Sent::Request(1), &[Given::Sends(Sent::PrePrepareIn(2, 1))]),
     (
-        Turn::Comes(Sent::Request(1)),
-        &[Given::Sends(Sent::PrePrepareIn(2, 1))],
-    ),
-    (
-        Turn::Comes(Sent::Request(1)),
+        Sent::Request(1),
         &[
             Given::Sends(Sent::NewView(&VIEW_2)),
             Given::Sends(Sent::PrePrepareIn(2, 1)),
         ],
     ),
-    (Turn::Time, &[Given::Sends(Sent::ViewChange(&NEXT))]),
+    (Sent::Nothing, &[Given::Sends(Sent::ViewChange(&NEXT))]),
 ];
 
 #[test]
-fn others_move(rt: HostRuntime) -> Result<(), Fail> {
-    assert!(rt; moves(rt.alloc(), 2, 16, &JOINS)?);
-    Ok(())
+fn others_move(rt: HostRuntime) {
+    holds(&rt, runs(rt.alloc(), 2, 16, &[&JOINS]));
 }
 
 // ---- new views
@@ -248,90 +192,98 @@ const RIGHT: Begun = Begun {
 // for another view, and over two of one sender; with the null batch in place of a prepared one, with another batch,
 // with none, and with one more; from a state that nobody lists; with a wrong signature, and over a view change that
 // has one.
-static WRONG: [Begun; 12] = [
-    Begun { sender: 2, ..RIGHT },
-    Begun { view: 2, ..RIGHT },
-    Begun {
-        changes: &[PREPARED_0, PREPARED_1],
-        ..RIGHT
-    },
-    Begun {
-        changes: &[PREPARED_0, PREPARED_1, ELSEWHERE],
-        ..RIGHT
-    },
-    Begun {
-        changes: &[PREPARED_0, PREPARED_1, PREPARED_1],
-        ..RIGHT
-    },
-    Begun {
-        batches: &[0],
-        ..RIGHT
-    },
-    Begun {
-        batches: &[2],
-        ..RIGHT
-    },
-    Begun {
-        batches: &[],
-        ..RIGHT
-    },
-    Begun {
-        batches: &[1, 0],
-        ..RIGHT
-    },
-    Begun { start: 1, ..RIGHT },
-    Begun {
-        is_forged: true,
-        ..RIGHT
-    },
-    Begun {
-        changes: &[PREPARED_0, PREPARED_1, FORGED],
-        ..RIGHT
-    },
+static WRONG: [Row<'static>; 12] = [
+    (Sent::NewView(&Begun { sender: 2, ..RIGHT }), &[]),
+    (Sent::NewView(&Begun { view: 2, ..RIGHT }), &[]),
+    (
+        Sent::NewView(&Begun {
+            changes: &[PREPARED_0, PREPARED_1],
+            ..RIGHT
+        }),
+        &[],
+    ),
+    (
+        Sent::NewView(&Begun {
+            changes: &[PREPARED_0, PREPARED_1, ELSEWHERE],
+            ..RIGHT
+        }),
+        &[],
+    ),
+    (
+        Sent::NewView(&Begun {
+            changes: &[PREPARED_0, PREPARED_1, PREPARED_1],
+            ..RIGHT
+        }),
+        &[],
+    ),
+    (
+        Sent::NewView(&Begun {
+            batches: &[0],
+            ..RIGHT
+        }),
+        &[],
+    ),
+    (
+        Sent::NewView(&Begun {
+            batches: &[2],
+            ..RIGHT
+        }),
+        &[],
+    ),
+    (
+        Sent::NewView(&Begun {
+            batches: &[],
+            ..RIGHT
+        }),
+        &[],
+    ),
+    (
+        Sent::NewView(&Begun {
+            batches: &[1, 0],
+            ..RIGHT
+        }),
+        &[],
+    ),
+    (Sent::NewView(&Begun { start: 1, ..RIGHT }), &[]),
+    (
+        Sent::NewView(&Begun {
+            is_forged: true,
+            ..RIGHT
+        }),
+        &[],
+    ),
+    (
+        Sent::NewView(&Begun {
+            changes: &[PREPARED_0, PREPARED_1, FORGED],
+            ..RIGHT
+        }),
+        &[],
+    ),
 ];
 
 /// Replica 3 takes the right one, once. In view 1 the batch of number 1 is prepared, committed and executed.
 pub static BEGINS: [Row<'static>; 7] = [
     (
-        Turn::Comes(Sent::NewView(&RIGHT)),
+        Sent::NewView(&RIGHT),
         &[Given::Sends(Sent::PrepareIn(1, 1, 3))],
     ),
-    (Turn::Comes(Sent::NewView(&RIGHT)), &[]),
-    (Turn::Comes(Sent::Commit(1, 0)), &[]),
+    (Sent::NewView(&RIGHT), &[]),
+    (Sent::Commit(1, 0), &[]),
     (
-        Turn::Comes(Sent::PrepareIn(1, 1, 0)),
+        Sent::PrepareIn(1, 1, 0),
         &[Given::Sends(Sent::CommitIn(1, 1, 3))],
     ),
-    (Turn::Comes(Sent::PrepareIn(1, 1, 1)), &[]),
-    (Turn::Comes(Sent::CommitIn(1, 1, 0)), &[]),
+    (Sent::PrepareIn(1, 1, 1), &[]),
+    (Sent::CommitIn(1, 1, 0), &[]),
     (
-        Turn::Comes(Sent::CommitIn(1, 1, 1)),
+        Sent::CommitIn(1, 1, 1),
         &[Given::Executes(1), Given::Sends(Sent::Reply(1, 3))],
     ),
 ];
 
-fn drops_wrong_ones(replica: &mut Replica, alloc: Global) -> Result<bool, Fail> {
-    for begun in &WRONG {
-        if !gives_for(replica, alloc, Sent::NewView(begun), &[])? {
-            return Ok(false);
-        }
-    }
-    Ok(true)
-}
-
-fn takes_the_right_one(alloc: Global) -> Result<bool, Fail> {
-    let mut replica = replica_of_period(alloc, 16, 3)?;
-    drops_and_takes(&mut *replica, alloc)
-}
-
-fn drops_and_takes(replica: &mut Replica, alloc: Global) -> Result<bool, Fail> {
-    Ok(drops_wrong_ones(replica, alloc)? && gives_rows(replica, alloc, &BEGINS)?)
-}
-
 #[test]
-fn new_views_come(rt: HostRuntime) -> Result<(), Fail> {
-    assert!(rt; takes_the_right_one(rt.alloc())?);
-    Ok(())
+fn new_views_come(rt: HostRuntime) {
+    holds(&rt, runs(rt.alloc(), 3, 16, &[&WRONG, &BEGINS]));
 }
 
 const LEFT_0: Change = Change {
@@ -348,16 +300,15 @@ const LEFT_1: Change = Change {
 
 // Replica 3 has moved to view 2, and takes no new view of view 1.
 static BELOW: [Row<'static>; 4] = [
-    (Turn::Comes(Sent::Request(1)), &[]),
-    (Turn::Time, &[Given::Sends(Sent::ViewChange(&LEFT_0))]),
-    (Turn::Time, &[Given::Sends(Sent::ViewChange(&LEFT_1))]),
-    (Turn::Comes(Sent::NewView(&RIGHT)), &[]),
+    (Sent::Request(1), &[]),
+    (Sent::Nothing, &[Given::Sends(Sent::ViewChange(&LEFT_0))]),
+    (Sent::Nothing, &[Given::Sends(Sent::ViewChange(&LEFT_1))]),
+    (Sent::NewView(&RIGHT), &[]),
 ];
 
 #[test]
-fn a_new_view_below_its_target(rt: HostRuntime) -> Result<(), Fail> {
-    assert!(rt; moves(rt.alloc(), 3, 16, &BELOW)?);
-    Ok(())
+fn a_new_view_below_its_target(rt: HostRuntime) {
+    holds(&rt, runs(rt.alloc(), 3, 16, &[&BELOW]));
 }
 
 // ---- a start that is ahead
@@ -405,16 +356,16 @@ const BEHIND: Change = Change {
 // before it moves on.
 static FETCHES: [Row<'static>; 4] = [
     (
-        Turn::Comes(Sent::NewView(&AHEAD)),
+        Sent::NewView(&AHEAD),
         &[
             Given::Sends(Sent::Fetch(1, ROOT, 3)),
             Given::Sends(Sent::PrepareIn(1, 2, 3)),
         ],
     ),
-    (Turn::Time, &[Given::Sends(Sent::Fetch(1, ROOT, 3))]),
-    (Turn::Comes(Sent::Request(3)), &[]),
+    (Sent::Nothing, &[Given::Sends(Sent::Fetch(1, ROOT, 3))]),
+    (Sent::Request(3), &[]),
     (
-        Turn::Time,
+        Sent::Nothing,
         &[
             Given::Sends(Sent::Fetch(1, ROOT, 3)),
             Given::Sends(Sent::ViewChange(&BEHIND)),
@@ -423,7 +374,6 @@ static FETCHES: [Row<'static>; 4] = [
 ];
 
 #[test]
-fn a_start_that_is_ahead(rt: HostRuntime) -> Result<(), Fail> {
-    assert!(rt; moves(rt.alloc(), 3, 1, &FETCHES)?);
-    Ok(())
+fn a_start_that_is_ahead(rt: HostRuntime) {
+    holds(&rt, runs(rt.alloc(), 3, 1, &[&FETCHES]));
 }
