@@ -1,10 +1,11 @@
 //! A number's way through the log of replica 1 among four, in view 0 and on to later ones, with marks of four numbers.
 
+use crate::answers::holds;
 use ordering::{HashedBatch, Log, Vote};
 use std::alloc::Global;
 use std::sync::Arc;
-use std::test::Fail;
 use terms::{Digest, NoMemory, Number, ReplicaId, View};
+use test_bytes::Verdict;
 use wire::{Batch, Checkpoint, CheckpointEntry, Commit, Prepare};
 
 const ME: ReplicaId = ReplicaId(1);
@@ -107,15 +108,6 @@ fn prepares_and_commits(log: &mut Log, batch: Arc<HashedBatch>) -> bool {
     prepares(log, batch) && says_commit(log) && is_committed(log)
 }
 
-#[test]
-fn a_batch_is_committed(rt: HostRuntime) -> Result<(), Fail> {
-    let mut log = new_log(rt.alloc())?;
-    let batch = batch_of(rt.alloc(), b"\0")?;
-    assert!(rt; prepares_and_commits(&mut log, batch));
-    assert!(rt; has_text(&log, b"\0"));
-    Ok(())
-}
-
 // After the replica left its view nothing is due.
 fn owes_nothing(log: &mut Log) -> bool {
     log.leave();
@@ -139,26 +131,8 @@ fn keeps_committed(log: &mut Log) -> bool {
         && has_text(log, b"\0")
 }
 
-#[test]
-fn what_is_committed_stays_so(rt: HostRuntime) -> Result<(), Fail> {
-    let mut log = new_log(rt.alloc())?;
-    let batch = batch_of(rt.alloc(), b"\0")?;
-    assert!(rt; prepares_and_commits(&mut log, batch));
-    assert!(rt; keeps_committed(&mut log));
-    Ok(())
-}
-
 fn keeps_nothing(log: &mut Log) -> bool {
     owes_nothing(log) && is_empty_in(log, View(1)) && log.next_batch(FIRST).is_none()
-}
-
-#[test]
-fn what_is_prepared_does_not_stay(rt: HostRuntime) -> Result<(), Fail> {
-    let mut log = new_log(rt.alloc())?;
-    let batch = batch_of(rt.alloc(), b"\0")?;
-    assert!(rt; prepares(&mut log, batch));
-    assert!(rt; keeps_nothing(&mut log));
-    Ok(())
 }
 
 fn checkpoint_of(log: &mut Log, sender: ReplicaId) -> bool {
@@ -193,23 +167,82 @@ fn is_cut(log: &mut Log) -> bool {
         && !log.is_in_marks(Number(6))
 }
 
+// What is asked of a log.
+#[derive(Clone, Copy)]
+enum Way {
+    IsCommitted,
+    StaysCommitted,
+    IsPreparedAlone,
+    IsCut,
+}
+
+fn goes(log: &mut Log, batch: Arc<HashedBatch>, way: Way) -> bool {
+    match way {
+        Way::IsCommitted => prepares_and_commits(log, batch) && has_text(log, b"\0"),
+        Way::StaysCommitted => prepares_and_commits(log, batch) && keeps_committed(log),
+        Way::IsPreparedAlone => prepares(log, batch) && keeps_nothing(log),
+        Way::IsCut => is_logged(log, batch) && becomes_stable(log) && is_cut(log),
+    }
+}
+
+fn goes_with_batch(alloc: Global, log: &mut Log, way: Way) -> Verdict {
+    match batch_of(alloc, b"\0") {
+        Ok(batch) => Ok(goes(log, batch, way)),
+        Err(NoMemory) => Err(NoMemory),
+    }
+}
+
+fn new_log_goes(alloc: Global, way: Way) -> Verdict {
+    match new_log(alloc) {
+        Ok(mut log) => {
+            let verdict = goes_with_batch(alloc, &mut log, way);
+            drop(log);
+            verdict
+        }
+        Err(NoMemory) => Err(NoMemory),
+    }
+}
+
 #[test]
-fn a_stable_checkpoint_cuts(rt: HostRuntime) -> Result<(), Fail> {
-    let mut log = new_log(rt.alloc())?;
-    let batch = batch_of(rt.alloc(), b"\0")?;
-    assert!(rt; is_logged(&mut log, batch));
-    assert!(rt; becomes_stable(&mut log));
-    assert!(rt; is_cut(&mut log));
-    Ok(())
+fn a_batch_is_committed(rt: HostRuntime) {
+    holds(&rt, new_log_goes(rt.alloc(), Way::IsCommitted));
+}
+
+#[test]
+fn what_is_committed_stays_so(rt: HostRuntime) {
+    holds(&rt, new_log_goes(rt.alloc(), Way::StaysCommitted));
+}
+
+#[test]
+fn what_is_prepared_does_not_stay(rt: HostRuntime) {
+    holds(&rt, new_log_goes(rt.alloc(), Way::IsPreparedAlone));
+}
+
+#[test]
+fn a_stable_checkpoint_cuts(rt: HostRuntime) {
+    holds(&rt, new_log_goes(rt.alloc(), Way::IsCut));
+}
+
+fn log_at_second_try(alloc: Global) -> Result<Log, NoMemory> {
+    match new_log(alloc) {
+        Err(NoMemory) => new_log(alloc),
+        first => first,
+    }
+}
+
+fn is_made(alloc: Global) -> Verdict {
+    match log_at_second_try(alloc) {
+        Ok(log) => {
+            let is_new = log.is_in_marks(FIRST) && log.logged_batch(FIRST).is_none();
+            drop(log);
+            Ok(is_new)
+        }
+        Err(NoMemory) => Err(NoMemory),
+    }
 }
 
 // If a log can't be made, it can be at the next try: `tools/growths` refuses each growth in turn.
 #[test]
-fn refused_memory(rt: HostRuntime) -> Result<(), Fail> {
-    let log = match new_log(rt.alloc()) {
-        Ok(log) => log,
-        Err(NoMemory) => new_log(rt.alloc())?,
-    };
-    assert!(rt; log.is_in_marks(FIRST) && log.logged_batch(FIRST).is_none());
-    Ok(())
+fn refused_memory(rt: HostRuntime) {
+    holds(&rt, is_made(rt.alloc()));
 }

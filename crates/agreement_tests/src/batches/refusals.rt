@@ -1,9 +1,11 @@
 //! Refusals, each in a case in which it is the first that applies.
 
+use crate::answers::holds;
 use crate::batches::phases::new_log;
 use ordering::{Dropped, Log};
-use std::test::Fail;
-use terms::{Digest, Number, ReplicaId, View};
+use std::alloc::Global;
+use terms::{Digest, NoMemory, Number, ReplicaId, View};
+use test_bytes::Verdict;
 use wire::{Checkpoint, Commit, Prepare};
 
 const ONE: Digest = [1; 32];
@@ -59,18 +61,29 @@ fn commit(log: &mut Log, (sender, view, number, digest, _): Row) -> Option<Dropp
     log.on_commit(ReplicaId(sender), &commit).err()
 }
 
-#[test]
-fn votes_are_refused(rt: HostRuntime) -> Result<(), Fail> {
-    let mut log = new_log(rt.alloc())?;
-    let first = (2, 0, 1, ONE, None);
-    assert!(rt; prepare(&mut log, first).is_none() && commit(&mut log, first).is_none());
+static FIRST: Row = (2, 0, 1, ONE, None);
+
+fn refuses_votes(log: &mut Log) -> bool {
+    let is_taken = prepare(log, FIRST).is_none() && commit(log, FIRST).is_none();
+    is_taken && refuses_prepares(log) && refuses_commits(log)
+}
+
+fn refuses_prepares(log: &mut Log) -> bool {
     for &row in &PREPARES {
-        assert!(rt; prepare(&mut log, row) == row.4);
+        if prepare(log, row) != row.4 {
+            return false;
+        }
     }
+    true
+}
+
+fn refuses_commits(log: &mut Log) -> bool {
     for &row in &COMMITS {
-        assert!(rt; commit(&mut log, row) == row.4);
+        if commit(log, row) != row.4 {
+            return false;
+        }
     }
-    Ok(())
+    true
 }
 
 fn checkpoint(log: &mut Log, sender: u8, number: u64, root: Digest) -> Option<Dropped> {
@@ -89,32 +102,82 @@ fn refuses_checkpoints(log: &mut Log) -> bool {
         && checkpoint(log, 2, 100, ONE) == Some(Dropped::Duplicate)
 }
 
-#[test]
-fn checkpoints_are_refused(rt: HostRuntime) -> Result<(), Fail> {
-    let mut log = new_log(rt.alloc())?;
-    assert!(rt; refuses_checkpoints(&mut log));
-    Ok(())
-}
-
-#[test]
-fn an_inactive_replica_takes_no_votes(rt: HostRuntime) -> Result<(), Fail> {
-    let mut log = new_log(rt.alloc())?;
+fn takes_no_votes(log: &mut Log) -> bool {
     log.leave();
-    assert!(rt; prepare(&mut log, (2, 0, 1, ONE, None)) == Some(Dropped::WrongView));
-    Ok(())
+    prepare(log, FIRST) == Some(Dropped::WrongView)
 }
 
-#[test]
-fn refusals_have_numbers(rt: HostRuntime) -> Result<(), Fail> {
-    for &(dropped, number) in &NUMBERS {
-        assert!(rt; dropped.number() == number);
+// What is asked of a log.
+#[derive(Clone, Copy)]
+enum Refused {
+    Votes,
+    Checkpoints,
+    VotesWhileInactive,
+}
+
+fn refuses(log: &mut Log, refused: Refused) -> bool {
+    match refused {
+        Refused::Votes => refuses_votes(log),
+        Refused::Checkpoints => refuses_checkpoints(log),
+        Refused::VotesWhileInactive => takes_no_votes(log),
     }
-    Ok(())
+}
+
+fn new_log_refuses(alloc: Global, refused: Refused) -> Verdict {
+    match new_log(alloc) {
+        Ok(mut log) => {
+            let is_right = refuses(&mut log, refused);
+            drop(log);
+            Ok(is_right)
+        }
+        Err(NoMemory) => Err(NoMemory),
+    }
 }
 
 #[test]
-fn refusals_have_texts(rt: HostRuntime) -> Result<(), Fail> {
-    let text = format!(in rt.alloc(); "{}", Dropped::OutOfMarks)?;
-    assert!(rt; text.as_str() == "the number is outside the marks");
-    Ok(())
+fn votes_are_refused(rt: HostRuntime) {
+    holds(&rt, new_log_refuses(rt.alloc(), Refused::Votes));
+}
+
+#[test]
+fn checkpoints_are_refused(rt: HostRuntime) {
+    holds(&rt, new_log_refuses(rt.alloc(), Refused::Checkpoints));
+}
+
+#[test]
+fn an_inactive_replica_takes_no_votes(rt: HostRuntime) {
+    holds(
+        &rt,
+        new_log_refuses(rt.alloc(), Refused::VotesWhileInactive),
+    );
+}
+
+fn have_numbers() -> bool {
+    for &(dropped, number) in &NUMBERS {
+        if dropped.number() != number {
+            return false;
+        }
+    }
+    true
+}
+
+#[test]
+fn refusals_have_numbers(rt: HostRuntime) {
+    holds(&rt, Ok(have_numbers()));
+}
+
+fn has_text(alloc: Global) -> Verdict {
+    match format!(in alloc; "{}", Dropped::OutOfMarks) {
+        Ok(text) => {
+            let is_right = text.as_str() == "the number is outside the marks";
+            drop(text);
+            Ok(is_right)
+        }
+        Err(_) => Err(NoMemory),
+    }
+}
+
+#[test]
+fn refusals_have_texts(rt: HostRuntime) {
+    holds(&rt, has_text(rt.alloc()));
 }

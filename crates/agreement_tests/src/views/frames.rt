@@ -5,8 +5,9 @@ use authenticator::signing_seed;
 use ordering::HashedBatch;
 use signing::{SignFault, Signature, Signer};
 use std::alloc::{AllocError, Global};
-use std::test::Fail;
+use std::sync::Arc;
 use terms::{Party, ReplicaId};
+use test_bytes::Buffer;
 use wire::Batch;
 
 /// The seed of all keys.
@@ -25,34 +26,38 @@ fn signer_of(replica: u8) -> Signer {
     Signer::from_seed(&signing_seed(&SEED, party))
 }
 
-fn put_entry(alloc: Global, byte: u8, out: &mut Vec<u8>) -> Result<(), Fail> {
+// Puts an entry for number 1 in view 0, behind its count.
+fn put_one(alloc: Global, byte: u8, out: &mut Buffer) {
+    let mut text = Buffer::new(alloc);
+    text.put_byte(byte);
+    out.put_short(1);
+    out.put_number(1);
+    out.put_digest(&text);
+    out.put_number(0);
+}
+
+fn put_entry(alloc: Global, byte: u8, out: &mut Buffer) {
     if byte == 0 {
-        out.extend_from_slice(b"\x00\x00")?;
-        return Ok(());
+        out.put_short(0);
+    } else {
+        put_one(alloc, byte, out);
     }
-    let text = vec![in alloc; byte]?;
-    let digest = HashedBatch::new(Batch { text }).digest();
-    out.extend_from_slice(b"\x00\x01")?;
-    out.extend_from_slice(&1u64.to_be_bytes())?;
-    out.extend_from_slice(&digest)?;
-    out.extend_from_slice(&0u64.to_be_bytes())?;
-    Ok(())
 }
 
-fn put_said(alloc: Global, (view, low, byte): Said, out: &mut Vec<u8>) -> Result<(), Fail> {
-    out.extend_from_slice(&view.to_be_bytes())?;
-    out.extend_from_slice(&low.to_be_bytes())?;
-    out.push(1)?;
-    out.extend_from_slice(&low.to_be_bytes())?;
-    out.extend_from_slice(&[ROOT; 32])?;
-    put_entry(alloc, byte, out)?;
-    put_entry(alloc, byte, out)
+fn put_said(alloc: Global, (view, low, byte): Said, out: &mut Buffer) {
+    out.put_number(view);
+    out.put_number(low);
+    out.put_byte(1);
+    out.put_number(low);
+    out.put(&[ROOT; 32]);
+    put_entry(alloc, byte, out);
+    put_entry(alloc, byte, out);
 }
 
-fn body(alloc: Global, sender: u8, said: Said) -> Result<Vec<u8>, Fail> {
-    let mut body = vec![in alloc; 0x46, 0, sender]?;
-    put_said(alloc, said, &mut body)?;
-    Ok(body)
+fn put_body(alloc: Global, sender: u8, said: Said, out: &mut Buffer) {
+    out.put_byte(0x46);
+    out.put_short(u16::from(sender));
+    put_said(alloc, said, out);
 }
 
 // At the second try if memory ran out at the first one. That spends no leaf.
@@ -63,47 +68,60 @@ fn signature_of(alloc: Global, signer: &mut Signer, body: &[u8]) -> Result<Signa
     }
 }
 
-fn put_frame(body: &[u8], signature: &[u8], out: &mut Vec<u8>) -> Result<(), AllocError> {
-    // The length has four bytes.
-    let len = (body.len() as u64).to_be_bytes();
-    out.extend_from_slice(&len[4..])?;
-    out.extend_from_slice(body)?;
-    out.push(1)?;
-    out.extend_from_slice(signature)
-}
-
-fn frame_of(alloc: Global, body: &[u8], signature: &[u8]) -> Result<Vec<u8>, AllocError> {
-    let mut frame = Vec::new(alloc);
-    put_frame(body, signature, &mut frame)?;
-    Ok(frame)
-}
-
-fn signed(alloc: Global, signer: &mut Signer, body: &[u8]) -> Result<Vec<u8>, Fail> {
-    let signature = signature_of(alloc, signer, body)?;
-    Ok(frame_of(alloc, body, signature.as_slice())?)
+// None if the signer has no leaf left.
+fn put_signature(alloc: Global, signer: &mut Signer, body: &[u8], out: &mut Buffer) {
+    match signature_of(alloc, signer, body) {
+        Ok(signature) => out.put(signature.as_slice()),
+        Err(SignFault::NoMemory) => out.cut(),
+        Err(SignFault::KeysSpent) => {}
+    }
 }
 
 // The frame of a replica's view change, with its signature.
-fn change(alloc: Global, signer: &mut Signer, sender: u8, said: Said) -> Result<Vec<u8>, Fail> {
-    let body = body(alloc, sender, said)?;
-    signed(alloc, signer, &body)
+fn change(alloc: Global, signer: &mut Signer, sender: u8, said: Said) -> Buffer {
+    let mut body = Buffer::new(alloc);
+    put_body(alloc, sender, said, &mut body);
+    let mut frame = Buffer::new(alloc);
+    frame.put_framed(&body);
+    frame.put_byte(1);
+    put_signature(alloc, signer, body.bytes(), &mut frame);
+    frame
 }
 
-/// The frames of view changes, each by its sender, replica 0, 1 or 2. The signature of the last one is broken.
-pub fn changes(alloc: Global, all: &[(u8, Said)]) -> Result<Vec<Vec<u8>>, Fail> {
-    let mut frames = Vec::new(alloc);
-    put_changes(alloc, all, &mut frames)?;
-    break_last(&mut frames);
-    Ok(frames)
+fn change_by(alloc: Global, signers: &mut [Signer], sender: u8, said: Said) -> Buffer {
+    match signers.get_mut(usize::from(sender)) {
+        Some(signer) => change(alloc, signer, sender, said),
+        None => Buffer::new(alloc),
+    }
 }
 
-fn put_changes(alloc: Global, all: &[(u8, Said)], frames: &mut Vec<Vec<u8>>) -> Result<(), Fail> {
-    let mut signers = [signer_of(0), signer_of(1), signer_of(2)];
+/// Adds what was made to a list.
+pub fn add<T: Drop>(list: &mut Vec<T>, made: Result<T, AllocError>) -> Result<(), AllocError> {
+    list.push(made?)?;
+    Ok(())
+}
+
+fn put_changes(
+    alloc: Global,
+    signers: &mut [Signer],
+    all: &[(u8, Said)],
+    frames: &mut Vec<Vec<u8>>,
+) -> Result<(), AllocError> {
     for &(sender, said) in all {
-        let signer = &mut signers[usize::from(sender % 3)];
-        frames.push(change(alloc, signer, sender, said)?)?;
+        add(frames, change_by(alloc, signers, sender, said).whole())?;
     }
     Ok(())
+}
+
+fn put_signed(
+    alloc: Global,
+    all: &[(u8, Said)],
+    frames: &mut Vec<Vec<u8>>,
+) -> Result<(), AllocError> {
+    let mut signers = [signer_of(0), signer_of(1), signer_of(2)];
+    let put = put_changes(alloc, &mut signers, all, frames);
+    drop(signers);
+    put
 }
 
 // The last byte is the signature's.
@@ -111,4 +129,18 @@ fn break_last(frames: &mut [Vec<u8>]) {
     if let Some(byte) = frames.last_mut().and_then(|frame| frame.last_mut()) {
         *byte ^= 1;
     }
+}
+
+/// The frames of view changes, each by its sender, replica 0, 1 or 2. The signature of the last one is broken.
+pub fn changes(alloc: Global, all: &[(u8, Said)]) -> Result<Vec<Vec<u8>>, AllocError> {
+    let mut frames = Vec::new(alloc);
+    put_signed(alloc, all, &mut frames)?;
+    break_last(&mut frames);
+    Ok(frames)
+}
+
+/// The batch of this byte: no text of requests, which no test reads.
+pub fn batch(alloc: Global, byte: u8) -> Result<Arc<HashedBatch>, AllocError> {
+    let text = vec![in alloc; byte]?;
+    Ok(Arc::new(alloc, HashedBatch::new(Batch { text }))?)
 }

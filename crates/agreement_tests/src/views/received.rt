@@ -1,12 +1,15 @@
 //! The view changes that a replica keeps: each refusal, in a case in which it is the first that applies; which view
 //! it joins, and the new view that it makes of them. Four replicas, a checkpoint each 16 batches.
 
+use crate::answers::holds;
 use crate::views::frames::{ROOT, SEED, Said, changes};
 use signing::PublicKeys;
-use std::alloc::Global;
-use std::test::Fail;
-use terms::{ReplicaId, View};
-use view_change::{ChangeFault, Received, Sizes, assemble, check_new_view, select};
+use std::alloc::{AllocError, Global};
+use terms::{NoMemory, ReplicaId, View};
+use test_bytes::{Verdict, all_hold, both};
+use view_change::{
+    Change, ChangeFault, NewViewFault, Received, Sizes, assemble, check_new_view, select,
+};
 use wire::NewView;
 
 const SIZES: Sizes = Sizes {
@@ -92,16 +95,9 @@ fn is_so(
     }
 }
 
-pub fn none_received(alloc: Global) -> Result<Received, Fail> {
-    Ok(Received::new(alloc, PublicKeys::new(alloc, &SEED)?, SIZES)?)
-}
-
-fn senders_for(alloc: Global, received: &Received, view: u64) -> Result<Vec<u8>, Fail> {
-    let mut senders = Vec::new(alloc);
-    for change in &received.changes_for(alloc, View(view))? {
-        senders.push(change.sender.0)?;
-    }
-    Ok(senders)
+pub fn none_received(alloc: Global) -> Result<Received, NoMemory> {
+    let publics = PublicKeys::new(alloc, &SEED)?;
+    Received::new(alloc, publics, SIZES)
 }
 
 fn joins(received: &Received, me: u8, target: u64, wanted: Option<u64>) -> bool {
@@ -126,9 +122,24 @@ fn are_in_turn(alloc: Global, received: &mut Received, frames: &[Vec<u8>]) -> bo
     true
 }
 
-fn are_from(alloc: Global, received: &Received, view: u64, senders: &[u8]) -> Result<bool, Fail> {
-    let found = senders_for(alloc, received, view)?;
-    Ok(found.as_slice() == senders)
+fn are_senders(changes: &[Change], senders: &[u8]) -> bool {
+    for (change, sender) in changes.iter().zip(senders) {
+        if change.sender.0 != *sender {
+            return false;
+        }
+    }
+    changes.len() == senders.len()
+}
+
+fn are_from(alloc: Global, received: &Received, view: u64, senders: &[u8]) -> Verdict {
+    match received.changes_for(alloc, View(view)) {
+        Ok(changes) => {
+            let is_right = are_senders(&changes, senders);
+            drop(changes);
+            Ok(is_right)
+        }
+        Err(NoMemory) => Err(NoMemory),
+    }
 }
 
 fn has_latest(received: &Received, frames: &[Vec<u8>]) -> bool {
@@ -138,95 +149,138 @@ fn has_latest(received: &Received, frames: &[Vec<u8>]) -> bool {
         && !has(received, frames, FIRST)
 }
 
-fn keeps_latest(alloc: Global, received: &mut Received, frames: &[Vec<u8>]) -> Result<bool, Fail> {
-    Ok(
-        are_in_turn(alloc, received, frames)
-            && are_from(alloc, received, 1, &[1, 2])?
-            && are_from(alloc, received, 2, &[0])?
-            && has_latest(received, frames),
-    )
+fn keeps_latest(alloc: Global, received: &mut Received, frames: &[Vec<u8>]) -> Verdict {
+    all_hold(&[
+        Ok(fault_at(alloc, received, 0, b"no frame") == Some(ChangeFault::BadSignature)),
+        Ok(are_in_turn(alloc, received, frames)),
+        are_from(alloc, received, 1, &[1, 2]),
+        are_from(alloc, received, 2, &[0]),
+        Ok(has_latest(received, frames)),
+    ])
 }
 
-// The latest of each replica is held. The senders for a view ascend, whatever the order in which they came.
-#[test]
-fn the_latest_is_kept(rt: HostRuntime) -> Result<(), Fail> {
-    let mut received = none_received(rt.alloc())?;
-    assert_eq!(rt;
-        received.add(rt.alloc(), View(0), b"no frame"),
-        Err(ChangeFault::BadSignature)
-    );
-    let frames = changes(rt.alloc(), &SAID)?;
-    assert!(rt; keeps_latest(rt.alloc(), &mut received, &frames)?);
-    Ok(())
+// The view change that comes first, if any, a replica and its target, and the view that it joins.
+static JOINS: [(Option<usize>, u8, u64, Option<u64>); 6] = [
+    (Some(OTHER), 3, 0, None),
+    (Some(HIGHEST), 3, 0, Some(1)),
+    // One of the two is the own one, or at the target.
+    (None, 1, 0, None),
+    (None, 3, 1, None),
+    (Some(HIGHEST_OTHER), 3, 1, Some(3)),
+    (None, 3, 3, None),
+];
+
+// Whether it comes and is taken, or none does.
+fn comes(alloc: Global, received: &mut Received, frames: &[Vec<u8>], at: Option<usize>) -> bool {
+    match at {
+        Some(at) => is_so(alloc, received, frames, (at, 0, None)),
+        None => true,
+    }
 }
 
 fn joins_in_turn(alloc: Global, received: &mut Received, frames: &[Vec<u8>]) -> bool {
-    is_so(alloc, received, frames, (OTHER, 0, None))
-        && joins(received, 3, 0, None)
-        && is_so(alloc, received, frames, (HIGHEST, 0, None))
-        && joins(received, 3, 0, Some(1))
-        // One of the two is the own one, or at the target.
-        && joins(received, 1, 0, None)
-        && joins(received, 3, 1, None)
-        && is_so(alloc, received, frames, (HIGHEST_OTHER, 0, None))
-        && joins(received, 3, 1, Some(3))
-        && joins(received, 3, 3, None)
-}
-
-// The least view that f + 1 others reach, above the target.
-#[test]
-fn others_are_joined(rt: HostRuntime) -> Result<(), Fail> {
-    let mut received = none_received(rt.alloc())?;
-    let frames = changes(rt.alloc(), &SAID)?;
-    assert!(rt; joins_in_turn(rt.alloc(), &mut received, &frames));
-    Ok(())
+    for &(at, me, target, wanted) in &JOINS {
+        if !comes(alloc, received, frames, at) || !joins(received, me, target, wanted) {
+            return false;
+        }
+    }
+    true
 }
 
 // The new view of view 1, if nothing was prepared.
-fn made(alloc: Global, received: &Received) -> Result<Option<NewView>, Fail> {
+fn made(alloc: Global, received: &Received) -> Result<Option<NewView>, NoMemory> {
     let set = received.changes_for(alloc, View(1))?;
     match select(alloc, &set, received.sizes(), View(1), &[])? {
         Some(selected) if selected.batches.is_empty() => {
             Ok(Some(assemble(alloc, received, View(1), &selected)?))
-        },
+        }
         _ => Ok(None),
     }
 }
 
-fn is_taken(alloc: Global, received: &Received, new: &NewView) -> Result<bool, Fail> {
-    check_new_view(alloc, received, View(0), View(1), ReplicaId(1), new)?;
-    Ok(new.start.0 == 0 && new.root == [ROOT; 32] && new.changes.len() == 3)
+fn is_taken(alloc: Global, received: &Received, new: &NewView) -> Verdict {
+    match check_new_view(alloc, received, View(0), View(1), ReplicaId(1), new) {
+        Ok(()) => Ok(new.start.0 == 0 && new.root == [ROOT; 32] && new.changes.len() == 3),
+        Err(NewViewFault::NoMemory) => Err(NoMemory),
+        Err(_) => Ok(false),
+    }
 }
 
-fn takes_made(alloc: Global, received: &Received) -> Result<bool, Fail> {
-    let new = made(alloc, received)?.ok_or("no new view")?;
-    is_taken(alloc, received, &new)
+// Whether a new view is made, and is taken then; or that none is.
+fn makes(alloc: Global, received: &Received, is_made: bool) -> Verdict {
+    match made(alloc, received) {
+        Ok(Some(new)) => {
+            let verdict = is_taken(alloc, received, &new);
+            drop(new);
+            both(Ok(is_made), verdict)
+        }
+        Ok(None) => Ok(!is_made),
+        Err(NoMemory) => Err(NoMemory),
+    }
 }
 
-fn makes_nothing(alloc: Global, received: &Received) -> Result<bool, Fail> {
-    let new = made(alloc, received)?;
-    Ok(new.is_none())
+fn makes_of_three(alloc: Global, received: &mut Received, frames: &[Vec<u8>]) -> Verdict {
+    all_hold(&[
+        Ok(is_so(alloc, received, frames, (THIRD, 0, None))),
+        Ok(is_so(alloc, received, frames, (FIRST, 0, None))),
+        makes(alloc, received, false),
+        Ok(is_so(alloc, received, frames, (OTHER, 0, None))),
+        makes(alloc, received, true),
+    ])
 }
 
-fn makes_of_three(
-    alloc: Global,
-    received: &mut Received,
-    frames: &[Vec<u8>],
-) -> Result<bool, Fail> {
-    Ok(
-        is_so(alloc, received, frames, (THIRD, 0, None))
-            && is_so(alloc, received, frames, (FIRST, 0, None))
-            && makes_nothing(alloc, received)?
-            && is_so(alloc, received, frames, (OTHER, 0, None))
-            && takes_made(alloc, received)?,
-    )
+// What is asked of a replica that has received nothing, and to which the frames come.
+#[derive(Clone, Copy)]
+enum Asked {
+    KeepsLatest,
+    Joins,
+    Makes,
+}
+
+fn answers(alloc: Global, received: &mut Received, frames: &[Vec<u8>], asked: Asked) -> Verdict {
+    match asked {
+        Asked::KeepsLatest => keeps_latest(alloc, received, frames),
+        Asked::Joins => Ok(joins_in_turn(alloc, received, frames)),
+        Asked::Makes => makes_of_three(alloc, received, frames),
+    }
+}
+
+fn answers_on_changes(alloc: Global, received: &mut Received, asked: Asked) -> Verdict {
+    match changes(alloc, &SAID) {
+        Ok(frames) => {
+            let verdict = answers(alloc, received, &frames, asked);
+            drop(frames);
+            verdict
+        }
+        Err(AllocError) => Err(NoMemory),
+    }
+}
+
+fn does(alloc: Global, asked: Asked) -> Verdict {
+    match none_received(alloc) {
+        Ok(mut received) => {
+            let verdict = answers_on_changes(alloc, &mut received, asked);
+            drop(received);
+            verdict
+        }
+        Err(NoMemory) => Err(NoMemory),
+    }
+}
+
+// The latest of each replica is held. The senders for a view ascend, whatever the order in which they came.
+#[test]
+fn the_latest_is_kept(rt: HostRuntime) {
+    holds(&rt, does(rt.alloc(), Asked::KeepsLatest));
+}
+
+// The least view that f + 1 others reach, above the target.
+#[test]
+fn others_are_joined(rt: HostRuntime) {
+    holds(&rt, does(rt.alloc(), Asked::Joins));
 }
 
 // The new view that the primary makes of three view changes is taken; of two it makes none.
 #[test]
-fn what_is_made_is_taken(rt: HostRuntime) -> Result<(), Fail> {
-    let mut received = none_received(rt.alloc())?;
-    let frames = changes(rt.alloc(), &SAID)?;
-    assert!(rt; makes_of_three(rt.alloc(), &mut received, &frames)?);
-    Ok(())
+fn what_is_made_is_taken(rt: HostRuntime) {
+    holds(&rt, does(rt.alloc(), Asked::Makes));
 }

@@ -1,11 +1,12 @@
 //! Each refusal of a new view, in a case in which it is the first that applies: four replicas, a checkpoint each 16
 //! batches.
 
-use crate::views::frames::{Said, changes};
+use crate::answers::holds;
+use crate::views::frames::{Said, add, changes};
 use crate::views::received::none_received;
 use std::alloc::{AllocError, Global};
-use std::test::Fail;
-use terms::{Number, ReplicaId, View};
+use terms::{NoMemory, Number, ReplicaId, View};
+use test_bytes::Verdict;
 use view_change::{NewViewFault, Received, check_new_view};
 use wire::{Batch, NewView};
 
@@ -96,27 +97,45 @@ static ROWS: [(Heard, Carried, Option<NewViewFault>); 15] = [
     ),
 ];
 
-fn carried_changes(
+fn add_copy(frames: &[Vec<u8>], at: usize, changes: &mut Vec<Vec<u8>>) -> Result<(), AllocError> {
+    match frames.get(at) {
+        Some(frame) => add(changes, frame.clone()),
+        None => Ok(()),
+    }
+}
+
+fn put_carried(
+    frames: &[Vec<u8>],
+    carried: &[usize],
+    changes: &mut Vec<Vec<u8>>,
+) -> Result<(), AllocError> {
+    for at in carried {
+        add_copy(frames, *at, changes)?;
+    }
+    Ok(())
+}
+
+fn batch_of(alloc: Global, byte: u8) -> Result<Batch, AllocError> {
+    let text = vec![in alloc; byte]?;
+    Ok(Batch { text })
+}
+
+fn put_batches(alloc: Global, bytes: &[u8], batches: &mut Vec<Batch>) -> Result<(), AllocError> {
+    for byte in bytes {
+        add(batches, batch_of(alloc, *byte))?;
+    }
+    Ok(())
+}
+
+fn fill(
     alloc: Global,
     frames: &[Vec<u8>],
     carried: &[usize],
-) -> Result<Vec<Vec<u8>>, AllocError> {
-    let mut changes = Vec::new(alloc);
-    for at in carried {
-        if let Some(frame) = frames.get(*at) {
-            changes.push(frame.clone()?)?;
-        }
-    }
-    Ok(changes)
-}
-
-fn batches_of(alloc: Global, bytes: &[u8]) -> Result<Vec<Batch>, AllocError> {
-    let mut batches = Vec::new(alloc);
-    for byte in bytes {
-        let text = vec![in alloc; *byte]?;
-        batches.push(Batch { text })?;
-    }
-    Ok(batches)
+    bytes: &[u8],
+    new: &mut NewView,
+) -> Result<(), AllocError> {
+    put_carried(frames, carried, &mut new.changes)?;
+    put_batches(alloc, bytes, &mut new.batches)
 }
 
 fn new_view(
@@ -124,15 +143,15 @@ fn new_view(
     frames: &[Vec<u8>],
     (carried, root, bytes): Carried,
 ) -> Result<NewView, AllocError> {
-    let changes = carried_changes(alloc, frames, carried)?;
-    let batches = batches_of(alloc, bytes)?;
-    Ok(NewView {
+    let mut new = NewView {
         view: View(1),
-        changes,
+        changes: Vec::new(alloc),
         start: Number(0),
         root: [root; 32],
-        batches,
-    })
+        batches: Vec::new(alloc),
+    };
+    fill(alloc, frames, carried, bytes, &mut new)?;
+    Ok(new)
 }
 
 // At the second try if memory ran out at the first one.
@@ -151,40 +170,114 @@ fn refusal(
     }
 }
 
-// A new view that carries bytes that are no frame.
-fn unread(alloc: Global) -> Result<NewView, AllocError> {
-    let mut none = Vec::new(alloc);
-    none.push(b"no frame".to_vec(alloc)?)?;
-    new_view(alloc, &none, (&[0], 8, &[0]))
-}
-
-#[test]
-fn new_views_are_refused_unread(rt: HostRuntime) -> Result<(), Fail> {
-    let received = none_received(rt.alloc())?;
-    let new = unread(rt.alloc())?;
+fn are_unread(alloc: Global, received: &Received, new: &NewView) -> bool {
     for &(heard, fault) in &UNREAD {
-        assert!(rt; refusal(rt.alloc(), &received, heard, &new) == Some(fault));
+        if refusal(alloc, received, heard, new) != Some(fault) {
+            return false;
+        }
     }
-    Ok(())
+    true
 }
 
-fn is_heard_so(
+// What judges a new view.
+#[derive(Clone, Copy)]
+enum Wanted {
+    // It is heard and refused as UNREAD says.
+    Unread,
+    // It comes of this, if of anything.
+    Heard(Heard, Option<NewViewFault>),
+}
+
+fn is_judged(alloc: Global, received: &Received, new: &NewView, wanted: Wanted) -> bool {
+    match wanted {
+        Wanted::Unread => are_unread(alloc, received, new),
+        Wanted::Heard(heard, fault) => refusal(alloc, received, heard, new) == fault,
+    }
+}
+
+fn judges(
     alloc: Global,
     received: &Received,
     frames: &[Vec<u8>],
-    row: (Heard, Carried, Option<NewViewFault>),
-) -> Result<bool, AllocError> {
-    let (heard, carried, wanted) = row;
-    let new = new_view(alloc, frames, carried)?;
-    Ok(refusal(alloc, received, heard, &new) == wanted)
+    carried: Carried,
+    wanted: Wanted,
+) -> Verdict {
+    match new_view(alloc, frames, carried) {
+        Ok(new) => {
+            let is_right = is_judged(alloc, received, &new, wanted);
+            drop(new);
+            Ok(is_right)
+        }
+        Err(AllocError) => Err(NoMemory),
+    }
+}
+
+fn judges_all(alloc: Global, received: &Received, frames: &[Vec<u8>]) -> Verdict {
+    for &(heard, carried, wanted) in &ROWS {
+        match judges(
+            alloc,
+            received,
+            frames,
+            carried,
+            Wanted::Heard(heard, wanted),
+        ) {
+            Ok(true) => {}
+            other => return other,
+        }
+    }
+    Ok(true)
+}
+
+fn no_frame(alloc: Global) -> Result<Vec<Vec<u8>>, AllocError> {
+    let mut none = Vec::new(alloc);
+    add(&mut none, b"no frame".to_vec(alloc))?;
+    Ok(none)
+}
+
+// Of a new view that carries bytes that are no frame.
+fn judges_unread(alloc: Global, received: &Received) -> Verdict {
+    match no_frame(alloc) {
+        Ok(none) => {
+            let verdict = judges(alloc, received, &none, (&[0], 8, &[0]), Wanted::Unread);
+            drop(none);
+            verdict
+        }
+        Err(AllocError) => Err(NoMemory),
+    }
+}
+
+fn judges_changes(alloc: Global, received: &Received) -> Verdict {
+    match changes(alloc, &SAID) {
+        Ok(frames) => {
+            let verdict = judges_all(alloc, received, &frames);
+            drop(frames);
+            verdict
+        }
+        Err(AllocError) => Err(NoMemory),
+    }
+}
+
+fn judges_new_views(alloc: Global, are_read: bool) -> Verdict {
+    match none_received(alloc) {
+        Ok(received) => {
+            let verdict = if are_read {
+                judges_changes(alloc, &received)
+            } else {
+                judges_unread(alloc, &received)
+            };
+            drop(received);
+            verdict
+        }
+        Err(NoMemory) => Err(NoMemory),
+    }
 }
 
 #[test]
-fn new_views_are_refused(rt: HostRuntime) -> Result<(), Fail> {
-    let received = none_received(rt.alloc())?;
-    let frames = changes(rt.alloc(), &SAID)?;
-    for &row in &ROWS {
-        assert!(rt; is_heard_so(rt.alloc(), &received, &frames, row)?);
-    }
-    Ok(())
+fn new_views_are_refused_unread(rt: HostRuntime) {
+    holds(&rt, judges_new_views(rt.alloc(), false));
+}
+
+#[test]
+fn new_views_are_refused(rt: HostRuntime) {
+    holds(&rt, judges_new_views(rt.alloc(), true));
 }

@@ -1,12 +1,15 @@
 //! Selections for view 3 among four replicas, and among seven, with a checkpoint each 16 batches.
 
+use crate::answers::holds;
+use crate::views::frames::{add, batch};
 use ordering::HashedBatch;
-use std::alloc::Global;
+use sha2::Sha256;
+use std::alloc::{AllocError, Global};
 use std::sync::Arc;
-use std::test::Fail;
-use terms::{Digest, Number, ReplicaId, View};
+use terms::{Digest, NoMemory, Number, ReplicaId, View};
+use test_bytes::Verdict;
 use view_change::{Change, Selection, Sizes, is_set, select};
-use wire::{Batch, BatchEntry, CheckpointEntry, ViewChange};
+use wire::{BatchEntry, CheckpointEntry, ViewChange};
 
 const FOUR: Sizes = Sizes {
     faults: 1,
@@ -23,79 +26,73 @@ const ROOT: Digest = [7; 32];
 // Checkpoints, and batches as prepared and as logged: each a number, a batch's byte and a view.
 type Said<'a> = (&'a [u64], &'a [(u64, u8, u64)], &'a [(u64, u8, u64)]);
 
-// The batch of this byte: no text of requests, which a selection doesn't read.
-fn batch(alloc: Global, byte: u8) -> Result<Arc<HashedBatch>, Fail> {
-    let text = vec![in alloc; byte]?;
-    Ok(Arc::new(alloc, HashedBatch::new(Batch { text }))?)
+// Of the batch of this byte.
+fn digest_of(byte: u8) -> Digest {
+    <Sha256 as sha2::Digest>::digest(&[byte])
 }
 
-fn entries(alloc: Global, rows: &[(u64, u8, u64)]) -> Result<Vec<BatchEntry>, Fail> {
-    let mut entries = Vec::new(alloc);
+fn put_entries(rows: &[(u64, u8, u64)], out: &mut Vec<BatchEntry>) -> Result<(), AllocError> {
     for (number, byte, view) in rows {
-        let digest = batch(alloc, *byte)?.digest();
-        entries.push(BatchEntry {
+        out.push(BatchEntry {
             number: Number(*number),
-            digest,
+            digest: digest_of(*byte),
             view: View(*view),
         })?;
     }
-    Ok(entries)
+    Ok(())
 }
 
-fn checkpoints(alloc: Global, kept: &[u64]) -> Result<Vec<CheckpointEntry>, Fail> {
-    let mut checkpoints = Vec::new(alloc);
+fn put_checkpoints(kept: &[u64], out: &mut Vec<CheckpointEntry>) -> Result<(), AllocError> {
     for number in kept {
-        checkpoints.push(CheckpointEntry {
+        out.push(CheckpointEntry {
             number: Number(*number),
             digest: ROOT,
         })?;
     }
-    Ok(checkpoints)
+    Ok(())
 }
 
-fn change(alloc: Global, sender: u8, (kept, prepared, logged): Said<'_>) -> Result<Change, Fail> {
-    let change = ViewChange {
+fn fill((kept, prepared, logged): Said<'_>, change: &mut ViewChange) -> Result<(), AllocError> {
+    put_checkpoints(kept, &mut change.checkpoints)?;
+    put_entries(prepared, &mut change.prepared)?;
+    put_entries(logged, &mut change.pre_prepared)
+}
+
+fn change(alloc: Global, sender: u8, said: Said<'_>) -> Result<Change, AllocError> {
+    let mut change = ViewChange {
         view: View(3),
         low: Number(0),
-        checkpoints: checkpoints(alloc, kept)?,
-        prepared: entries(alloc, prepared)?,
-        pre_prepared: entries(alloc, logged)?,
+        checkpoints: Vec::new(alloc),
+        prepared: Vec::new(alloc),
+        pre_prepared: Vec::new(alloc),
     };
+    fill(said, &mut change)?;
     Ok(Change {
         sender: ReplicaId(sender),
         change,
     })
 }
 
-fn changes(alloc: Global, rows: &[Said<'_>]) -> Result<Vec<Change>, Fail> {
-    let mut set = Vec::new(alloc);
+fn put_changes(alloc: Global, rows: &[Said<'_>], set: &mut Vec<Change>) -> Result<(), AllocError> {
     for (sender, row) in rows.iter().enumerate() {
-        set.push(change(alloc, (sender % 16) as u8, *row)?)?;
+        add(set, change(alloc, (sender % 16) as u8, *row))?;
     }
+    Ok(())
+}
+
+fn changes(alloc: Global, rows: &[Said<'_>]) -> Result<Vec<Change>, AllocError> {
+    let mut set = Vec::new(alloc);
+    put_changes(alloc, rows, &mut set)?;
     Ok(set)
 }
 
 // Those of the bytes 1 to 3.
-fn batches(alloc: Global) -> Result<Vec<Arc<HashedBatch>>, Fail> {
+fn batches(alloc: Global) -> Result<Vec<Arc<HashedBatch>>, AllocError> {
     let mut held = Vec::new(alloc);
     for byte in 1..4 {
-        held.push(batch(alloc, byte)?)?;
+        add(&mut held, batch(alloc, byte))?;
     }
     Ok(held)
-}
-
-// The selection from these view changes with those batches.
-fn selected_of(alloc: Global, sizes: Sizes, set: &[Change]) -> Result<Option<Selection>, Fail> {
-    if !is_set(set, sizes, View(3)) {
-        return Ok(None);
-    }
-    let held = batches(alloc)?;
-    Ok(select(alloc, set, sizes, View(3), &held)?)
-}
-
-fn selected(alloc: Global, sizes: Sizes, rows: &[Said<'_>]) -> Result<Option<Selection>, Fail> {
-    let set = changes(alloc, rows)?;
-    selected_of(alloc, sizes, &set)
 }
 
 // Whether the selection starts there, and has these batches.
@@ -126,7 +123,10 @@ const HIGHER: Said<'static> = (&[0, 16], &[], &[]);
 // A start, and the bytes of the batches after it.
 type Start = (u64, &'static [u8]);
 
-static ROWS: [(&[Said<'static>], Option<Start>); 6] = [
+// What is said, and what is selected from it.
+type Row = (&'static [Said<'static>], Option<Start>);
+
+static ROWS: [Row; 6] = [
     // Over one lie and two true view changes nothing is selected.
     (&[ONE, ONE, LIE], None),
     // With a third true one the batch is that was prepared.
@@ -149,7 +149,7 @@ static ROWS: [(&[Said<'static>], Option<Start>); 6] = [
 ];
 
 // Two of seven lie.
-static ROWS_OF_SEVEN: [(&[Said<'static>], Option<Start>); 7] = [
+static ROWS_OF_SEVEN: [Row; 7] = [
     // Over four true view changes and two lies nothing is selected.
     (&[ONE, ONE, ONE, ONE, LIE, LIE], None),
     // With a fifth true one the batch is that was prepared.
@@ -172,35 +172,81 @@ static ROWS_OF_SEVEN: [(&[Said<'static>], Option<Start>); 7] = [
     ),
 ];
 
-fn are_selected(
+// Of two batches that may stand the one of the later view goes first.
+static OF_LATER_VIEW: [Row; 1] = [(&[ONE, LATER, LATER, LATER], Some((0, &[2])))];
+
+fn is_wanted(selected: &Option<Selection>, wanted: Option<Start>) -> bool {
+    match (selected, wanted) {
+        (None, None) => true,
+        (Some(selection), Some((start, bytes))) => is_selected(selection, start, bytes),
+        _ => false,
+    }
+}
+
+fn selects(
     alloc: Global,
     sizes: Sizes,
-    rows: &[Said<'_>],
+    set: &[Change],
+    held: &[Arc<HashedBatch>],
     wanted: Option<Start>,
-) -> Result<bool, Fail> {
-    match (selected(alloc, sizes, rows)?, wanted) {
-        (None, None) => Ok(true),
-        (Some(selection), Some((start, bytes))) => Ok(is_selected(&selection, start, bytes)),
-        _ => Ok(false),
+) -> Verdict {
+    if !is_set(set, sizes, View(3)) {
+        return Ok(wanted.is_none());
+    }
+    match select(alloc, set, sizes, View(3), held) {
+        Ok(selected) => {
+            let is_right = is_wanted(&selected, wanted);
+            drop(selected);
+            Ok(is_right)
+        }
+        Err(NoMemory) => Err(NoMemory),
+    }
+}
+
+fn selects_of(
+    alloc: Global,
+    sizes: Sizes,
+    (said, wanted): Row,
+    held: &[Arc<HashedBatch>],
+) -> Verdict {
+    match changes(alloc, said) {
+        Ok(set) => {
+            let verdict = selects(alloc, sizes, &set, held, wanted);
+            drop(set);
+            verdict
+        }
+        Err(AllocError) => Err(NoMemory),
+    }
+}
+
+fn selects_rows(alloc: Global, sizes: Sizes, rows: &[Row], held: &[Arc<HashedBatch>]) -> Verdict {
+    for row in rows {
+        match selects_of(alloc, sizes, *row, held) {
+            Ok(true) => {}
+            other => return other,
+        }
+    }
+    Ok(true)
+}
+
+fn are_selected(alloc: Global, sizes: Sizes, rows: &[Row]) -> Verdict {
+    match batches(alloc) {
+        Ok(held) => {
+            let verdict = selects_rows(alloc, sizes, rows, &held);
+            drop(held);
+            verdict
+        }
+        Err(AllocError) => Err(NoMemory),
     }
 }
 
 #[test]
-fn selections_follow_the_rules(rt: HostRuntime) -> Result<(), Fail> {
-    for &(rows, wanted) in &ROWS {
-        assert!(rt; are_selected(rt.alloc(), FOUR, rows, wanted)?);
-    }
-    for &(rows, wanted) in &ROWS_OF_SEVEN {
-        assert!(rt; are_selected(rt.alloc(), SEVEN, rows, wanted)?);
-    }
-    Ok(())
+fn selections_follow_the_rules(rt: HostRuntime) {
+    holds(&rt, are_selected(rt.alloc(), FOUR, &ROWS));
+    holds(&rt, are_selected(rt.alloc(), SEVEN, &ROWS_OF_SEVEN));
 }
 
-static LATER_VIEW: [Said<'static>; 4] = [ONE, LATER, LATER, LATER];
-
-// Of two batches that may stand the one of the later view goes first.
 #[test]
-fn the_later_view_goes_first(rt: HostRuntime) -> Result<(), Fail> {
-    assert!(rt; are_selected(rt.alloc(), FOUR, &LATER_VIEW, Some((0, &[2])))?);
-    Ok(())
+fn the_later_view_goes_first(rt: HostRuntime) {
+    holds(&rt, are_selected(rt.alloc(), FOUR, &OF_LATER_VIEW));
 }
