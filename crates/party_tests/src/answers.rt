@@ -2,28 +2,19 @@
 //! answer. So a test has one way out.
 
 use std::alloc::Global;
-use std::test::Fail;
+use std::process::Abort;
 use terms::NoMemory;
+pub use test_bytes::all_hold;
 use tuple_codec::{Answer, Op, encode_op, encode_result};
 
-/// Ends a test whose question has this answer.
-pub fn holds(answer: Result<bool, NoMemory>) -> Result<(), Fail> {
+/// Ends a test whose question has another answer than yes. A test that asks so by a call has no function beside it that
+/// reports its result.
+pub fn holds(rt: &impl Abort, answer: Result<bool, NoMemory>) {
     match answer {
-        Ok(true) => Ok(()),
-        Ok(false) => Err(Fail::new("it does not hold")),
-        Err(fault) => Err(Fail::from(fault)),
+        Ok(true) => {}
+        Ok(false) => rt.panic("it does not hold"),
+        Err(NoMemory) => rt.panic("error: out of memory"),
     }
-}
-
-/// Whether all of these hold: the first that doesn't decides.
-pub fn all_hold(answers: &[Result<bool, NoMemory>]) -> Result<bool, NoMemory> {
-    for answer in answers {
-        match answer {
-            Ok(true) => {}
-            first => return *first,
-        }
-    }
-    Ok(true)
 }
 
 fn is_written(

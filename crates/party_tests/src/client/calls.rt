@@ -4,7 +4,6 @@ use crate::answers::{all_hold, holds};
 use crate::client::clients::{Given, Input, OUT, OUT_ORDERED, asks, gives, new_client};
 use client_cert::{Client, Event, InvokeFault};
 use std::alloc::Global;
-use std::test::Fail;
 use terms::NoMemory;
 use test_bytes::read_op;
 use tuple_codec::Op;
@@ -54,8 +53,8 @@ fn new_call_is_answered(alloc: Global) -> Result<bool, NoMemory> {
 }
 
 #[test]
-fn a_call_is_answered(rt: HostRuntime) -> Result<(), Fail> {
-    holds(new_call_is_answered(rt.alloc()))
+fn a_call_is_answered(rt: HostRuntime) {
+    holds(&rt, new_call_is_answered(rt.alloc()));
 }
 
 fn is_idle(client: &mut Client, alloc: Global) -> bool {
@@ -77,6 +76,6 @@ fn new_client_is_idle(alloc: Global) -> Result<bool, NoMemory> {
 }
 
 #[test]
-fn without_a_call_nothing_goes_again(rt: HostRuntime) -> Result<(), Fail> {
-    holds(new_client_is_idle(rt.alloc()))
+fn without_a_call_nothing_goes_again(rt: HostRuntime) {
+    holds(&rt, new_client_is_idle(rt.alloc()));
 }

@@ -3,7 +3,6 @@
 use crate::answers::holds;
 use events::{Config, Entry, EntryKind};
 use std::alloc::Global;
-use std::test::Fail;
 use terms::{NoMemory, Party, ReplicaId};
 
 // Faults, clients and the period, one faulty replica and one faulty client, and whether they make a configuration.
@@ -40,8 +39,8 @@ fn are_as_told(alloc: Global) -> Result<bool, NoMemory> {
 }
 
 #[test]
-fn numbers_are_in_range(rt: HostRuntime) -> Result<(), Fail> {
-    holds(are_as_told(rt.alloc()))
+fn numbers_are_in_range(rt: HostRuntime) {
+    holds(&rt, are_as_told(rt.alloc()));
 }
 
 fn tells_parties(config: &Config) -> bool {
@@ -68,8 +67,8 @@ fn others_are_correct(alloc: Global) -> Result<bool, NoMemory> {
 }
 
 #[test]
-fn the_others_are_correct(rt: HostRuntime) -> Result<(), Fail> {
-    holds(others_are_correct(rt.alloc()))
+fn the_others_are_correct(rt: HostRuntime) {
+    holds(&rt, others_are_correct(rt.alloc()));
 }
 
 fn is_tick(entry: &Entry) -> bool {

@@ -7,7 +7,6 @@ use crate::client::clients::{
 };
 use client_cert::Client;
 use std::alloc::Global;
-use std::test::Fail;
 use terms::NoMemory;
 
 // An operation, its first request, and the inputs after it.
@@ -158,17 +157,23 @@ fn all_go_as_told(alloc: Global, cases: &[Case<'_>]) -> Result<bool, NoMemory> {
 }
 
 #[test]
-fn replies_count(rt: HostRuntime) -> Result<(), Fail> {
-    holds(all_hold(&[
-        all_go_as_told(rt.alloc(), &REPLIES),
-        all_go_as_told(rt.alloc(), &CASES),
-    ]))
+fn replies_count(rt: HostRuntime) {
+    holds(
+        &rt,
+        all_hold(&[
+            all_go_as_told(rt.alloc(), &REPLIES),
+            all_go_as_told(rt.alloc(), &CASES),
+        ]),
+    );
 }
 
 #[test]
-fn reads_are_asked_for_in_order(rt: HostRuntime) -> Result<(), Fail> {
-    holds(all_hold(&[
-        goes_as_told(rt.alloc(), FALL_BACK),
-        goes_as_told(rt.alloc(), RETRIED),
-    ]))
+fn reads_are_asked_for_in_order(rt: HostRuntime) {
+    holds(
+        &rt,
+        all_hold(&[
+            goes_as_told(rt.alloc(), FALL_BACK),
+            goes_as_told(rt.alloc(), RETRIED),
+        ]),
+    );
 }

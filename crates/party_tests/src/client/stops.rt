@@ -10,7 +10,6 @@ use authenticator::SealFault;
 use client_cert::{Client, Event, InvokeFault};
 use events::Stop;
 use std::alloc::Global;
-use std::test::Fail;
 use terms::NoMemory;
 use test_bytes::read_op;
 use tuple_codec::Op;
@@ -141,24 +140,27 @@ fn all_go_or_stop(alloc: Global, cases: &[Case<'_>]) -> Result<bool, NoMemory> {
 }
 
 #[test]
-fn refused_memory_at_a_call(rt: HostRuntime) -> Result<(), Fail> {
-    holds(all_go_or_stop(rt.alloc(), &CALLS))
+fn refused_memory_at_a_call(rt: HostRuntime) {
+    holds(&rt, all_go_or_stop(rt.alloc(), &CALLS));
 }
 
 #[test]
-fn refused_memory_at_replies(rt: HostRuntime) -> Result<(), Fail> {
-    holds(all_go_or_stop(rt.alloc(), &REPLIES))
+fn refused_memory_at_replies(rt: HostRuntime) {
+    holds(&rt, all_go_or_stop(rt.alloc(), &REPLIES));
 }
 
 #[test]
-fn refused_memory_at_retries(rt: HostRuntime) -> Result<(), Fail> {
-    holds(all_hold(&[
-        goes_or_stops(rt.alloc(), ASKED_AGAIN),
-        goes_or_stops(rt.alloc(), RETRIED),
-    ]))
+fn refused_memory_at_retries(rt: HostRuntime) {
+    holds(
+        &rt,
+        all_hold(&[
+            goes_or_stops(rt.alloc(), ASKED_AGAIN),
+            goes_or_stops(rt.alloc(), RETRIED),
+        ]),
+    );
 }
 
 #[test]
-fn refused_memory_where_a_read_falls_back(rt: HostRuntime) -> Result<(), Fail> {
-    holds(goes_or_stops(rt.alloc(), FALL_BACK))
+fn refused_memory_where_a_read_falls_back(rt: HostRuntime) {
+    holds(&rt, goes_or_stops(rt.alloc(), FALL_BACK));
 }

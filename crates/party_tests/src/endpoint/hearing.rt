@@ -4,7 +4,6 @@ use crate::answers::{all_hold, holds};
 use crate::endpoint::endpoints::{DIGEST, frame_for_others, new_endpoint, signed, without_frame};
 use posting::{Endpoint, prepare_message};
 use std::alloc::Global;
-use std::test::Fail;
 use terms::{NoMemory, Number, View};
 use wire::{Body, Message};
 
@@ -96,8 +95,8 @@ fn prepare_is_heard(alloc: Global) -> Result<bool, NoMemory> {
 }
 
 #[test]
-fn frames_with_macs(rt: HostRuntime) -> Result<(), Fail> {
-    holds(prepare_is_heard(rt.alloc()))
+fn frames_with_macs(rt: HostRuntime) {
+    holds(&rt, prepare_is_heard(rt.alloc()));
 }
 
 fn hears_any(endpoint: &mut Endpoint, alloc: Global, bytes: &[u8]) -> Result<bool, NoMemory> {
@@ -172,6 +171,6 @@ fn view_change_is_heard(alloc: Global) -> Result<bool, NoMemory> {
 }
 
 #[test]
-fn signed_frames(rt: HostRuntime) -> Result<(), Fail> {
-    holds(view_change_is_heard(rt.alloc()))
+fn signed_frames(rt: HostRuntime) {
+    holds(&rt, view_change_is_heard(rt.alloc()));
 }

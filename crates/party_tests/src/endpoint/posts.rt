@@ -16,7 +16,6 @@ use posting::{
 };
 use sha2::{Digest, Sha256};
 use std::alloc::Global;
-use std::test::Fail;
 use terms::{ClientId, Level, Mode, NoMemory, Number, Party, ReplicaId, Timestamp, View};
 use tuple_codec::Answer;
 use wire::Message;
@@ -171,8 +170,8 @@ fn new_endpoint_posts_all(alloc: Global) -> Result<bool, NoMemory> {
 }
 
 #[test]
-fn messages_for_all_others(rt: HostRuntime) -> Result<(), Fail> {
-    holds(new_endpoint_posts_all(rt.alloc()))
+fn messages_for_all_others(rt: HostRuntime) {
+    holds(&rt, new_endpoint_posts_all(rt.alloc()));
 }
 
 const CLIENT: ClientId = ClientId { number: 0 };
@@ -208,11 +207,14 @@ fn reply_goes_out_by_ring(alloc: Global) -> Result<bool, NoMemory> {
 }
 
 #[test]
-fn a_reply(rt: HostRuntime) -> Result<(), Fail> {
-    holds(all_hold(&[
-        reply_goes_out(rt.alloc()),
-        reply_goes_out_by_ring(rt.alloc()),
-    ]))
+fn a_reply(rt: HostRuntime) {
+    holds(
+        &rt,
+        all_hold(&[
+            reply_goes_out(rt.alloc()),
+            reply_goes_out_by_ring(rt.alloc()),
+        ]),
+    );
 }
 
 // A frame has at most 4,194,304 bytes: here those of the text, 17 before it and 104 after it.
@@ -236,8 +238,8 @@ fn new_endpoint_refuses_page(alloc: Global) -> Result<bool, NoMemory> {
 }
 
 #[test]
-fn a_page_too_long(rt: HostRuntime) -> Result<(), Fail> {
-    holds(new_endpoint_refuses_page(rt.alloc()))
+fn a_page_too_long(rt: HostRuntime) {
+    holds(&rt, new_endpoint_refuses_page(rt.alloc()));
 }
 
 // Whether the view change's frame goes to all others.
@@ -308,8 +310,8 @@ fn new_endpoint_spends_all(alloc: Global) -> Result<bool, NoMemory> {
 }
 
 #[test]
-fn each_signed_message_spends_a_key(rt: HostRuntime) -> Result<(), Fail> {
-    holds(new_endpoint_spends_all(rt.alloc()))
+fn each_signed_message_spends_a_key(rt: HostRuntime) {
+    holds(&rt, new_endpoint_spends_all(rt.alloc()));
 }
 
 // The output for the first commit of replica 0, at the second try if memory ran out at the first one.
@@ -336,6 +338,6 @@ fn commit_goes_out_again(alloc: Global) -> Result<bool, NoMemory> {
 
 // Passes whichever growth is refused, as by `tools/growths`: the endpoint is as before.
 #[test]
-fn refused_memory(rt: HostRuntime) -> Result<(), Fail> {
-    holds(commit_goes_out_again(rt.alloc()))
+fn refused_memory(rt: HostRuntime) {
+    holds(&rt, commit_goes_out_again(rt.alloc()));
 }

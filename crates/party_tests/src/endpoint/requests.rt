@@ -11,7 +11,6 @@ use crate::endpoint::posts::goes_out;
 use authenticator::SealFault;
 use posting::{Endpoint, pre_prepare_message};
 use std::alloc::Global;
-use std::test::Fail;
 use terms::{ClientId, Mode, NoMemory, Number, Party, ReplicaId, Timestamp, View};
 use tuple_codec::{Bad, decode_op};
 use wire::{Batch, Body, Message, Request, is_ordered_request};
@@ -124,8 +123,8 @@ fn new_endpoint_posts_request(alloc: Global) -> Result<bool, NoMemory> {
 }
 
 #[test]
-fn a_pre_prepare(rt: HostRuntime) -> Result<(), Fail> {
-    holds(new_endpoint_posts_request(rt.alloc()))
+fn a_pre_prepare(rt: HostRuntime) {
+    holds(&rt, new_endpoint_posts_request(rt.alloc()));
 }
 
 // Whether the replica takes the frame's batch as genuine.
@@ -203,6 +202,6 @@ fn all_judge(alloc: Global) -> Result<bool, NoMemory> {
 }
 
 #[test]
-fn genuine_requests(rt: HostRuntime) -> Result<(), Fail> {
-    holds(all_judge(rt.alloc()))
+fn genuine_requests(rt: HostRuntime) {
+    holds(&rt, all_judge(rt.alloc()));
 }

@@ -3,7 +3,6 @@
 use crate::answers::holds;
 use crate::order::frames::{FOUND_1, OUT_1};
 use crate::order::traces::{Row, Step, has_points};
-use std::test::Fail;
 use test_bytes::{ABSENT, DONE, ORDERED, READ, READ_ONLY, TAKE};
 
 // The greatest number of a batch.
@@ -20,8 +19,8 @@ static FAULTY_RUN: [Step<'static>; 3] = [
 static FAULTY: [Row<'static>; 1] = [(0, 1, OUT_1, DONE, 3)];
 
 #[test]
-fn correct_replicas_make_levels(rt: HostRuntime) -> Result<(), Fail> {
-    holds(has_points(rt.alloc(), &[3], &FAULTY_RUN, &FAULTY))
+fn correct_replicas_make_levels(rt: HostRuntime) {
+    holds(&rt, has_points(rt.alloc(), &[3], &FAULTY_RUN, &FAULTY));
 }
 
 // Numbers between have no batch. A read of one of them stands at the next level, and one of a number to which no level
@@ -45,6 +44,6 @@ static FAR: [Row<'static>; 4] = [
 ];
 
 #[test]
-fn numbers_far_apart(rt: HostRuntime) -> Result<(), Fail> {
-    holds(has_points(rt.alloc(), &[], &FAR_RUN, &FAR))
+fn numbers_far_apart(rt: HostRuntime) {
+    holds(&rt, has_points(rt.alloc(), &[], &FAR_RUN, &FAR));
 }

@@ -3,7 +3,6 @@
 use crate::answers::{all_hold, holds};
 use crate::order::frames::{FOUND_1, OUT_1};
 use crate::order::traces::{Row, Step, has_points};
-use std::test::Fail;
 use test_bytes::{ABSENT, DONE, ORDERED, READ, READ_ONLY};
 
 // Clients 0 and 1 read the state after a write that comes later than their calls, and client 1 accepts first.
@@ -24,8 +23,8 @@ static EARLY_READS: [Row<'static>; 3] = [
 ];
 
 #[test]
-fn reads_stand_behind_writes_by_client(rt: HostRuntime) -> Result<(), Fail> {
-    holds(has_points(rt.alloc(), &[], &EARLY_RUN, &EARLY_READS))
+fn reads_stand_behind_writes_by_client(rt: HostRuntime) {
+    holds(&rt, has_points(rt.alloc(), &[], &EARLY_RUN, &EARLY_READS));
 }
 
 // A call is read, and its request runs too.
@@ -39,8 +38,8 @@ static DOUBLED_RUN: [Step<'static>; 4] = [
 static DOUBLED: [Row<'static>; 1] = [(0, 5, READ, ABSENT, 0)];
 
 #[test]
-fn a_read_that_ran_too_stands_once(rt: HostRuntime) -> Result<(), Fail> {
-    holds(has_points(rt.alloc(), &[], &DOUBLED_RUN, &DOUBLED))
+fn a_read_that_ran_too_stands_once(rt: HostRuntime) {
+    holds(&rt, has_points(rt.alloc(), &[], &DOUBLED_RUN, &DOUBLED));
 }
 
 // The last entry of the client before its acceptance is a tick.
@@ -70,10 +69,13 @@ static OTHER_REPLIES: [Step<'static>; 8] = [
 ];
 
 #[test]
-fn other_acceptances_are_no_reads(rt: HostRuntime) -> Result<(), Fail> {
-    holds(all_hold(&[
-        has_points(rt.alloc(), &[], &TICKED, &[]),
-        has_points(rt.alloc(), &[], &FORGED, &[]),
-        has_points(rt.alloc(), &[], &OTHER_REPLIES, &[]),
-    ]))
+fn other_acceptances_are_no_reads(rt: HostRuntime) {
+    holds(
+        &rt,
+        all_hold(&[
+            has_points(rt.alloc(), &[], &TICKED, &[]),
+            has_points(rt.alloc(), &[], &FORGED, &[]),
+            has_points(rt.alloc(), &[], &OTHER_REPLIES, &[]),
+        ]),
+    );
 }

@@ -4,7 +4,6 @@ use crate::answers::holds;
 use crate::order::frames::{FOUND_1, OUT_1, OUT_2};
 use crate::order::traces::{Row, Step, has_points};
 use std::alloc::Global;
-use std::test::Fail;
 use terms::NoMemory;
 use test_bytes::{ABSENT, DONE, ORDERED, READ, READ_ONLY, TAKE};
 
@@ -29,8 +28,11 @@ static WRITE_AND_READS: [Row<'static>; 3] = [
 ];
 
 #[test]
-fn a_write_and_two_reads(rt: HostRuntime) -> Result<(), Fail> {
-    holds(has_points(rt.alloc(), &[], &WRITE_RUN, &WRITE_AND_READS))
+fn a_write_and_two_reads(rt: HostRuntime) {
+    holds(
+        &rt,
+        has_points(rt.alloc(), &[], &WRITE_RUN, &WRITE_AND_READS),
+    );
 }
 
 // At the second try if memory ran out at the first one.
@@ -43,8 +45,8 @@ fn has_points_again(alloc: Global) -> Result<bool, NoMemory> {
 
 // `tools/growths` refuses each growth in turn.
 #[test]
-fn refused_memory(rt: HostRuntime) -> Result<(), Fail> {
-    holds(has_points_again(rt.alloc()))
+fn refused_memory(rt: HostRuntime) {
+    holds(&rt, has_points_again(rt.alloc()));
 }
 
 // A request twice, one of a client that there isn't, and then one of an earlier timestamp. The second batch is none: no
@@ -71,11 +73,11 @@ static MIXED_RUN: [Step<'static>; 3] = [
 static ONCE: [Row<'static>; 2] = [(0, 2, OUT_1, DONE, 2), (1, 1, TAKE, FOUND_1, 8)];
 
 #[test]
-fn a_request_runs_once(rt: HostRuntime) -> Result<(), Fail> {
-    holds(has_points(rt.alloc(), &[], &MIXED_RUN, &ONCE))
+fn a_request_runs_once(rt: HostRuntime) {
+    holds(&rt, has_points(rt.alloc(), &[], &MIXED_RUN, &ONCE));
 }
 
 #[test]
-fn nothing_in_an_empty_trace(rt: HostRuntime) -> Result<(), Fail> {
-    holds(has_points(rt.alloc(), &[], &[], &[]))
+fn nothing_in_an_empty_trace(rt: HostRuntime) {
+    holds(&rt, has_points(rt.alloc(), &[], &[], &[]));
 }

@@ -5,7 +5,6 @@ use bumpalo::Bump;
 use read_only::{ReadFault, ReadRequest, Shelf, answer};
 use space::Space;
 use std::alloc::Global;
-use std::test::Fail;
 use terms::{ClientId, Mode, NoMemory, Number, Timestamp};
 use test_bytes::read_op;
 use tuple_codec::{Op, is_op};
@@ -171,6 +170,6 @@ fn all_agree_in_space(alloc: Global) -> Result<bool, NoMemory> {
 }
 
 #[test]
-fn operations(rt: HostRuntime) -> Result<(), Fail> {
-    holds(all_agree_in_space(rt.alloc()))
+fn operations(rt: HostRuntime) {
+    holds(&rt, all_agree_in_space(rt.alloc()));
 }

@@ -6,7 +6,6 @@ use bumpalo::Bump;
 use read_only::ReadFault;
 use space::Space;
 use std::alloc::{AllocError, Global};
-use std::test::Fail;
 use terms::NoMemory;
 
 // More than a read takes of the arena, in bytes.
@@ -80,8 +79,8 @@ fn needs_some_in_space(alloc: Global) -> Result<bool, NoMemory> {
 }
 
 #[test]
-fn growths_in_the_arena(rt: HostRuntime) -> Result<(), Fail> {
-    holds(needs_some_in_space(rt.alloc()))
+fn growths_in_the_arena(rt: HostRuntime) {
+    holds(&rt, needs_some_in_space(rt.alloc()));
 }
 
 fn is_refused(alloc: Global, space: &Space, arena: &mut Bump) -> bool {
@@ -107,8 +106,8 @@ fn is_refused_in_space(alloc: Global) -> Result<bool, NoMemory> {
 
 // An operation that is no read is refused as such even if there is no memory.
 #[test]
-fn refused_without_memory(rt: HostRuntime) -> Result<(), Fail> {
-    holds(is_refused_in_space(rt.alloc()))
+fn refused_without_memory(rt: HostRuntime) {
+    holds(&rt, is_refused_in_space(rt.alloc()));
 }
 
 fn room(arena: &Bump) -> (usize, usize) {
@@ -152,8 +151,8 @@ fn leaves_an_arena_in_space(alloc: Global) -> Result<bool, NoMemory> {
 }
 
 #[test]
-fn the_arena_is_empty_again(rt: HostRuntime) -> Result<(), Fail> {
-    holds(leaves_an_arena_in_space(rt.alloc()))
+fn the_arena_is_empty_again(rt: HostRuntime) {
+    holds(&rt, leaves_an_arena_in_space(rt.alloc()));
 }
 
 // Whether both tuples are read, at the second try if memory ran out at the first one.
@@ -200,6 +199,6 @@ fn reads_both_in_space(alloc: Global) -> Result<bool, NoMemory> {
 // In a plain run nothing is refused here. `tools/growths` refuses the growth of number N. This test passes if that is
 // one of the read's, of the arena or of the reply.
 #[test]
-fn growths_in_ordinary_memory(rt: HostRuntime) -> Result<(), Fail> {
-    holds(reads_both_in_space(rt.alloc()))
+fn growths_in_ordinary_memory(rt: HostRuntime) {
+    holds(&rt, reads_both_in_space(rt.alloc()));
 }

@@ -6,7 +6,6 @@ use crate::answers::{all_hold, holds};
 use crate::state::frames::BATCH_OF_TWO;
 use execution::Executed;
 use std::alloc::Global;
-use std::test::Fail;
 use terms::{ClientId, Digest, NoMemory};
 
 // The roots were computed by Python's hashlib, over the pages as docs/formats.md has them: the tuples (1) and (2) with
@@ -72,8 +71,8 @@ fn runs_once_from_beginning(alloc: Global) -> Result<bool, NoMemory> {
 }
 
 #[test]
-fn a_batch_runs_once(rt: HostRuntime) -> Result<(), Fail> {
-    holds(runs_once_from_beginning(rt.alloc()))
+fn a_batch_runs_once(rt: HostRuntime) {
+    holds(&rt, runs_once_from_beginning(rt.alloc()));
 }
 
 fn runs_one_of_two(alloc: Global) -> Result<bool, NoMemory> {
@@ -84,6 +83,6 @@ fn runs_one_of_two(alloc: Global) -> Result<bool, NoMemory> {
 }
 
 #[test]
-fn requests_of_no_client_do_not_run(rt: HostRuntime) -> Result<(), Fail> {
-    holds(runs_one_of_two(rt.alloc()))
+fn requests_of_no_client_do_not_run(rt: HostRuntime) {
+    holds(&rt, runs_one_of_two(rt.alloc()));
 }

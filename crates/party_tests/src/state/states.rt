@@ -6,7 +6,6 @@ use execution::Executed;
 use partition_tree::{PAGES, Tree};
 use space::PeekFault;
 use std::alloc::Global;
-use std::test::Fail;
 use terms::{ClientId, Digest, NoMemory, Number};
 use test_bytes::read_op;
 use tuple_codec::Op;
@@ -134,8 +133,8 @@ fn is_installed(alloc: Global) -> Result<bool, NoMemory> {
 }
 
 #[test]
-fn a_state_is_installed(rt: HostRuntime) -> Result<(), Fail> {
-    holds(is_installed(rt.alloc()))
+fn a_state_is_installed(rt: HostRuntime) {
+    holds(&rt, is_installed(rt.alloc()));
 }
 
 fn runs_none_again(alloc: Global) -> Result<bool, NoMemory> {
@@ -147,8 +146,8 @@ fn runs_none_again(alloc: Global) -> Result<bool, NoMemory> {
 
 // The next batch has the same requests, which don't run again.
 #[test]
-fn a_batch_runs_on_a_state(rt: HostRuntime) -> Result<(), Fail> {
-    holds(runs_none_again(rt.alloc()))
+fn a_batch_runs_on_a_state(rt: HostRuntime) {
+    holds(&rt, runs_none_again(rt.alloc()));
 }
 
 fn answers_op(
@@ -199,8 +198,8 @@ fn new_state_is_read(alloc: Global) -> Result<bool, NoMemory> {
 }
 
 #[test]
-fn a_state_is_read(rt: HostRuntime) -> Result<(), Fail> {
-    holds(new_state_is_read(rt.alloc()))
+fn a_state_is_read(rt: HostRuntime) {
+    holds(&rt, new_state_is_read(rt.alloc()));
 }
 
 // Whether the pages after one batch, changed so, are installed in place of those, and have this root.
@@ -232,8 +231,8 @@ fn new_state_is_replaced(alloc: Global) -> Result<bool, NoMemory> {
 }
 
 #[test]
-fn a_state_is_replaced(rt: HostRuntime) -> Result<(), Fail> {
-    holds(new_state_is_replaced(rt.alloc()))
+fn a_state_is_replaced(rt: HostRuntime) {
+    holds(&rt, new_state_is_replaced(rt.alloc()));
 }
 
 // Whether these pages, changed so, are not installed as those of this number.
@@ -265,8 +264,8 @@ fn last_client_is_kept(alloc: Global) -> Result<bool, NoMemory> {
 
 // The reply to client 255 would be lost.
 #[test]
-fn the_last_client_counts(rt: HostRuntime) -> Result<(), Fail> {
-    holds(last_client_is_kept(rt.alloc()))
+fn the_last_client_counts(rt: HostRuntime) {
+    holds(&rt, last_client_is_kept(rt.alloc()));
 }
 
 // Which page of those after one batch is another one: no reply to client 0, and one of a lower timestamp to client 1.
@@ -318,8 +317,8 @@ fn lower_ones_are_refused(alloc: Global) -> Result<bool, NoMemory> {
 
 // States in which a client's last timestamp is lower change nothing, whatever their numbers are.
 #[test]
-fn no_timestamp_falls(rt: HostRuntime) -> Result<(), Fail> {
-    holds(lower_ones_are_refused(rt.alloc()))
+fn no_timestamp_falls(rt: HostRuntime) {
+    holds(&rt, lower_ones_are_refused(rt.alloc()));
 }
 
 // A number, and the changed page of those after one batch, if any.
@@ -355,8 +354,8 @@ fn wrong_ones_are_refused(alloc: Global) -> Result<bool, NoMemory> {
 }
 
 #[test]
-fn pages_of_no_state(rt: HostRuntime) -> Result<(), Fail> {
-    holds(wrong_ones_are_refused(rt.alloc()))
+fn pages_of_no_state(rt: HostRuntime) {
+    holds(&rt, wrong_ones_are_refused(rt.alloc()));
 }
 
 fn has_pages(executed: &mut Executed) -> Result<bool, NoMemory> {
@@ -388,8 +387,8 @@ fn new_pages_are_lent(alloc: Global) -> Result<bool, NoMemory> {
 
 // The pages that are lent are those installed, and those of a checkpoint.
 #[test]
-fn pages_are_lent(rt: HostRuntime) -> Result<(), Fail> {
-    holds(new_pages_are_lent(rt.alloc()))
+fn pages_are_lent(rt: HostRuntime) {
+    holds(&rt, new_pages_are_lent(rt.alloc()));
 }
 
 // Whether the pages after one batch are installed in a new state, at the second try if memory ran out at the first
@@ -432,6 +431,6 @@ fn is_installed_again(alloc: Global) -> Result<bool, NoMemory> {
 
 // Passes whichever growth is refused, as by `tools/growths`.
 #[test]
-fn refused_memory(rt: HostRuntime) -> Result<(), Fail> {
-    holds(is_installed_again(rt.alloc()))
+fn refused_memory(rt: HostRuntime) {
+    holds(&rt, is_installed_again(rt.alloc()));
 }
