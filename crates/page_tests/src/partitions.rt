@@ -1,9 +1,10 @@
 //! Worked digests, a kept snapshot, and memory refused.
 
+use crate::answers::holds;
 use partition_tree::{PAGES, Snapshot, Tree};
 use std::alloc::Global;
-use std::test::Fail;
 use terms::{Digest, Level, NoMemory};
+use test_bytes::{Verdict, all_hold};
 
 // A page that holds one tuple, of the number 1, with birth number 0.
 const FIRST_TEXT: &[u8; 18] = b"\0\0\0\0\0\0\0\0\x01\x01\0\0\0\0\0\0\0\x01";
@@ -103,28 +104,34 @@ fn with_pages(alloc: Global, pages: &[(usize, &[u8])]) -> Result<Tree, NoMemory>
     Ok(tree)
 }
 
-fn has_root(alloc: Global, (pages, root): Row<'_>) -> Result<bool, NoMemory> {
-    let tree = with_pages(alloc, pages)?;
-    Ok(tree.root() == root)
+fn has_root(alloc: Global, (pages, root): Row<'_>) -> Verdict {
+    match with_pages(alloc, pages) {
+        Ok(tree) => {
+            let is_right = tree.root() == root;
+            drop(tree);
+            Ok(is_right)
+        }
+        Err(NoMemory) => Err(NoMemory),
+    }
+}
+
+fn have_roots(alloc: Global) -> Verdict {
+    for &row in &ROWS {
+        match has_root(alloc, row) {
+            Ok(true) => {}
+            other => return other,
+        }
+    }
+    Ok(true)
 }
 
 #[test]
-fn roots_of_pages(rt: HostRuntime) -> Result<(), Fail> {
-    for &row in &ROWS {
-        assert!(rt; has_root(rt.alloc(), row)?);
-    }
-    Ok(())
+fn roots_of_pages(rt: HostRuntime) {
+    holds(&rt, have_roots(rt.alloc()));
 }
 
 fn is_new(tree: &Tree) -> bool {
     tree.page(PAGES - 1).is_empty() && tree.children(Level::Inner, 31)[31] == EMPTY_PAGE
-}
-
-#[test]
-fn a_new_tree(rt: HostRuntime) -> Result<(), Fail> {
-    let tree = Tree::new(rt.alloc())?;
-    assert!(rt; is_new(&tree));
-    Ok(())
 }
 
 // Whether page 0 has the first text, and it, its part and the next page have their digests.
@@ -134,13 +141,6 @@ fn is_first(tree: &Tree) -> bool {
         && tree.children(Level::Root, 0)[0] == FIRST_PART
         && pages[0] == FIRST_PAGE
         && pages[1] == EMPTY_PAGE
-}
-
-#[test]
-fn a_page_is_set(rt: HostRuntime) -> Result<(), Fail> {
-    let tree = with_pages(rt.alloc(), &[(0, FIRST_TEXT)])?;
-    assert!(rt; is_first(&tree));
-    Ok(())
 }
 
 fn is_snapshot_of_first(snapshot: &Snapshot) -> bool {
@@ -158,24 +158,24 @@ fn early_snapshot(tree: &mut Tree) -> Result<Snapshot, NoMemory> {
     Ok(snapshot)
 }
 
-#[test]
-fn a_snapshot_keeps_its_pages(rt: HostRuntime) -> Result<(), Fail> {
-    let mut tree = with_pages(rt.alloc(), &[(0, FIRST_TEXT)])?;
-    let snapshot = early_snapshot(&mut tree)?;
-    assert!(rt; is_snapshot_of_first(&snapshot));
-    assert!(rt; tree.page(0) == b"later".as_slice());
-    Ok(())
+fn sets_only(tree: &mut Tree) -> Result<(), NoMemory> {
+    tree.set_page(0, FIRST_TEXT)
 }
 
 // Whether the first page is set, at the second try if memory ran out at the first one, which changed nothing.
-fn sets_first(tree: &mut Tree) -> Result<bool, NoMemory> {
-    let first: [(usize, &[u8]); 1] = [(0, FIRST_TEXT)];
-    if set_pages(tree, first.as_slice()).is_ok() {
-        return Ok(true);
+fn sets_first(tree: &mut Tree) -> Verdict {
+    match sets_only(tree) {
+        Ok(()) => Ok(true),
+        Err(NoMemory) => sets_again(tree),
     }
+}
+
+fn sets_again(tree: &mut Tree) -> Verdict {
     let is_as_before = tree.root() == EMPTY_ROOT && tree.page(0).is_empty();
-    set_pages(tree, first.as_slice())?;
-    Ok(is_as_before)
+    match sets_only(tree) {
+        Ok(()) => Ok(is_as_before),
+        Err(NoMemory) => Err(NoMemory),
+    }
 }
 
 /// At the second try if memory ran out at the first one.
@@ -194,13 +194,87 @@ pub fn snapshot_of(tree: &Tree) -> Result<Snapshot, NoMemory> {
     }
 }
 
+fn has_snapshot_of_first(snapshot: Result<Snapshot, NoMemory>) -> Verdict {
+    match snapshot {
+        Ok(snapshot) => {
+            let is_right = is_snapshot_of_first(&snapshot);
+            drop(snapshot);
+            Ok(is_right)
+        }
+        Err(NoMemory) => Err(NoMemory),
+    }
+}
+
+// It keeps them when they are set again.
+fn keeps_snapshot(tree: &mut Tree) -> Verdict {
+    let snapshot = early_snapshot(tree);
+    all_hold(&[
+        has_snapshot_of_first(snapshot),
+        Ok(tree.page(0) == b"later".as_slice()),
+    ])
+}
+
+fn changes_nothing_refused(tree: &mut Tree) -> Verdict {
+    all_hold(&[
+        sets_first(tree),
+        Ok(tree.root() == FIRST_ROOT),
+        has_snapshot_of_first(snapshot_of(tree)),
+    ])
+}
+
+// What is asked of a tree.
+#[derive(Clone, Copy)]
+enum Asked {
+    IsNew,
+    IsFirst,
+    KeepsSnapshot,
+    ChangesNothingRefused,
+}
+
+fn answers(tree: &mut Tree, asked: Asked) -> Verdict {
+    match asked {
+        Asked::IsNew => Ok(is_new(tree)),
+        Asked::IsFirst => Ok(is_first(tree)),
+        Asked::KeepsSnapshot => keeps_snapshot(tree),
+        Asked::ChangesNothingRefused => changes_nothing_refused(tree),
+    }
+}
+
+fn tree_answers(tree: Result<Tree, NoMemory>, asked: Asked) -> Verdict {
+    match tree {
+        Ok(mut tree) => {
+            let verdict = answers(&mut tree, asked);
+            drop(tree);
+            verdict
+        }
+        Err(NoMemory) => Err(NoMemory),
+    }
+}
+
+fn first_answers(alloc: Global, asked: Asked) -> Verdict {
+    tree_answers(with_pages(alloc, &[(0, FIRST_TEXT)]), asked)
+}
+
+#[test]
+fn a_new_tree(rt: HostRuntime) {
+    holds(&rt, tree_answers(Tree::new(rt.alloc()), Asked::IsNew));
+}
+
+#[test]
+fn a_page_is_set(rt: HostRuntime) {
+    holds(&rt, first_answers(rt.alloc(), Asked::IsFirst));
+}
+
+#[test]
+fn a_snapshot_keeps_its_pages(rt: HostRuntime) {
+    holds(&rt, first_answers(rt.alloc(), Asked::KeepsSnapshot));
+}
+
 // Passes whichever growth is refused, as by `tools/growths`, since the second try is granted.
 #[test]
-fn refusals_change_nothing(rt: HostRuntime) -> Result<(), Fail> {
-    let mut tree = new_tree(rt.alloc())?;
-    assert!(rt; sets_first(&mut tree)?);
-    assert!(rt; tree.root() == FIRST_ROOT);
-    let snapshot = snapshot_of(&tree)?;
-    assert!(rt; is_snapshot_of_first(&snapshot));
-    Ok(())
+fn refusals_change_nothing(rt: HostRuntime) {
+    holds(
+        &rt,
+        tree_answers(new_tree(rt.alloc()), Asked::ChangesNothingRefused),
+    );
 }

@@ -1,11 +1,12 @@
 //! Worked pages of replies, texts that are no reply's, and memory refused.
 
-ghost use Rattle.std.specs.Prelude.{◌≡◌};
+ghost use Rattle.std.specs.Prelude.{◌≡◌, ◌≤◌};
 
+use crate::answers::holds;
 use reply_cache::{CLIENTS, ReplyCache};
 use std::alloc::Global;
-use std::test::Fail;
 use terms::{ClientId, NoMemory};
+use test_bytes::{Verdict, all_hold};
 use tuple_codec::{Answer, Bad};
 use tuple_tree::{Atom, Refusal, Tuple, Value};
 
@@ -52,25 +53,6 @@ fn has_no_replies(cache: &ReplyCache) -> bool {
         && has_page(cache, client(0), b"")
 }
 
-#[test]
-fn new_replies(rt: HostRuntime) {
-    let cache = ReplyCache::new(rt.alloc());
-    assert!(rt; has_no_replies(&cache));
-}
-
-#[test]
-fn pages_of_replies(rt: HostRuntime) -> Result<(), Fail> {
-    let mut cache = ReplyCache::new(rt.alloc());
-    cache.put(client(0), 1, 1, Answer::Done)?;
-    assert!(rt; cache.seen(client(0)) == 1 && has_page(&cache, client(0), DONE.as_slice()));
-    cache.put(client(255), 258, 3, found(rt.alloc())?)?;
-    assert!(rt;
-        has_page(&cache, client(255), FOUND.as_slice())
-            && has_page(&cache, client(0), DONE.as_slice())
-    );
-    Ok(())
-}
-
 // Whether client 7 has its second reply alone, and the client before it none.
 fn is_replaced(cache: &ReplyCache) -> bool {
     let Some(reply) = cache.last(client(7)) else {
@@ -80,15 +62,6 @@ fn is_replaced(cache: &ReplyCache) -> bool {
         && cache.seen(client(6)) == 0
         && (reply.timestamp, reply.number) == (6, 9)
         && matches!(&reply.answer, Answer::Swapped(true))
-}
-
-#[test]
-fn a_reply_is_replaced_whole(rt: HostRuntime) -> Result<(), Fail> {
-    let mut cache = ReplyCache::new(rt.alloc());
-    cache.put(client(7), 5, 2, found(rt.alloc())?)?;
-    cache.put(client(7), 6, 9, Answer::Swapped(true))?;
-    assert!(rt; is_replaced(&cache));
-    Ok(())
 }
 
 // The replies with these pages, at the second try if memory ran out at the first one.
@@ -121,14 +94,6 @@ fn is_page_read(alloc: Global, client: u8, text: &[u8]) -> Result<bool, Bad> {
     is_read(alloc, pages.as_slice())
 }
 
-#[test]
-fn pages_are_read_back(rt: HostRuntime) {
-    let mut pages: [&[u8]; CLIENTS] = [&[]; CLIENTS];
-    pages[0] = DONE.as_slice();
-    pages[255] = FOUND.as_slice();
-    assert_eq!(rt; is_read(rt.alloc(), pages.as_slice()), Ok(true));
-}
-
 static WRONG: [&[u8]; 6] = [
     // The timestamp 0.
     b"\0\0\0\0\0\0\0\0\0\0\0\0\0\0\0\x011",
@@ -140,21 +105,6 @@ static WRONG: [&[u8]; 6] = [
     b"\0\0\0\0\0\0\0\x01\0\0\0\0\0\0\0\x018",
     b"\0\0\0\0\0\0\0\x01\0\0\0\0\0\0\0\x014\x02",
 ];
-
-#[test]
-fn texts_of_no_replies(rt: HostRuntime) {
-    for &text in &WRONG {
-        assert_eq!(rt; is_page_read(rt.alloc(), 3, text), Err(Bad::Malformed));
-    }
-}
-
-#[test]
-fn too_few_and_too_many_pages(rt: HostRuntime) {
-    let pages: [&[u8]; 257] = [&[]; 257];
-    for count in [0, 255, 257] {
-        assert_eq!(rt; is_read(rt.alloc(), &pages[..count]), Err(Bad::Malformed));
-    }
-}
 
 // Whether client 9 gets its first reply, at the second try if memory ran out at the first one, which changed
 // nothing.
@@ -175,12 +125,158 @@ fn gets_full(cache: &mut ReplyCache) -> bool {
         && cache.put(client(200), 4, 2, Answer::Full).is_ok()
 }
 
+fn is_full(cache: &mut ReplyCache) -> bool {
+    gets_done(cache)
+        && gets_full(cache)
+        && cache.seen(client(200)) == 4
+        && has_page(cache, client(9), DONE.as_slice())
+}
+
+fn is_put(put: Result<(), NoMemory>) -> Verdict {
+    match put {
+        Ok(()) => Ok(true),
+        Err(NoMemory) => Err(NoMemory),
+    }
+}
+
+// Puts the reply of a batch that found a tuple.
+fn puts_found(
+    cache: &mut ReplyCache,
+    alloc: Global,
+    number: u8,
+    timestamp: u64,
+    batch: u64,
+) -> Verdict
+    requires { 1 ≤ timestamp }
+{
+    match found(alloc) {
+        Ok(answer) => is_put(cache.put(client(number), timestamp, batch, answer)),
+        Err(_) => Err(NoMemory),
+    }
+}
+
+fn has_first(cache: &ReplyCache) -> bool {
+    cache.seen(client(0)) == 1 && has_page(cache, client(0), DONE.as_slice())
+}
+
+fn has_both(cache: &ReplyCache) -> bool {
+    has_page(cache, client(255), FOUND.as_slice()) && has_page(cache, client(0), DONE.as_slice())
+}
+
+fn gets_pages(cache: &mut ReplyCache, alloc: Global) -> Verdict {
+    all_hold(&[
+        is_put(cache.put(client(0), 1, 1, Answer::Done)),
+        Ok(has_first(cache)),
+        puts_found(cache, alloc, 255, 258, 3),
+        Ok(has_both(cache)),
+    ])
+}
+
+fn gets_another(cache: &mut ReplyCache, alloc: Global) -> Verdict {
+    all_hold(&[
+        puts_found(cache, alloc, 7, 5, 2),
+        is_put(cache.put(client(7), 6, 9, Answer::Swapped(true))),
+        Ok(is_replaced(cache)),
+    ])
+}
+
+// What is asked of a new cache.
+#[derive(Clone, Copy)]
+enum Asked {
+    IsEmpty,
+    GetsPages,
+    GetsAnother,
+    IsFull,
+}
+
+fn answers(cache: &mut ReplyCache, alloc: Global, asked: Asked) -> Verdict {
+    match asked {
+        Asked::IsEmpty => Ok(has_no_replies(cache)),
+        Asked::GetsPages => gets_pages(cache, alloc),
+        Asked::GetsAnother => gets_another(cache, alloc),
+        Asked::IsFull => Ok(is_full(cache)),
+    }
+}
+
+fn new_cache_answers(alloc: Global, asked: Asked) -> Verdict {
+    let mut cache = ReplyCache::new(alloc);
+    let verdict = answers(&mut cache, alloc, asked);
+    drop(cache);
+    verdict
+}
+
+#[test]
+fn new_replies(rt: HostRuntime) {
+    holds(&rt, new_cache_answers(rt.alloc(), Asked::IsEmpty));
+}
+
+#[test]
+fn pages_of_replies(rt: HostRuntime) {
+    holds(&rt, new_cache_answers(rt.alloc(), Asked::GetsPages));
+}
+
+#[test]
+fn a_reply_is_replaced_whole(rt: HostRuntime) {
+    holds(&rt, new_cache_answers(rt.alloc(), Asked::GetsAnother));
+}
+
+// Whether it is read, or refused as no reply's.
+fn comes_to(read: Result<bool, Bad>, wanted: Result<bool, Bad>) -> Verdict {
+    match read {
+        Err(Bad::NoMemory) => Err(NoMemory),
+        read => Ok(read == wanted),
+    }
+}
+
+fn reads_back(alloc: Global) -> Verdict {
+    let mut pages: [&[u8]; CLIENTS] = [&[]; CLIENTS];
+    pages[0] = DONE.as_slice();
+    pages[255] = FOUND.as_slice();
+    comes_to(is_read(alloc, pages.as_slice()), Ok(true))
+}
+
+#[test]
+fn pages_are_read_back(rt: HostRuntime) {
+    holds(&rt, reads_back(rt.alloc()));
+}
+
+fn are_no_replies(alloc: Global) -> Verdict {
+    for &text in &WRONG {
+        match comes_to(is_page_read(alloc, 3, text), Err(Bad::Malformed)) {
+            Ok(true) => {}
+            other => return other,
+        }
+    }
+    Ok(true)
+}
+
+#[test]
+fn texts_of_no_replies(rt: HostRuntime) {
+    holds(&rt, are_no_replies(rt.alloc()));
+}
+
+fn are_refused(alloc: Global, pages: &[&[u8]]) -> Verdict {
+    comes_to(is_read(alloc, pages), Err(Bad::Malformed))
+}
+
+fn refuses_other_counts(alloc: Global) -> Verdict {
+    let pages: [&[u8]; 257] = [&[]; 257];
+    all_hold(&[
+        are_refused(alloc, &pages[..0]),
+        are_refused(alloc, &pages[..255]),
+        are_refused(alloc, pages.as_slice()),
+    ])
+}
+
+#[test]
+fn too_few_and_too_many_pages(rt: HostRuntime) {
+    holds(&rt, refuses_other_counts(rt.alloc()));
+}
+
 // Passes whichever growth is refused, as by `tools/growths`.
 #[test]
 fn refusals_change_nothing(rt: HostRuntime) {
-    let mut cache = ReplyCache::new(rt.alloc());
-    assert!(rt; gets_done(&mut cache));
-    assert!(rt; gets_full(&mut cache));
-    assert!(rt; cache.seen(client(200)) == 4 && has_page(&cache, client(9), DONE.as_slice()));
-    assert_eq!(rt; is_page_read(rt.alloc(), 255, FOUND.as_slice()), Ok(true));
+    holds(&rt, new_cache_answers(rt.alloc(), Asked::IsFull));
+    let read = is_page_read(rt.alloc(), 255, FOUND.as_slice());
+    holds(&rt, comes_to(read, Ok(true)));
 }
