@@ -9,65 +9,60 @@ use space_node::{Cluster, FinishFault, Open, Run, StartFault};
 use std::alloc::Global;
 use std::marker::Brand;
 use std::sync::Wait;
-use std::test::Fail;
 use std::thread::Threads;
+use terms::NoMemory;
 
-// The result of a cluster.
-#[derive(Clone, Copy, PartialEq, Eq)]
-enum Came {
-    /// A trace of no entries, and the shares of four replicas.
-    Empty,
-    Refused(StartFault),
-    NoMemory,
-    Else,
-}
-
+// Whether a trace of no entries comes, and the shares of four replicas.
 fn starts_and_ends<N: Naming + Send + Sync + 'static, R: Threads + Wait + Copy + Send + 'static>(
     rt: &R,
     alloc: Global,
     opened: Opened,
     config: &Config,
-) -> Came
+) -> Result<bool, StartFault>
     requires config { config.now ≡ N.config }
     requires book { opened ≡ N.book }
 {
-    let cluster = match Cluster::<N>::start(rt, alloc, opened, config, AMPLE, Open) {
-        Ok(cluster) => cluster,
-        Err(fault) => return Came::Refused(fault),
-    };
-    let finished = cluster.finish(rt, alloc, Vec::new(alloc));
-    came_of(&finished)
-}
-
-fn came_of<N: Naming>(finished: &Result<Run<N>, FinishFault<N>>) -> Came {
-    match finished {
-        Ok(run) => {
-            if run.trace.is_empty() && run.shares.len() == 4 {
-                Came::Empty
-            } else {
-                Came::Else
-            }
-        }
-        Err(FinishFault::NotInJournal(_, _)) => Came::Else,
-        Err(FinishFault::NoMemory) => Came::NoMemory,
+    match Cluster::<N>::start(rt, alloc, opened, config, AMPLE, Open) {
+        Ok(cluster) => is_empty(&cluster.finish(rt, alloc, Vec::new(alloc))),
+        Err(fault) => Err(fault),
     }
 }
 
-#[test]
-fn nothing_is_called(rt: HostRuntime) -> Result<(), Fail> {
-    let config = config_of(rt.alloc(), 1, &[], &[])?;
-    let came = starts_and_ends::<Brand, _>(&rt, rt.alloc(), Opened::new(), &config);
-    let out_of_memory = came == Came::NoMemory
-        || came == Came::Refused(StartFault::NoMemory)
-        || came == Came::Refused(StartFault::NoThread);
-    assert!(rt; came == Came::Empty || out_of_memory);
-    Ok(())
+fn is_empty<N: Naming>(finished: &Result<Run<N>, FinishFault<N>>) -> Result<bool, StartFault> {
+    match finished {
+        Ok(run) => Ok(run.trace.is_empty() && run.shares.len() == 4),
+        Err(FinishFault::NotInJournal(_, _)) => Ok(false),
+        Err(FinishFault::NoMemory) => Err(StartFault::NoMemory),
+    }
+}
+
+// The same if these replicas are faulty.
+fn run_without_calls<R: Threads + Wait + Copy + Send + 'static>(
+    rt: &R,
+    alloc: Global,
+    faulty: &[u16],
+) -> Result<bool, StartFault> {
+    match config_of(alloc, 1, faulty, &[]) {
+        Ok(config) => starts_and_ends::<Brand, R>(rt, alloc, Opened::new(), &config),
+        Err(NoMemory) => Err(StartFault::NoMemory),
+    }
+}
+
+// Whether it was empty, or memory ran out.
+fn is_empty_or_refused(came: Result<bool, StartFault>) -> bool {
+    matches!(
+        came,
+        Ok(true) | Err(StartFault::NoMemory | StartFault::NoThread)
+    )
 }
 
 #[test]
-fn a_faulty_party_is_refused(rt: HostRuntime) -> Result<(), Fail> {
-    let config = config_of(rt.alloc(), 1, &[3], &[])?;
-    let came = starts_and_ends::<Brand, _>(&rt, rt.alloc(), Opened::new(), &config);
-    assert!(rt; came == Came::Refused(StartFault::BadConfig));
-    Ok(())
+fn nothing_is_called(rt: HostRuntime) {
+    assert!(rt; is_empty_or_refused(run_without_calls(&rt, rt.alloc(), &[])));
+}
+
+#[test]
+fn a_faulty_party_is_refused(rt: HostRuntime) {
+    let came = run_without_calls(&rt, rt.alloc(), &[3]);
+    assert_eq!(rt; came, Err(StartFault::BadConfig));
 }

@@ -1,4 +1,4 @@
-use Rattle.space_node_tests.proofs.starts.a_faulty_party_is_refused.Given as goal
+use Rattle.space_node_tests.proofs.starts.run_without_calls.Given as goal
 
 -- the configuration and the book that were just made
 abbrev pub ghosts-starts_and_ends : goal.ghosts-starts_and_ends
