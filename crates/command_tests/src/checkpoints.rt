@@ -1,6 +1,6 @@
 //! The example schedules with checkpoints and transfers of states, and their reports.
 
-use crate::schedules::is_reported;
+use crate::schedules::{Row, are_reported};
 use std::test::Fail;
 
 const EVERY_NUMBER_SETTINGS: &str =
@@ -559,8 +559,7 @@ point 296 client 1 time 4 all 2 (1) (2)
 trace 302
 "#;
 
-// Configurations, schedules, whether they are traced, and their output.
-static ROWS: [(&str, &str, bool, &str); 6] = [
+static ROWS: [Row<'static>; 6] = [
     (
         EVERY_NUMBER_SETTINGS,
         MARKS_MOVE_SCHEDULE,
@@ -601,7 +600,5 @@ static ROWS: [(&str, &str, bool, &str); 6] = [
 
 #[test]
 fn runs_the_schedules_with_checkpoints(rt: HostRuntime) {
-    for row in &ROWS {
-        assert!(rt; is_reported(rt.alloc(), *row), "{}", row.1);
-    }
+    are_reported(&rt, rt.alloc(), &ROWS);
 }

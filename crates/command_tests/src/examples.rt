@@ -4,6 +4,7 @@ use crate::clusters::{CLUSTER_SETTINGS, is_answered};
 use one_space::local;
 use space::Version;
 use std::alloc::Global;
+use std::process::Abort;
 
 const LOCK_SCRIPT: &str = r#"# A lock on a printer: whoever has taken its one token holds it.
 
@@ -341,27 +342,32 @@ static ROWS: [(&str, &str); 6] = [
 // A cluster's space begins as one of version 1, so these scripts run only on a space of their own.
 static WIDE_ROWS: [(&str, &str); 1] = [(EVENTS_SCRIPT, EVENTS_RESULTS)];
 
-fn is_run(alloc: Global, version: Version, row: &(&str, &str)) -> bool {
+fn is_run(alloc: Global, version: Version, (script, results): (&str, &str)) -> bool {
     let mut written = Vec::new(alloc);
-    local(alloc, version, row.0.as_bytes(), &mut written).is_ok()
-        && written.as_slice() == row.1.as_bytes()
+    local(alloc, version, script.as_bytes(), &mut written).is_ok()
+        && written.as_slice() == results.as_bytes()
+}
+
+// Each example has its results on a space of its own.
+fn are_run<R: Abort>(rt: &R, alloc: Global, version: Version, rows: &[(&str, &str)]) {
+    for row in rows {
+        assert!(rt; is_run(alloc, version, *row), "{}", row.0);
+    }
 }
 
 #[test]
 fn runs_the_examples(rt: HostRuntime) {
-    for row in &ROWS {
-        assert!(rt; is_run(rt.alloc(), Version::One, row), "{}", row.0);
-    }
-    for row in &WIDE_ROWS {
-        assert!(rt; is_run(rt.alloc(), Version::Two, row), "{}", row.0);
-    }
+    are_run(&rt, rt.alloc(), Version::One, &ROWS);
+    are_run(&rt, rt.alloc(), Version::Two, &WIDE_ROWS);
 }
 
 // With one client a cluster answers as one space does.
 #[test]
 fn runs_the_examples_on_a_cluster(rt: HostRuntime) {
     for (script, results) in &ROWS {
-        let row = (CLUSTER_SETTINGS, *script, *results);
-        assert!(rt; is_answered(&rt, rt.alloc(), row), "{script}");
+        assert!(rt;
+            is_answered(&rt, rt.alloc(), (CLUSTER_SETTINGS, script, results)),
+            "{script}"
+        );
     }
 }

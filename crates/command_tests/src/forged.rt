@@ -1,6 +1,6 @@
 //! The example schedule with a forged frame before each true one, and its report.
 
-use crate::schedules::{FOUR_SETTINGS, is_reported};
+use crate::schedules::{FOUR_SETTINGS, Row, are_reported};
 
 const FORGED_SCHEDULE: &str =
     r#"# The call and the read of first_read.schedule, with a forger on every line. Before each frame comes the same one with
@@ -107,8 +107,9 @@ point 83 client 0 time 2 found (1)
 trace 106
 "#;
 
+static ROWS: [Row<'static>; 1] = [(FOUR_SETTINGS, FORGED_SCHEDULE, false, FORGED_REPORT)];
+
 #[test]
 fn drops_forged_frames(rt: HostRuntime) {
-    let row = (FOUR_SETTINGS, FORGED_SCHEDULE, false, FORGED_REPORT);
-    assert!(rt; is_reported(rt.alloc(), row));
+    are_reported(&rt, rt.alloc(), &ROWS);
 }

@@ -1,14 +1,11 @@
 //! A cluster whose primary takes no event.
 
-use crate::clusters::{CLUSTER_SETTINGS, run_alone};
+use crate::clusters::{CLUSTER_SETTINGS, Ending, ends_so};
 use cluster_run::{Gate, Watch};
-use one_space::read_script;
-use schedule_command::read_settings;
 use std::alloc::{AllocError, Global};
 use std::rt::Clock;
 use std::sync::atomic::{AtomicU64, Ordering};
 use std::sync::{Arc, Wait};
-use std::test::Fail;
 use std::thread;
 use std::thread::Threads;
 use std::time::Duration;
@@ -47,11 +44,11 @@ impl<R: Clock> Gate for HoldsPrimary<R> {
 }
 
 #[derive(Drop)]
-struct SaysOver {
-    flags: Arc<Flags, Global>,
+struct SaysOver<'a> {
+    flags: &'a Flags,
 }
 
-impl Watch for SaysOver {
+impl Watch for SaysOver<'_> {
     fn note(&mut self, _seconds: u64, _answered: u64) {}
 
     fn end(&mut self) {
@@ -67,39 +64,40 @@ fn new_flags(alloc: Global) -> Result<Arc<Flags, Global>, AllocError> {
     Ok(Arc::new(alloc, flags)?)
 }
 
-// Whether all operations of the script are answered.
-fn answers_all<R: Threads + Wait + Clock + Copy + Drop + Send + Sync + 'static>(
+fn goes_on_beside<R: Threads + Wait + Clock + Copy + Drop + Send + Sync + 'static>(
     rt: &R,
     alloc: Global,
     flags: &Arc<Flags, Global>,
-    script: &str,
-    written: &mut Vec<u8>,
 ) -> bool {
-    let (Ok(held), Ok(told)) = (Arc::try_clone(flags), Arc::try_clone(flags)) else {
-        return false;
-    };
-    let Ok(settings) = read_settings(alloc, CLUSTER_SETTINGS.as_bytes()) else {
-        return false;
-    };
-    let Ok(ops) = read_script(alloc, script.as_bytes(), usize::MAX) else {
+    let Ok(held) = Arc::try_clone(flags) else {
         return false;
     };
     let gate = HoldsPrimary {
         rt: *rt,
         flags: held,
     };
-    let mut watch = SaysOver { flags: told };
-    run_alone(rt, alloc, &settings, gate, ops, written, &mut watch).is_ok()
+    let mut watch = SaysOver { flags };
+    let row = (
+        CLUSTER_SETTINGS,
+        "out (1)\nrdp (*)\ninp (1)\n",
+        Ending::Complete,
+        "done\nfound (1)\nfound (1)\n",
+    );
+    ends_so(rt, alloc, gate, &mut watch, row)
+}
+
+fn goes_on<R: Threads + Wait + Clock + Copy + Drop + Send + Sync + 'static>(
+    rt: &R,
+    alloc: Global,
+) -> bool {
+    let Ok(flags) = new_flags(alloc) else {
+        return false;
+    };
+    goes_on_beside(rt, alloc, &flags) && flags.gave_up.load(Ordering::SeqCst) == 0
 }
 
 // The other replicas change their view, and the calls are answered.
 #[test]
-fn goes_on_without_its_primary(rt: HostRuntime) -> Result<(), Fail> {
-    let flags = new_flags(rt.alloc())?;
-    let mut written = Vec::new(rt.alloc());
-    let script = "out (1)\nrdp (*)\ninp (1)\n";
-    assert!(rt; answers_all(&rt, rt.alloc(), &flags, script, &mut written));
-    assert!(rt; written.as_slice() == b"done\nfound (1)\nfound (1)\n".as_slice());
-    assert!(rt; flags.gave_up.load(Ordering::SeqCst) == 0);
-    Ok(())
+fn goes_on_without_its_primary(rt: HostRuntime) {
+    assert!(rt; goes_on(&rt, rt.alloc()));
 }

@@ -2,8 +2,8 @@
 
 use command_line::Printed;
 use schedule_command::{ScheduleFault, read_settings, schedule};
-use std::alloc::Global;
-use std::test::Fail;
+use std::alloc::{AllocError, Global};
+use std::process::Abort;
 
 // Schedules in other files run in it too.
 pub const FOUR_SETTINGS: &str =
@@ -82,8 +82,7 @@ point 154 client 0 time 2 all 1 (7)
 trace 169
 "#;
 
-// Configurations, schedules, whether they are traced, and their output.
-static ROWS: [(&str, &str, bool, &str); 5] = [
+static ROWS: [Row<'static>; 5] = [
     (FOUR_SETTINGS, FIRST_READ_SCHEDULE, false, FIRST_READ_REPORT),
     (FOUR_SETTINGS, TWO_CALLS_SCHEDULE, false, TWO_CALLS_REPORT),
     (FOUR_SETTINGS, LIAR_SCHEDULE, false, LIAR_REPORT),
@@ -103,50 +102,46 @@ static REFUSED: [(&str, u64); 3] = [
     ("flush\n\ndeliver 0 r0\nwait\n", 3),
 ];
 
-// Whether a schedule in this configuration has this report.
-pub fn is_reported(
+/// The configuration, the schedule, whether it is traced, and its output.
+pub type Row<'a> = (&'a str, &'a str, bool, &'a str);
+
+fn run(
     alloc: Global,
-    (settings, text, is_traced, report): (&str, &str, bool, &str),
-) -> bool {
-    let Ok(settings) = read_settings(alloc, settings.as_bytes()) else {
-        return false;
-    };
+    settings: &str,
+    text: &str,
+    printed: Printed,
+    written: &mut Vec<u8>,
+) -> Result<(), ScheduleFault> {
+    let settings = read_settings(alloc, settings.as_bytes())?;
+    schedule(alloc, &settings.config, text.as_bytes(), printed, written)
+}
+
+fn is_reported(alloc: Global, (settings, text, is_traced, report): Row<'_>) -> bool {
     let printed = if is_traced {
         Printed::Trace
     } else {
         Printed::Report
     };
     let mut written = Vec::new(alloc);
-    schedule(
-        alloc,
-        &settings.config,
-        text.as_bytes(),
-        printed,
-        &mut written,
-    )
-    .is_ok()
+    run(alloc, settings, text, printed, &mut written).is_ok()
         && written.as_slice() == report.as_bytes()
+}
+
+/// Each schedule has its report. The assertion stands here and not in each test, since each costs a proof.
+pub fn are_reported<R: Abort>(rt: &R, alloc: Global, rows: &[Row<'_>]) {
+    for row in rows {
+        assert!(rt; is_reported(alloc, *row), "{}", row.1);
+    }
 }
 
 #[test]
 fn runs_the_schedules(rt: HostRuntime) {
-    for row in &ROWS {
-        assert!(rt; is_reported(rt.alloc(), *row), "{}", row.1);
-    }
+    are_reported(&rt, rt.alloc(), &ROWS);
 }
 
 fn is_refused_at(alloc: Global, text: &str, refused: u64) -> bool {
-    let Ok(settings) = read_settings(alloc, FOUR_SETTINGS.as_bytes()) else {
-        return false;
-    };
     let mut written = Vec::new(alloc);
-    match schedule(
-        alloc,
-        &settings.config,
-        text.as_bytes(),
-        Printed::Report,
-        &mut written,
-    ) {
+    match run(alloc, FOUR_SETTINGS, text, Printed::Report, &mut written) {
         Err(ScheduleFault::Step { line }) => line == refused && written.is_empty(),
         _ => false,
     }
@@ -161,18 +156,8 @@ fn names_the_line_that_is_refused(rt: HostRuntime) {
 
 // Whether the output is the picture of the schedule, and nothing else.
 fn is_drawn(alloc: Global, text: &str) -> bool {
-    let Ok(settings) = read_settings(alloc, FOUR_SETTINGS.as_bytes()) else {
-        return false;
-    };
     let mut written = Vec::new(alloc);
-    schedule(
-        alloc,
-        &settings.config,
-        text.as_bytes(),
-        Printed::Picture,
-        &mut written,
-    )
-    .is_ok()
+    run(alloc, FOUR_SETTINGS, text, Printed::Picture, &mut written).is_ok()
         && written.starts_with(b"<?xml ")
         && written.ends_with(b"</svg>\n")
 }
@@ -182,28 +167,28 @@ fn draws_a_schedule(rt: HostRuntime) {
     assert!(rt; is_drawn(rt.alloc(), "tick r3\ntick c0\n"));
 }
 
-fn is_no_configuration(alloc: Global, text: &str) -> bool {
+fn is_no_configuration(alloc: Global, text: &[u8]) -> bool {
     matches!(
-        read_settings(alloc, text.as_bytes()),
+        read_settings(alloc, text),
         Err(ScheduleFault::Configuration)
     )
 }
 
+// Puts a configuration that line feeds lengthen to so many bytes.
+fn put_padded(len: usize, text: &mut Vec<u8>) -> Result<(), AllocError> {
+    text.extend_from_slice(FOUR_SETTINGS.as_bytes())?;
+    text.resize(len, b'\n')
+}
+
+// Whether that is read, or is too long.
+fn is_judged(alloc: Global, len: usize, is_read: bool) -> bool {
+    let mut text = Vec::new(alloc);
+    put_padded(len, &mut text).is_ok() && is_no_configuration(alloc, text.as_slice()) != is_read
+}
+
 #[test]
 fn refuses_what_is_no_configuration(rt: HostRuntime) {
-    assert!(rt; is_no_configuration(rt.alloc(), "f = 4"));
-}
-
-// Whether a configuration is taken that line feeds lengthen to so many bytes.
-fn takes_padded(alloc: Global, len: usize) -> Result<bool, Fail> {
-    let mut text = FOUR_SETTINGS.as_bytes().to_vec(alloc)?;
-    text.resize(len, b'\n')?;
-    Ok(read_settings(alloc, text.as_slice()).is_ok())
-}
-
-#[test]
-fn configurations_have_a_greatest_length(rt: HostRuntime) -> Result<(), Fail> {
-    assert!(rt; takes_padded(rt.alloc(), 65_536)?);
-    assert!(rt; !takes_padded(rt.alloc(), 65_537)?);
-    Ok(())
+    let alloc = rt.alloc();
+    assert!(rt; is_no_configuration(alloc, b"f = 4"));
+    assert!(rt; is_judged(alloc, 65_536, true) && is_judged(alloc, 65_537, false));
 }

@@ -1,15 +1,11 @@
 //! Clusters whose nodes stop.
 
-use crate::clusters::{CLUSTER_SETTINGS, run_alone};
-use cluster_run::{Gate, RunFault as ClusterFault, Watch};
-use one_space::read_script;
-use run_command::RunFault;
-use schedule_command::read_settings;
+use crate::clusters::{CLUSTER_SETTINGS, Ending, ends_so};
+use cluster_run::{Gate, Watch};
 use std::alloc::{AllocError, Global};
 use std::rt::Clock;
 use std::sync::atomic::{AtomicU64, Ordering};
 use std::sync::{Arc, Wait};
-use std::test::Fail;
 use std::thread::Threads;
 
 // How many nodes have stopped, and how many seconds the watch noted after all of them had.
@@ -39,12 +35,12 @@ impl Gate for StopsFirst {
 }
 
 #[derive(Drop)]
-struct CountsSeconds {
+struct CountsSeconds<'a> {
     nodes: u16,
-    seen: Arc<Seen, Global>,
+    seen: &'a Seen,
 }
 
-impl Watch for CountsSeconds {
+impl Watch for CountsSeconds<'_> {
     fn note(&mut self, _seconds: u64, _answered: u64) {
         if self.seen.stopped.load(Ordering::SeqCst) == u64::from(self.nodes) {
             self.seen.seconds.fetch_add(1, Ordering::SeqCst);
@@ -62,52 +58,67 @@ fn new_seen(alloc: Global) -> Result<Arc<Seen, Global>, AllocError> {
     Ok(Arc::new(alloc, seen)?)
 }
 
-// How a run of four replicas ends if so many stop at their first events. None if it could not begin.
-fn run_stopping<R: Threads + Wait + Clock + Copy + Send + 'static>(
+// How many of four replicas stop at their first events, the script, its end and its results, and how many seconds the
+// watch may note afterwards.
+struct Row {
+    nodes: u16,
+    script: &'static str,
+    ending: Ending,
+    results: &'static str,
+    most_seconds: u64,
+}
+
+static ROWS: [Row; 2] = [
+    // The primary stops: the others change their view, and the calls after it are answered.
+    Row {
+        nodes: 1,
+        script: "out (1)\nrdp (*)\ninp (1)\n",
+        ending: Ending::Complete,
+        results: "done\nfound (1)\nfound (1)\n",
+        most_seconds: u64::MAX,
+    },
+    // Two replicas stop: the run ends before the watch notes more than the one second that may go by meanwhile.
+    Row {
+        nodes: 2,
+        script: "out (1)\n",
+        ending: Ending::TooManyStopped,
+        results: "",
+        most_seconds: 1,
+    },
+];
+
+fn ends_beside<R: Threads + Wait + Clock + Copy + Send + 'static>(
     rt: &R,
     alloc: Global,
-    nodes: u16,
     seen: &Arc<Seen, Global>,
-    script: &str,
-    written: &mut Vec<u8>,
-) -> Option<Result<(), RunFault>> {
-    let (Ok(asked), Ok(told)) = (Arc::try_clone(seen), Arc::try_clone(seen)) else {
-        return None;
+    row: &Row,
+) -> bool {
+    let Ok(asked) = Arc::try_clone(seen) else {
+        return false;
     };
-    let settings = read_settings(alloc, CLUSTER_SETTINGS.as_bytes()).ok()?;
-    let ops = read_script(alloc, script.as_bytes(), usize::MAX).ok()?;
+    let nodes = row.nodes;
     let gate = StopsFirst { nodes, seen: asked };
-    let mut watch = CountsSeconds { nodes, seen: told };
-    Some(run_alone(rt, alloc, &settings, gate, ops, written, &mut watch))
+    let mut watch = CountsSeconds { nodes, seen };
+    let run = (CLUSTER_SETTINGS, row.script, row.ending, row.results);
+    ends_so(rt, alloc, gate, &mut watch, run)
 }
 
-// The primary stops: the others change their view, and the calls after it are answered.
-#[test]
-fn goes_on_after_its_primary_stopped(rt: HostRuntime) -> Result<(), Fail> {
-    let seen = new_seen(rt.alloc())?;
-    let mut written = Vec::new(rt.alloc());
-    let script = "out (1)\nrdp (*)\ninp (1)\n";
-    let ended = run_stopping(&rt, rt.alloc(), 1, &seen, script, &mut written);
-    assert!(rt; matches!(ended, Some(Ok(()))));
-    assert!(rt; written.as_slice() == b"done\nfound (1)\nfound (1)\n".as_slice());
-    assert!(rt; seen.stopped.load(Ordering::SeqCst) == 1);
-    Ok(())
+fn is_stopped<R: Threads + Wait + Clock + Copy + Send + 'static>(
+    rt: &R,
+    alloc: Global,
+    row: &Row,
+) -> bool {
+    let Ok(seen) = new_seen(alloc) else {
+        return false;
+    };
+    ends_beside(rt, alloc, &seen, row)
+        && seen.stopped.load(Ordering::SeqCst) == u64::from(row.nodes)
+        && seen.seconds.load(Ordering::SeqCst) <= row.most_seconds
 }
 
-// Two replicas of four stop: the run ends before the watch notes more than the one second that may go by meanwhile.
 #[test]
-fn ends_after_more_stopped_than_may(rt: HostRuntime) -> Result<(), Fail> {
-    let seen = new_seen(rt.alloc())?;
-    let mut written = Vec::new(rt.alloc());
-    let ended = run_stopping(&rt, rt.alloc(), 2, &seen, "out (1)\n", &mut written);
-    assert!(rt;
-        matches!(
-            ended,
-            Some(Err(RunFault::Stopped(ClusterFault::TooManyStopped)))
-        )
-    );
-    assert!(rt; written.is_empty());
-    assert!(rt; seen.stopped.load(Ordering::SeqCst) == 2);
-    assert!(rt; seen.seconds.load(Ordering::SeqCst) <= 1);
-    Ok(())
+fn nodes_stop(rt: HostRuntime) {
+    for row in &ROWS {
+        assert!(rt; is_stopped(&rt, rt.alloc(), row), "{}", row.nodes);
+    }
 }

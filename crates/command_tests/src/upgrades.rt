@@ -4,9 +4,10 @@
 //! order.
 
 use crate::clusters::is_complete;
-use std::alloc::AllocError;
-use std::fmt::Write;
-use std::test::Fail;
+use std::alloc::Global;
+use std::sync::Wait;
+use std::thread::Threads;
+use std::time::Clock;
 
 // A checkpoint at each second number, so that states of either version have some.
 const FOUR_CLIENTS: &str = r#"
@@ -18,33 +19,29 @@ seed = "000102030405060708090a0b0c0d0e0f101112131415161718191a1b1c1d1e1f"
 
 const CLIENTS: usize = 4;
 
-// The calls of client 0 in each round, and their answers. Nobody else upgrades or takes its tuples, so they are
-// certain.
-static FIRST_CLIENT: [(&str, &str); 15] = [
-    ("out (\"old\")", "done"),
-    ("out (0 w1)", "refused"),
-    ("rdp (0 ?wide)", "refused"),
-    ("inAll 2 (0 *)", "refused"),
-    ("out (0 4)", "done"),
-    ("upgrade", "done"),
-    ("out (0 w6)", "done"),
-    ("out (\"new\")", "done"),
-    ("out (0 w8)", "done"),
-    ("inAll 2 (0 *)", "all 2 (0 4) (0 w6)"),
-    ("out (0 w10)", "done"),
-    ("upgrade", "done"),
-    ("out (0 w12)", "done"),
-    ("rdp (0 ?wide)", "found (0 w8)"),
-    ("rdp (\"old\")", "found (\"old\")"),
+// The answers to client 0 in each round. Nobody else upgrades or takes its tuples, so they are certain.
+static FIRST_CLIENT: [&str; 15] = [
+    "done",
+    "refused",
+    "refused",
+    "refused",
+    "done",
+    "done",
+    "done",
+    "done",
+    "done",
+    "all 2 (0 4) (0 w6)",
+    "done",
+    "done",
+    "done",
+    "found (0 w8)",
+    "found (\"old\")",
 ];
 
 // Client 0 leaves these in the space: the wide numbers from 8 to 12, each second one.
 const FIRST_LEFT: u64 = 8;
 
 const LAST_LEFT: u64 = 12;
-
-// The last call of client 0, which lists the wide numbers of all clients.
-const LISTING: &str = "rdAll 64 (?int ?wide)";
 
 #[derive(Clone, Copy)]
 enum Call {
@@ -77,36 +74,69 @@ static CALLS: [Call; 15] = [
     Call::PutWide,
 ];
 
-fn put_call(
-    call: Call,
-    client: usize,
-    round: usize,
-    script: &mut String,
-) -> Result<(), AllocError> {
-    match call {
-        Call::PutWide => writeln!(script, "out ({client} w{round})"),
-        Call::FindWide => writeln!(script, "rdp ({client} ?wide)"),
-        Call::PutNumber => writeln!(script, "out ({client} {round})"),
-        Call::FindNew => writeln!(script, "rdp (\"new\")"),
-        Call::Upgrade => writeln!(script, "upgrade"),
-    }
-}
-
-// The clients take the lines in turn, so each round has one line of each client.
-fn put_round(round: usize, first: &str, call: Call, script: &mut String) -> Result<(), AllocError> {
-    writeln!(script, "{first}")?;
-    for client in 1..CLIENTS {
-        put_call(call, client, round, script)?;
-    }
-    Ok(())
-}
-
-fn put_script(script: &mut String) -> Result<(), AllocError> {
-    for (round, (first, call)) in FIRST_CLIENT.iter().zip(CALLS.iter()).enumerate() {
-        put_round(round, first.0, *call, script)?;
-    }
-    writeln!(script, "{LISTING}")
-}
+// The clients take the lines in turn, so each round has one line of each client. In a wide number stands the round.
+const SCRIPT: &str = r#"out ("old")
+out (1 w0)
+out (2 w0)
+out (3 w0)
+out (0 w1)
+upgrade
+upgrade
+upgrade
+rdp (0 ?wide)
+out (1 w2)
+out (2 w2)
+out (3 w2)
+inAll 2 (0 *)
+out (1 3)
+out (2 3)
+out (3 3)
+out (0 4)
+out (1 w4)
+out (2 w4)
+out (3 w4)
+upgrade
+rdp (1 ?wide)
+rdp (2 ?wide)
+rdp (3 ?wide)
+out (0 w6)
+out (1 w6)
+out (2 w6)
+out (3 w6)
+out ("new")
+rdp ("new")
+rdp ("new")
+rdp ("new")
+out (0 w8)
+out (1 w8)
+out (2 w8)
+out (3 w8)
+inAll 2 (0 *)
+rdp (1 ?wide)
+rdp (2 ?wide)
+rdp (3 ?wide)
+out (0 w10)
+out (1 w10)
+out (2 w10)
+out (3 w10)
+upgrade
+upgrade
+upgrade
+upgrade
+out (0 w12)
+out (1 w12)
+out (2 w12)
+out (3 w12)
+rdp (0 ?wide)
+rdp (1 ?wide)
+rdp (2 ?wide)
+rdp (3 ?wide)
+rdp ("old")
+out (1 w14)
+out (2 w14)
+out (3 w14)
+rdAll 64 (?int ?wide)
+"#;
 
 // The answers of a client up to one of them.
 #[derive(Clone, Copy)]
@@ -213,7 +243,7 @@ fn is_answer(place: usize, line: &str, heard: &mut [Heard]) -> bool {
         CALLS.get(round),
         heard.get_mut(client),
     ) {
-        (Some(first), _, _) if client == 0 => line == first.1,
+        (Some(first), _, _) if client == 0 => line == *first,
         (_, Some(call), Some(heard)) => heard.hear(*call, client, round, line),
         _ => client == 0 && is_listing(line, heard),
     }
@@ -240,13 +270,19 @@ fn are_answers(text: &str) -> bool {
     count == CALLS.len() * CLIENTS
 }
 
+fn is_right(written: &[u8]) -> bool {
+    match str::from_utf8(written) {
+        Ok(text) => are_answers(text),
+        Err(_) => false,
+    }
+}
+
+fn is_upgraded<R: Threads + Wait + Clock + Copy + Send + 'static>(rt: &R, alloc: Global) -> bool {
+    let mut written = Vec::new(alloc);
+    is_complete(rt, alloc, FOUR_CLIENTS, SCRIPT, &mut written) && is_right(written.as_slice())
+}
+
 #[test]
-fn upgrades_beside_other_clients(rt: HostRuntime) -> Result<(), Fail> {
-    let mut script = String::new(rt.alloc());
-    put_script(&mut script)?;
-    let mut written = Vec::new(rt.alloc());
-    assert!(rt; is_complete(&rt, rt.alloc(), FOUR_CLIENTS, script.as_str(), &mut written));
-    let text = str::from_utf8(written.as_slice())?;
-    assert!(rt; are_answers(text), "{text}");
-    Ok(())
+fn upgrades_beside_other_clients(rt: HostRuntime) {
+    assert!(rt; is_upgraded(&rt, rt.alloc()));
 }

@@ -1,6 +1,6 @@
 //! The example schedules in which views change, with their reports.
 
-use crate::schedules::is_reported;
+use crate::schedules::{Row, are_reported};
 
 const FAULTY_PRIMARY_SETTINGS: &str = r#"# Four replicas, the first of them faulty, and two clients.
 f = 1
@@ -48,8 +48,7 @@ point 108 client 0 time 2 all 2 (2) (1)
 trace 120
 "#;
 
-// Configurations, schedules, whether they are traced, and their output.
-static ROWS: [(&str, &str, bool, &str); 1] = [(
+static ROWS: [Row<'static>; 1] = [(
     FAULTY_PRIMARY_SETTINGS,
     TWO_FACES_SCHEDULE,
     false,
@@ -58,7 +57,5 @@ static ROWS: [(&str, &str, bool, &str); 1] = [(
 
 #[test]
 fn runs_the_schedules_with_view_changes(rt: HostRuntime) {
-    for row in &ROWS {
-        assert!(rt; is_reported(rt.alloc(), *row), "{}", row.1);
-    }
+    are_reported(&rt, rt.alloc(), &ROWS);
 }

@@ -290,69 +290,78 @@ fn prints_help_and_mistakes(rt: HostRuntime) {
     }
 }
 
+// Words, and what they ask for.
+static ASKED: [(&[&str], Request<'static>); 9] = [
+    (
+        &["btspace", "local", "a.bts"],
+        Request::Local {
+            script: "a.bts",
+            space: SpaceVersion::One,
+        },
+    ),
+    (
+        &["btspace", "local", "--space", "1", "a.bts"],
+        Request::Local {
+            script: "a.bts",
+            space: SpaceVersion::One,
+        },
+    ),
+    (
+        &["btspace", "local", "--space", "2", "a.bts"],
+        Request::Local {
+            script: "a.bts",
+            space: SpaceVersion::Two,
+        },
+    ),
+    (
+        &["btspace", "local", "a.bts", "--space=2"],
+        Request::Local {
+            script: "a.bts",
+            space: SpaceVersion::Two,
+        },
+    ),
+    (
+        &["btspace", "run", "a.toml", "a.bts"],
+        Request::Run {
+            config: "a.toml",
+            script: "a.bts",
+        },
+    ),
+    (&["btspace", "show", "00"], Request::Show { digits: "00" }),
+    (
+        &["btspace", "schedule", "a.toml", "b"],
+        Request::Schedule {
+            config: "a.toml",
+            file: "b",
+            printed: Printed::Report,
+        },
+    ),
+    (
+        &["btspace", "schedule", "a.toml", "b", "--trace"],
+        Request::Schedule {
+            config: "a.toml",
+            file: "b",
+            printed: Printed::Trace,
+        },
+    ),
+    (
+        &["btspace", "schedule", "--picture", "a.toml", "b"],
+        Request::Schedule {
+            config: "a.toml",
+            file: "b",
+            printed: Printed::Picture,
+        },
+    ),
+];
+
 fn asks_for(alloc: Global, words: &[&str], request: Request<'_>) -> bool {
-    read_words(&(Console::new(alloc, true), alloc), words) == Ok(request)
+    let console = Console::new(alloc, true);
+    read_words(&(&console, alloc), words) == Ok(request)
 }
 
 #[test]
 fn reads_words(rt: HostRuntime) {
-    let local = Request::Local {
-        script: "a.bts",
-        space: SpaceVersion::One,
-    };
-    assert!(rt; asks_for(rt.alloc(), &["btspace", "local", "a.bts"], local));
-    assert!(rt;
-        asks_for(
-            rt.alloc(),
-            &["btspace", "local", "--space", "1", "a.bts"],
-            local
-        )
-    );
-    let wide = Request::Local {
-        script: "a.bts",
-        space: SpaceVersion::Two,
-    };
-    assert!(rt;
-        asks_for(
-            rt.alloc(),
-            &["btspace", "local", "--space", "2", "a.bts"],
-            wide
-        )
-    );
-    assert!(rt;
-        asks_for(
-            rt.alloc(),
-            &["btspace", "local", "a.bts", "--space=2"],
-            wide
-        )
-    );
-    let run = Request::Run {
-        config: "a.toml",
-        script: "a.bts",
-    };
-    let words = ["btspace", "run", "a.toml", "a.bts"];
-    assert!(rt; asks_for(rt.alloc(), &words, run));
-    let show = Request::Show { digits: "00" };
-    assert!(rt; asks_for(rt.alloc(), &["btspace", "show", "00"], show));
-    let schedule = Request::Schedule {
-        config: "a.toml",
-        file: "b",
-        printed: Printed::Report,
-    };
-    let words = ["btspace", "schedule", "a.toml", "b"];
-    assert!(rt; asks_for(rt.alloc(), &words, schedule));
-    let traced = Request::Schedule {
-        config: "a.toml",
-        file: "b",
-        printed: Printed::Trace,
-    };
-    let words = ["btspace", "schedule", "a.toml", "b", "--trace"];
-    assert!(rt; asks_for(rt.alloc(), &words, traced));
-    let drawn = Request::Schedule {
-        config: "a.toml",
-        file: "b",
-        printed: Printed::Picture,
-    };
-    let words = ["btspace", "schedule", "--picture", "a.toml", "b"];
-    assert!(rt; asks_for(rt.alloc(), &words, drawn));
+    for (words, request) in &ASKED {
+        assert!(rt; asks_for(rt.alloc(), words, *request), "{words:?}");
+    }
 }
