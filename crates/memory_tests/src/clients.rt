@@ -1,13 +1,14 @@
 //! A client that makes its first call.
 
-use crate::left::{Call, Outcome, under_each_size};
+use crate::left::{Call, Outcome, assert_right, outcome_of, under_each_size};
 use authenticator::Ring;
 use client_cert::{Client, InvokeFault};
+use events::Output;
 use signing::PublicKeys;
 use std::alloc::Global;
-use std::test::Fail;
 use terms::{ClientId, NoMemory};
 use test_bytes::{TAKE, read_op, seed};
+use tuple_codec::Op;
 
 const CRUMBS: usize = 256;
 
@@ -19,35 +20,45 @@ struct Invokes;
 
 impl Call for Invokes {
     fn call(&mut self, alloc: Global) -> Outcome {
-        match new_client(alloc) {
-            Ok(mut client) => invoked(&mut client, alloc),
+        match PublicKeys::new(alloc, &seed()) {
+            Ok(publics) => invokes_with(alloc, publics),
             Err(NoMemory) => Outcome::Refused,
         }
     }
 }
 
-fn invoked(client: &mut Client, alloc: Global) -> Outcome {
-    let Some(op) = read_op(alloc, TAKE) else {
-        return Outcome::Refused;
-    };
-    match client.invoke(alloc, op) {
-        Ok(outputs) if outputs.len() == 1 && !client.is_stopped() => Outcome::Done,
-        Err(InvokeFault::NoMemory) if client.is_stopped() => Outcome::Refused,
-        _ => Outcome::Wrong,
+fn invokes_with(alloc: Global, publics: PublicKeys) -> Outcome {
+    let ring = Ring::new(alloc, &seed(), 1, 1);
+    let mut client = Client::new(ClientId { number: 0 }, 1, ring, publics);
+    take(&mut client, alloc)
+}
+
+fn take(client: &mut Client, alloc: Global) -> Outcome {
+    match read_op(alloc, TAKE) {
+        Some(op) => invoke_once(client, alloc, op),
+        None => Outcome::Refused,
     }
 }
 
-fn new_client(alloc: Global) -> Result<Client, NoMemory> {
-    let seed = seed();
-    let publics = PublicKeys::new(alloc, &seed)?;
-    let ring = Ring::new(alloc, &seed, 1, 1);
-    Ok(Client::new(ClientId { number: 0 }, 1, ring, publics))
+fn invoke_once(client: &mut Client, alloc: Global, op: Op<Global>) -> Outcome {
+    let invoked = client.invoke(alloc, op);
+    outcome_of(
+        is_one(&invoked) && !client.is_stopped(),
+        matches!(invoked, Err(InvokeFault::NoMemory)) && client.is_stopped(),
+    )
+}
+
+fn is_one(invoked: &Result<Vec<Output>, InvokeFault>) -> bool {
+    match invoked {
+        Ok(outputs) => outputs.len() == 1,
+        Err(_) => false,
+    }
 }
 
 #[test]
-fn invokes_under_each_size(rt: HostRuntime) -> Result<(), Fail> {
-    if let Some(tally) = under_each_size(&rt, rt.alloc(), CRUMBS, CRUMB, &mut Invokes) {
-        assert!(rt; tally.is_right(), "{tally:?}");
-    }
-    Ok(())
+fn invokes_under_each_size(rt: HostRuntime) {
+    assert_right(
+        &rt,
+        under_each_size(&rt, rt.alloc(), CRUMBS, CRUMB, &mut Invokes),
+    );
 }

@@ -3,15 +3,14 @@
 
 ghost use Rattle.std.specs.Prelude.{◌≡◌};
 
-use crate::left::{Outcome, Taken, Tally};
-use events::Config;
+use crate::left::{Outcome, Taken, Tally, assert_right, outcome_of};
+use events::{BadConfig, Config};
 use journal::{Naming, Opened};
 use space_node::{Cluster, FinishFault, Open, Run, StartFault};
 use std::alloc::Global;
 use std::marker::Brand;
 use std::rt::Files;
 use std::sync::Wait;
-use std::test::Fail;
 use std::thread::Threads;
 use test_bytes::seed;
 
@@ -30,8 +29,7 @@ fn tally_of<R: Files + Threads + Wait + Copy + Send + 'static>(
 ) -> Option<Tally> {
     let mut tally = Tally::default();
     if start_and_finish::<Brand, R>(rt, alloc, Opened::new(), config) != Outcome::Done {
-        tally.add(Outcome::Wrong);
-        return Some(tally);
+        return Tally::unprepared();
     }
     let mut taken = Taken::new(rt, alloc, CRUMBS, CRUMB)?;
     for _ in 0..CRUMBS {
@@ -51,32 +49,36 @@ fn start_and_finish<N: Naming + Send + Sync + 'static, R: Threads + Wait + Copy 
     requires book { opened ≡ N.book }
 {
     match Cluster::<N>::start(rt, alloc, opened, config, LIMIT, Open) {
-        Ok(cluster) => outcome_of(cluster.finish(rt, alloc, Vec::new(alloc))),
+        Ok(cluster) => end_of(&cluster.finish(rt, alloc, Vec::new(alloc))),
         Err(StartFault::NoMemory | StartFault::NoThread) => Outcome::Refused,
         Err(StartFault::BadConfig) => Outcome::Wrong,
     }
 }
 
-fn outcome_of<N: Naming>(finished: Result<Run<N>, FinishFault<N>>) -> Outcome {
+fn end_of<N: Naming>(finished: &Result<Run<N>, FinishFault<N>>) -> Outcome {
     match finished {
-        Ok(run) => {
-            if run.trace.is_empty() && run.shares.len() == 4 {
-                Outcome::Done
-            } else {
-                Outcome::Wrong
-            }
-        }
+        Ok(run) => outcome_of(run.trace.is_empty() && run.shares.len() == 4, false),
         Err(FinishFault::NotInJournal(_run, _party)) => Outcome::Wrong,
         Err(FinishFault::NoMemory) => Outcome::Refused,
     }
 }
 
-#[test]
-fn starts_under_each_size(rt: HostRuntime) -> Result<(), Fail> {
-    let alloc = rt.alloc();
-    let config = Config::new(1, 2, seed(), 4, Vec::new(alloc), Vec::new(alloc))?;
-    if let Some(tally) = tally_of(&rt, alloc, &config) {
-        assert!(rt; tally.is_right(), "{tally:?}");
+/// The configuration of four replicas and two clients.
+pub fn config_of(alloc: Global) -> Result<Config, BadConfig> {
+    Config::new(1, 2, seed(), 4, Vec::new(alloc), Vec::new(alloc))
+}
+
+fn starts<R: Files + Threads + Wait + Copy + Send + 'static>(
+    rt: &R,
+    alloc: Global,
+) -> Option<Tally> {
+    match config_of(alloc) {
+        Ok(config) => tally_of(rt, alloc, &config),
+        Err(_) => Tally::unprepared(),
     }
-    Ok(())
+}
+
+#[test]
+fn starts_under_each_size(rt: HostRuntime) {
+    assert_right(&rt, starts(&rt, rt.alloc()));
 }

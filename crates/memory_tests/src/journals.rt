@@ -4,15 +4,14 @@ ghost use Rattle.std.specs.Prelude.{◌≡◌, ◌∷◌, [], IfOk};
 ghost use Rattle.terms.specs.Parties.{party_number};
 ghost use Rattle.protocol.specs.System.Trace.Entry.{Tick};
 
-use crate::left::{Call, Outcome, Tally, under_each_size};
+use crate::clusters::config_of;
+use crate::left::{Call, Outcome, Tally, assert_right, under_each_size};
 use events::{Config, Entry, EntryKind};
 use journal::{AppendFault, Journal, Naming, Share};
 use std::alloc::Global;
 use std::marker::Brand;
 use std::rt::Files;
-use std::test::Fail;
 use terms::{NoMemory, Party};
-use test_bytes::seed;
 
 // More entries than are appended.
 const LIMIT: u32 = 1024;
@@ -23,20 +22,20 @@ const CRUMB: usize = 48;
 
 // Time goes by at one party.
 #[derive(Drop)]
-struct Ticks<N: Naming> {
-    journal: Journal<N>,
-    share: Share<N>,
+struct Ticks<'a, N: Naming> {
+    journal: &'a mut Journal<N>,
+    share: &'a mut Share<N>,
 }
 
-impl<N: Naming> Call for Ticks<N> {
+impl<N: Naming> Call for Ticks<'_, N> {
     fn call(&mut self, alloc: Global) -> Outcome {
         let len = self.journal.len();
-        let (appended, longer) = match ticked(alloc, &mut self.journal, &mut self.share) {
+        let (appended, longer) = match ticked(alloc, self.journal, self.share) {
             Ok(()) => (Outcome::Done, 1),
             Err(AppendFault::NoMemory) => (Outcome::Refused, 0),
             Err(AppendFault::JournalFull | AppendFault::NotInJournal) => (Outcome::Wrong, 0),
         };
-        if self.journal.len() == len.saturating_add(longer) && self.journal.agrees(&self.share) {
+        if self.journal.len() == len.saturating_add(longer) && self.journal.agrees(self.share) {
             appended
         } else {
             Outcome::Wrong
@@ -65,25 +64,40 @@ fn tick_of(alloc: Global, party: Party) -> Result<Vec<Entry>, NoMemory>
     Ok(entries)
 }
 
-fn tally_of<N: Naming, R: Files>(
+fn tally_with<N: Naming, R: Files>(
     rt: &R,
     alloc: Global,
-    config: &Config,
-) -> Result<Option<Tally>, Fail>
+    journal: &mut Journal<N>,
+    shares: &mut [Share<N>],
+) -> Option<Tally> {
+    match shares.last_mut() {
+        Some(share) => {
+            let mut ticks = Ticks { journal, share };
+            under_each_size(rt, alloc, CRUMBS, CRUMB, &mut ticks)
+        }
+        None => Tally::unprepared(),
+    }
+}
+
+fn tally_of<N: Naming, R: Files>(rt: &R, alloc: Global, config: &Config) -> Option<Tally>
     requires config { config.now ≡ N.config }
 {
-    let (journal, mut shares, _orders) = Journal::<N>::new(alloc, config, LIMIT)?;
-    let share = shares.pop().ok_or("no share")?;
-    let mut ticks = Ticks { journal, share };
-    Ok(under_each_size(rt, alloc, CRUMBS, CRUMB, &mut ticks))
+    match Journal::<N>::new(alloc, config, LIMIT) {
+        Ok((mut journal, mut shares, _orders)) => {
+            tally_with(rt, alloc, &mut journal, shares.as_mut_slice())
+        }
+        Err(_) => Tally::unprepared(),
+    }
+}
+
+fn appends<R: Files>(rt: &R, alloc: Global) -> Option<Tally> {
+    match config_of(alloc) {
+        Ok(config) => tally_of::<Brand, R>(rt, alloc, &config),
+        Err(_) => Tally::unprepared(),
+    }
 }
 
 #[test]
-fn appends_under_each_size(rt: HostRuntime) -> Result<(), Fail> {
-    let alloc = rt.alloc();
-    let config = Config::new(1, 2, seed(), 4, Vec::new(alloc), Vec::new(alloc))?;
-    if let Some(tally) = tally_of::<Brand, _>(&rt, alloc, &config)? {
-        assert!(rt; tally.is_right(), "{tally:?}");
-    }
-    Ok(())
+fn appends_under_each_size(rt: HostRuntime) {
+    assert_right(&rt, appends(&rt, rt.alloc()));
 }

@@ -3,6 +3,7 @@
 use std::alloc::Global;
 use std::fs;
 use std::io::Read;
+use std::process::Abort;
 use std::rt::Files;
 
 // A process has fewer addresses than 2 to the power of this.
@@ -38,6 +39,17 @@ pub enum Outcome {
     Wrong,
 }
 
+/// How a call came out that was done, that was refused for want of memory, or neither.
+pub fn outcome_of(is_done: bool, is_refused: bool) -> Outcome {
+    if is_done {
+        Outcome::Done
+    } else if is_refused {
+        Outcome::Refused
+    } else {
+        Outcome::Wrong
+    }
+}
+
 /// A call that can be made again and again.
 pub trait Call {
     fn call(&mut self, alloc: Global) -> Outcome;
@@ -52,6 +64,13 @@ pub struct Tally {
 }
 
 impl Tally {
+    /// That of a call for which not all could be made ready.
+    pub fn unprepared() -> Option<Tally> {
+        let mut tally = Tally::default();
+        tally.add(Outcome::Wrong);
+        Some(tally)
+    }
+
     pub fn add(&mut self, outcome: Outcome) {
         let count = match outcome {
             Outcome::Done => &mut self.done,
@@ -107,8 +126,7 @@ pub fn under_each_size<R: Files, C: Call>(
     let mut tally = Tally::default();
     // The memory that the call takes once and keeps is taken before.
     if call.call(alloc) != Outcome::Done {
-        tally.add(Outcome::Wrong);
-        return Some(tally);
+        return Tally::unprepared();
     }
     let mut taken = Taken::new(rt, alloc, crumbs, len)?;
     for _ in 0..crumbs {
@@ -116,6 +134,13 @@ pub fn under_each_size<R: Files, C: Call>(
         taken.give_back();
     }
     Some(tally)
+}
+
+/// The tally is right, if there is one. The assertion stands here and not in each test, since each costs a proof.
+pub fn assert_right<R: Abort>(rt: &R, tally: Option<Tally>) {
+    if let Some(tally) = tally {
+        assert!(rt; tally.is_right(), "{tally:?}");
+    }
 }
 
 // Uses the stack, which can't grow afterwards, and keeps the used part. Always true.

@@ -1,9 +1,9 @@
 //! A tree of pages, of which one is set while a snapshot shares them.
 
-use crate::left::{Call, Outcome, under_each_size};
+use crate::left::{Call, Outcome, Tally, assert_right, outcome_of, under_each_size};
 use partition_tree::Tree;
 use std::alloc::Global;
-use std::test::Fail;
+use std::rt::Files;
 
 const CRUMBS: usize = 256;
 
@@ -21,15 +21,11 @@ impl Call for Sets {
         let before = self.tree.root();
         if sets_beside_a_snapshot(&mut self.tree, &[u8::from(self.is_odd)]) {
             self.is_odd = !self.is_odd;
-            outcome(self.tree.root() != before, Outcome::Done)
+            outcome_of(self.tree.root() != before, false)
         } else {
-            outcome(self.tree.root() == before, Outcome::Refused)
+            outcome_of(false, self.tree.root() == before)
         }
     }
-}
-
-fn outcome(is_right: bool, right: Outcome) -> Outcome {
-    if is_right { right } else { Outcome::Wrong }
 }
 
 // Whether memory was enough for both.
@@ -40,15 +36,20 @@ fn sets_beside_a_snapshot(tree: &mut Tree, text: &[u8]) -> bool {
     }
 }
 
-#[test]
-fn sets_under_each_size(rt: HostRuntime) -> Result<(), Fail> {
-    let tree = Tree::new(rt.alloc())?;
-    let mut sets = Sets {
-        tree,
-        is_odd: false,
-    };
-    if let Some(tally) = under_each_size(&rt, rt.alloc(), CRUMBS, CRUMB, &mut sets) {
-        assert!(rt; tally.is_right(), "{tally:?}");
+fn tally_of<R: Files>(rt: &R, alloc: Global) -> Option<Tally> {
+    match Tree::new(alloc) {
+        Ok(tree) => {
+            let mut sets = Sets {
+                tree,
+                is_odd: false,
+            };
+            under_each_size(rt, alloc, CRUMBS, CRUMB, &mut sets)
+        }
+        Err(_) => Tally::unprepared(),
     }
-    Ok(())
+}
+
+#[test]
+fn sets_under_each_size(rt: HostRuntime) {
+    assert_right(&rt, tally_of(&rt, rt.alloc()));
 }

@@ -1,11 +1,12 @@
 //! A replica that answers a read beside the order.
 
-use crate::left::{Call, Outcome, under_each_size};
+use crate::left::{Call, Outcome, Tally, assert_right, under_each_size};
+use crate::spaces::{applied, is_done};
 use bumpalo::Bump;
 use read_only::{ReadFault, ReadRequest, Shelf, answer};
 use space::Space;
 use std::alloc::Global;
-use std::test::Fail;
+use std::rt::Files;
 use terms::{ClientId, Number, Timestamp};
 use test_bytes::{READ, read_op};
 use tuple_codec::{Answer, is_op};
@@ -19,17 +20,17 @@ const CRUMB: usize = 48;
 
 // Answers `rdp (*)` over a space of one tuple, with a new arena each time.
 #[derive(Drop)]
-struct Answers {
-    space: Space,
+struct Answers<'a> {
+    space: &'a Space,
 }
 
-impl Call for Answers {
+impl Call for Answers<'_> {
     fn call(&mut self, alloc: Global) -> Outcome {
         if !is_op(READ) {
             return Outcome::Wrong;
         }
         let shelf = Shelf {
-            space: &self.space,
+            space: self.space,
             number: Number(17),
         };
         let request = ReadRequest {
@@ -46,14 +47,27 @@ impl Call for Answers {
     }
 }
 
-#[test]
-fn answers_under_each_size(rt: HostRuntime) -> Result<(), Fail> {
-    let mut space = Space::new(rt.alloc());
-    let out = read_op(rt.alloc(), OUT).ok_or("not prepared")?;
-    assert!(rt; space.births_left() && space.apply(0, &out).is_ok());
-    let mut answers = Answers { space };
-    if let Some(tally) = under_each_size(&rt, rt.alloc(), CRUMBS, CRUMB, &mut answers) {
-        assert!(rt; tally.is_right(), "{tally:?}");
+fn is_put(alloc: Global, space: &mut Space) -> bool {
+    match read_op(alloc, OUT) {
+        Some(out) => is_done(&applied(space, &out)),
+        None => false,
     }
-    Ok(())
+}
+
+fn tally_in<R: Files>(rt: &R, alloc: Global, space: &mut Space) -> Option<Tally> {
+    if is_put(alloc, space) {
+        under_each_size(rt, alloc, CRUMBS, CRUMB, &mut Answers { space: &*space })
+    } else {
+        Tally::unprepared()
+    }
+}
+
+fn tally_of<R: Files>(rt: &R, alloc: Global) -> Option<Tally> {
+    let mut space = Space::new(alloc);
+    tally_in(rt, alloc, &mut space)
+}
+
+#[test]
+fn answers_under_each_size(rt: HostRuntime) {
+    assert_right(&rt, tally_of(&rt, rt.alloc()));
 }

@@ -1,6 +1,6 @@
 //! Runs of four replicas and two clients: client 0 puts a tuple, and client 1 reads it afterwards.
 
-use crate::left::{Call, Outcome, Tally, under_each_size};
+use crate::left::{Call, Outcome, Tally, assert_right, under_each_size};
 use events::Config;
 use schedule_text::{Step, read_step};
 use schedule_world::{Acceptance, Report, RunFault, run};
@@ -79,18 +79,22 @@ static FETCHED: [&str; 34] = [
 type Row<'a> = (u8, usize, usize, &'a [&'a str]);
 
 #[derive(Drop)]
-struct Runs {
-    config: Config,
-    steps: Vec<Step>,
+struct Runs<'a> {
+    config: &'a Config,
+    steps: &'a [Step],
 }
 
-impl Call for Runs {
+impl Call for Runs<'_> {
     fn call(&mut self, alloc: Global) -> Outcome {
-        match run(alloc, &self.config, self.steps.as_slice()) {
-            Ok(report) => outcome_of(&report),
-            Err(RunFault::NoMemory) => Outcome::Refused,
-            Err(RunFault::BadSchedule { before, .. }) => outcome_before(&before),
-        }
+        end_of(&run(alloc, self.config, self.steps))
+    }
+}
+
+fn end_of(ended: &Result<Report, RunFault>) -> Outcome {
+    match ended {
+        Ok(report) => outcome_of(report),
+        Err(RunFault::NoMemory) => Outcome::Refused,
+        Err(RunFault::BadSchedule { before, .. }) => outcome_before(before),
     }
 }
 
@@ -128,54 +132,73 @@ fn is_absent(acceptance: &Acceptance) -> bool {
     acceptance.client.number == 1 && matches!(acceptance.answer, Answer::Absent)
 }
 
-fn steps_of(alloc: Global, lines: &[&str]) -> Option<Vec<Step>> {
-    let mut steps = Vec::new(alloc);
-    for line in lines {
-        let step = read_step(alloc, line.as_bytes()).ok()??;
-        steps.push(step).ok()?;
+// There is room before the step is read: else what refuses it would have to be dropped too, and each drop costs a proof.
+fn is_line_put(alloc: Global, line: &str, steps: &mut Vec<Step>) -> bool {
+    let Ok(()) = steps.reserve(1) else {
+        return false;
+    };
+    match read_step(alloc, line.as_bytes()) {
+        Ok(Some(step)) => {
+            steps.push_reserved(step);
+            true
+        }
+        _ => false,
     }
-    Some(steps)
 }
 
-fn new_runs(alloc: Global, period: u8, lines: &[&str]) -> Option<Runs> {
-    let steps = steps_of(alloc, lines)?;
-    let config = Config::new(1, 2, FRAME_SEED, period, Vec::new(alloc), Vec::new(alloc)).ok()?;
-    Some(Runs { config, steps })
+fn are_put(alloc: Global, lines: &[&str], steps: &mut Vec<Step>) -> bool {
+    for line in lines {
+        if !is_line_put(alloc, line, steps) {
+            return false;
+        }
+    }
+    true
 }
 
-fn tally_of<R: Files>(
+fn tally_with<R: Files>(
     rt: &R,
     alloc: Global,
-    (period, crumbs, len, lines): Row<'_>,
+    (_, crumbs, len, lines): Row<'_>,
+    config: &Config,
 ) -> Option<Tally> {
-    let mut runs = new_runs(alloc, period, lines)?;
-    under_each_size(rt, alloc, crumbs, len, &mut runs)
+    let mut steps = Vec::new(alloc);
+    if are_put(alloc, lines, &mut steps) {
+        let steps = steps.as_slice();
+        under_each_size(rt, alloc, crumbs, len, &mut Runs { config, steps })
+    } else {
+        Tally::unprepared()
+    }
+}
+
+fn tally_of<R: Files>(rt: &R, alloc: Global, row: Row<'_>) -> Option<Tally> {
+    match Config::new(1, 2, FRAME_SEED, row.0, Vec::new(alloc), Vec::new(alloc)) {
+        Ok(config) => tally_with(rt, alloc, row, &config),
+        Err(_) => Tally::unprepared(),
+    }
 }
 
 #[test]
 fn runs_under_each_size(rt: HostRuntime) {
-    if let Some(tally) = tally_of(&rt, rt.alloc(), (16, 256, 1 << 14, &PLAIN)) {
-        assert!(rt; tally.is_right(), "{tally:?}");
-    }
+    assert_right(&rt, tally_of(&rt, rt.alloc(), (16, 256, 1 << 14, &PLAIN)));
 }
 
 #[test]
 fn runs_that_ask_again(rt: HostRuntime) {
-    if let Some(tally) = tally_of(&rt, rt.alloc(), (16, 128, 1 << 14, &ASKED_AGAIN)) {
-        assert!(rt; tally.is_right(), "{tally:?}");
-    }
+    assert_right(
+        &rt,
+        tally_of(&rt, rt.alloc(), (16, 128, 1 << 14, &ASKED_AGAIN)),
+    );
 }
 
 #[test]
 fn runs_that_change_their_view(rt: HostRuntime) {
-    if let Some(tally) = tally_of(&rt, rt.alloc(), (16, 24, 1 << 16, &IN_VIEW_1)) {
-        assert!(rt; tally.is_right(), "{tally:?}");
-    }
+    assert_right(
+        &rt,
+        tally_of(&rt, rt.alloc(), (16, 24, 1 << 16, &IN_VIEW_1)),
+    );
 }
 
 #[test]
 fn runs_that_fetch_a_state(rt: HostRuntime) {
-    if let Some(tally) = tally_of(&rt, rt.alloc(), (1, 128, 1 << 14, &FETCHED)) {
-        assert!(rt; tally.is_right(), "{tally:?}");
-    }
+    assert_right(&rt, tally_of(&rt, rt.alloc(), (1, 128, 1 << 14, &FETCHED)));
 }

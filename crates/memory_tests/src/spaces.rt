@@ -1,9 +1,9 @@
 //! A space that copies tuples.
 
-use crate::left::{Call, Outcome, under_each_size};
+use crate::left::{Call, Outcome, Tally, assert_right, outcome_of, under_each_size};
 use space::{PAGES, PeekFault, Space};
 use std::alloc::Global;
-use std::test::Fail;
+use std::rt::Files;
 use test_bytes::read_op;
 use tuple_codec::{Answer, Bad, Op};
 
@@ -29,30 +29,40 @@ const CRUMB: usize = 48;
 
 // Puts a tuple in an empty space, and takes it again.
 #[derive(Drop)]
-struct Puts {
-    space: Space,
-    out: Op<Global>,
-    inp: Op<Global>,
+struct Puts<'a> {
+    space: &'a mut Space,
+    out: &'a Op<Global>,
+    inp: &'a Op<Global>,
 }
 
-impl Call for Puts {
+impl Call for Puts<'_> {
     fn call(&mut self, _alloc: Global) -> Outcome {
-        match applied(&mut self.space, &self.out) {
-            Some(Answer::Done) if self.space.count() == 1 => match applied(
-                &mut self.space,
-                &self.inp,
-            ) {
-                Some(Answer::Found(_)) if self.space.count() == 0 => Outcome::Done,
-                _ => Outcome::Wrong,
-            },
-            None if self.space.count() == 0 => Outcome::Refused,
-            _ => Outcome::Wrong,
+        match put_once(self.space, self.out) {
+            Outcome::Done => take_once(self.space, self.inp),
+            Outcome::Refused => Outcome::Refused,
+            Outcome::Wrong => Outcome::Wrong,
         }
     }
 }
 
-// None if memory ran out.
-fn applied(space: &mut Space, op: &Op<Global>) -> Option<Answer<Global>> {
+fn put_once(space: &mut Space, out: &Op<Global>) -> Outcome {
+    let answer = applied(space, out);
+    outcome_of(
+        is_done(&answer) && space.count() == 1,
+        answer.is_none() && space.count() == 0,
+    )
+}
+
+fn take_once(space: &mut Space, inp: &Op<Global>) -> Outcome {
+    let answer = applied(space, inp);
+    outcome_of(
+        matches!(answer, Some(Answer::Found(_))) && space.count() == 0,
+        false,
+    )
+}
+
+/// The answer to the operation. None if memory ran out.
+pub fn applied(space: &mut Space, op: &Op<Global>) -> Option<Answer<Global>> {
     if space.births_left() {
         space.apply(0, op).ok()
     } else {
@@ -60,20 +70,25 @@ fn applied(space: &mut Space, op: &Op<Global>) -> Option<Answer<Global>> {
     }
 }
 
-// Reads a tuple of a space of one.
-#[derive(Drop)]
-struct Reads {
-    space: Space,
-    rdp: Op<Global>,
+/// Whether it was done.
+pub fn is_done(answer: &Option<Answer<Global>>) -> bool {
+    matches!(answer, Some(Answer::Done))
 }
 
-impl Call for Reads {
+// Reads a tuple of a space of one.
+#[derive(Drop)]
+struct Reads<'a> {
+    space: &'a Space,
+    rdp: &'a Op<Global>,
+}
+
+impl Call for Reads<'_> {
     fn call(&mut self, _alloc: Global) -> Outcome {
-        match self.space.peek(&self.rdp) {
-            Ok(Answer::Found(_)) => Outcome::Done,
-            Err(PeekFault::NoMemory) if self.space.count() == 1 => Outcome::Refused,
-            _ => Outcome::Wrong,
-        }
+        let answer = self.space.peek(self.rdp);
+        outcome_of(
+            matches!(answer, Ok(Answer::Found(_))),
+            matches!(answer, Err(PeekFault::NoMemory)) && self.space.count() == 1,
+        )
     }
 }
 
@@ -86,47 +101,101 @@ impl Call for ReadsBack {
         let mut pages: [&[u8]; PAGES] = [&[]; PAGES];
         pages[0] = &FIRST;
         pages[1] = &RISING;
-        match Space::from_pages(alloc, pages.as_slice(), &HEADER) {
-            Ok((space, 1)) if space.count() == 3 => Outcome::Done,
-            Err(Bad::NoMemory) => Outcome::Refused,
-            _ => Outcome::Wrong,
-        }
+        end_of(&Space::from_pages(alloc, pages.as_slice(), &HEADER))
     }
 }
 
-#[test]
-fn puts_under_each_size(rt: HostRuntime) -> Result<(), Fail> {
-    let alloc = rt.alloc();
-    let (Some(out), Some(inp)) = (read_op(alloc, OUT), read_op(alloc, INP)) else {
-        return Err(Fail::new("not prepared"));
-    };
-    let space = Space::new(alloc);
-    let mut puts = Puts { space, out, inp };
-    if let Some(tally) = under_each_size(&rt, alloc, CRUMBS, CRUMB, &mut puts) {
-        assert!(rt; tally.is_right(), "{tally:?}");
+fn end_of(read: &Result<(Space, u64), Bad>) -> Outcome {
+    match read {
+        Ok((space, executed)) => outcome_of(*executed == 1 && space.count() == 3, false),
+        Err(Bad::NoMemory) => Outcome::Refused,
+        Err(_) => Outcome::Wrong,
     }
-    Ok(())
 }
 
-#[test]
-fn reads_under_each_size(rt: HostRuntime) -> Result<(), Fail> {
-    let alloc = rt.alloc();
-    let (Some(out), Some(rdp)) = (read_op(alloc, OUT), read_op(alloc, RDP)) else {
-        return Err(Fail::new("not prepared"));
-    };
+fn reads_tally<R: Files>(
+    rt: &R,
+    alloc: Global,
+    space: &mut Space,
+    out: &Op<Global>,
+    rdp: &Op<Global>,
+) -> Option<Tally> {
+    if is_done(&applied(space, out)) {
+        under_each_size(
+            rt,
+            alloc,
+            CRUMBS,
+            CRUMB,
+            &mut Reads {
+                space: &*space,
+                rdp,
+            },
+        )
+    } else {
+        Tally::unprepared()
+    }
+}
+
+// The tally of reads, or of puts, over a space that is empty.
+fn tally_in<R: Files>(
+    rt: &R,
+    alloc: Global,
+    space: &mut Space,
+    out: &Op<Global>,
+    op: &Op<Global>,
+    is_read: bool,
+) -> Option<Tally> {
+    if is_read {
+        reads_tally(rt, alloc, space, out, op)
+    } else {
+        let mut puts = Puts {
+            space,
+            out,
+            inp: op,
+        };
+        under_each_size(rt, alloc, CRUMBS, CRUMB, &mut puts)
+    }
+}
+
+fn tally_with<R: Files>(
+    rt: &R,
+    alloc: Global,
+    out: &Op<Global>,
+    op: &Op<Global>,
+    is_read: bool,
+) -> Option<Tally> {
     let mut space = Space::new(alloc);
-    assert!(rt; matches!(applied(&mut space, &out), Some(Answer::Done)));
-    let mut reads = Reads { space, rdp };
-    if let Some(tally) = under_each_size(&rt, alloc, CRUMBS, CRUMB, &mut reads) {
-        assert!(rt; tally.is_right(), "{tally:?}");
+    tally_in(rt, alloc, &mut space, out, op, is_read)
+}
+
+fn tally_behind<R: Files>(rt: &R, alloc: Global, out: &Op<Global>, is_read: bool) -> Option<Tally> {
+    match read_op(alloc, if is_read { RDP } else { INP }) {
+        Some(op) => tally_with(rt, alloc, out, &op, is_read),
+        None => Tally::unprepared(),
     }
-    Ok(())
+}
+
+fn tally_of<R: Files>(rt: &R, alloc: Global, is_read: bool) -> Option<Tally> {
+    match read_op(alloc, OUT) {
+        Some(out) => tally_behind(rt, alloc, &out, is_read),
+        None => Tally::unprepared(),
+    }
 }
 
 #[test]
-fn reads_back_under_each_size(rt: HostRuntime) -> Result<(), Fail> {
-    if let Some(tally) = under_each_size(&rt, rt.alloc(), CRUMBS, CRUMB, &mut ReadsBack) {
-        assert!(rt; tally.is_right(), "{tally:?}");
-    }
-    Ok(())
+fn puts_under_each_size(rt: HostRuntime) {
+    assert_right(&rt, tally_of(&rt, rt.alloc(), false));
+}
+
+#[test]
+fn reads_under_each_size(rt: HostRuntime) {
+    assert_right(&rt, tally_of(&rt, rt.alloc(), true));
+}
+
+#[test]
+fn reads_back_under_each_size(rt: HostRuntime) {
+    assert_right(
+        &rt,
+        under_each_size(&rt, rt.alloc(), CRUMBS, CRUMB, &mut ReadsBack),
+    );
 }

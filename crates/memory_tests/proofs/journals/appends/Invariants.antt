@@ -1,5 +1,5 @@
 use Rattle.journal.specs.Ties.{no_book}
-use Rattle.memory_tests.proofs.journals.appends_under_each_size.Given as goal
+use Rattle.memory_tests.proofs.journals.appends.Given as goal
 
 -- the configuration that was just made
 abbrev pub ghosts-tally_of : goal.ghosts-tally_of
