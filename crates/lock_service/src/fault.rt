@@ -2,7 +2,7 @@
 
 use events::BadConfig;
 use space_node::{CallFault, StartFault};
-use std::alloc::{AllocError, AllocFailed};
+use std::alloc::AllocError;
 use std::io;
 use thiserror::Error;
 use tuple_tree::{Refusal, Refused};
@@ -67,12 +67,6 @@ impl<T: Drop> From<Refused<T>> for Fault {
 
 impl From<AllocError> for Fault {
     fn from(_failed: AllocError) -> Fault {
-        Fault::NoMemory
-    }
-}
-
-impl<T: Drop> From<AllocFailed<T>> for Fault {
-    fn from(_failed: AllocFailed<T>) -> Fault {
         Fault::NoMemory
     }
 }

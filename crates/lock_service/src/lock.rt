@@ -41,10 +41,7 @@ impl<'a> Lock<'a> {
     ) -> Result<bool, Fault>
         ensures { IfOk result (λ got. Swapped client.old got client.new) }
     {
-        let op = Op::Cas(
-            self.template(alloc, Field::Any)?,
-            self.held_by(alloc, holder)?,
-        );
+        let op = Op::Cas(self.of_anyone(alloc)?, self.held_by(alloc, holder)?);
         match client.call(rt, alloc, op)? {
             Answer::Swapped(got) => Ok(got),
             _ => Err(Fault::Answer),
@@ -65,7 +62,7 @@ impl<'a> Lock<'a> {
     ) -> Result<bool, Fault>
         ensures { IfOk result (λ had. Taken client.old had client.new) }
     {
-        let own = self.template(alloc, Field::Actual(text(alloc, holder)?))?;
+        let own = template_of(alloc, &["lock", self.name, holder])?;
         let op = Op::Inp(own);
         match client.call(rt, alloc, op)? {
             Answer::Found(_tuple) => Ok(true),
@@ -77,21 +74,37 @@ impl<'a> Lock<'a> {
     // ("lock" NAME HOLDER)
     fn held_by(self, alloc: Global, holder: &str) -> Result<Tuple<Global>, Fault> {
         let mut tuple = Tuple::new_in(alloc);
-        for word in ["lock", self.name, holder] {
-            tuple.push(Value::Atom(text(alloc, word)?))?;
-        }
+        put_values(alloc, &["lock", self.name, holder], &mut tuple)?;
         Ok(tuple)
     }
 
-    // ("lock" NAME HOLDER), with a field for the holder: `*` for any.
-    fn template(self, alloc: Global, holder: Field<Global>) -> Result<Template<Global>, Fault> {
-        let mut template = Template::new_in(alloc);
-        for word in ["lock", self.name] {
-            template.push(Field::Actual(text(alloc, word)?))?;
-        }
-        template.push(holder)?;
+    // ("lock" NAME *)
+    fn of_anyone(self, alloc: Global) -> Result<Template<Global>, Fault> {
+        let mut template = template_of(alloc, &["lock", self.name])?;
+        template.push(Field::Any)?;
         Ok(template)
     }
+}
+
+// The template of these texts.
+fn template_of(alloc: Global, words: &[&str]) -> Result<Template<Global>, Fault> {
+    let mut template = Template::new_in(alloc);
+    put_fields(alloc, words, &mut template)?;
+    Ok(template)
+}
+
+fn put_values(alloc: Global, words: &[&str], tuple: &mut Tuple<Global>) -> Result<(), Fault> {
+    for word in words {
+        tuple.push(Value::Atom(text(alloc, word)?))?;
+    }
+    Ok(())
+}
+
+fn put_fields(alloc: Global, words: &[&str], template: &mut Template<Global>) -> Result<(), Fault> {
+    for word in words {
+        template.push(Field::Actual(text(alloc, word)?))?;
+    }
+    Ok(())
 }
 
 fn text(alloc: Global, word: &str) -> Result<Atom<Global>, Fault> {

@@ -109,10 +109,26 @@ fn take_clients<N: Naming + Send + Sync + 'static>(
     clients: &mut Vec<ClientHandle<N>>,
 ) -> Result<(), Fault> {
     for number in 0..CLIENTS {
-        let client = cluster.client(number).ok_or(Fault::NoClient)?;
-        clients.push(client)?;
+        take_client(cluster, clients, number)?;
     }
     Ok(())
+}
+
+// There is room before the handle is taken, so it is never dropped: a drop of it would reach all that a replica has,
+// and each type there costs a proof.
+fn take_client<N: Naming + Send + Sync + 'static>(
+    cluster: &mut Cluster<N>,
+    clients: &mut Vec<ClientHandle<N>>,
+    number: u16,
+) -> Result<(), Fault> {
+    clients.reserve(1)?;
+    match cluster.client(number) {
+        Some(client) => {
+            clients.push_reserved(client);
+            Ok(())
+        }
+        None => Err(Fault::NoClient),
+    }
 }
 
 fn ask<N: Naming, R: Print + Wait>(
@@ -122,12 +138,12 @@ fn ask<N: Naming, R: Print + Wait>(
     lock: Lock<'_>,
     name: &str,
 ) -> Result<(), Fault> {
-    if lock.acquire(rt, alloc, client, name)? {
-        println!(rt; "{name} holds the lock")?;
+    let said = if lock.acquire(rt, alloc, client, name)? {
+        "holds the lock"
     } else {
-        println!(rt; "{name} has to wait")?;
-    }
-    Ok(())
+        "has to wait"
+    };
+    Ok(println!(rt; "{name} {said}")?)
 }
 
 fn let_go<N: Naming, R: Print + Wait>(
@@ -137,10 +153,10 @@ fn let_go<N: Naming, R: Print + Wait>(
     lock: Lock<'_>,
     name: &str,
 ) -> Result<(), Fault> {
-    if lock.release(rt, alloc, client, name)? {
-        println!(rt; "{name} lets go")?;
+    let said = if lock.release(rt, alloc, client, name)? {
+        "lets go"
     } else {
-        println!(rt; "{name} did not hold it")?;
-    }
-    Ok(())
+        "did not hold it"
+    };
+    Ok(println!(rt; "{name} {said}")?)
 }

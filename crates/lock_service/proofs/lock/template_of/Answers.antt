@@ -1,0 +1,5 @@
+use Rattle.std.proofs.Common.{refl}
+use Rattle.lock_service.proofs.lock.template_of.Goals as goal
+
+pub same-template : goal.same-template
+same-template c = refl
