@@ -1,6 +1,6 @@
 //! Runs in which all are correct. The positions of points in longer traces come from an implementation in Python.
 
-use crate::runs::{Check, Part, Run, comes_out, first_wrong};
+use crate::runs::{Check, Part, Run, come_out};
 use crate::worlds::{ONE_CLIENT, TWENTY_CLIENTS, TWO_CLIENTS};
 
 // Counted by the protocol: a request, a pre-prepare, three prepares, four commits and four replies are sent, and got 4,
@@ -13,7 +13,7 @@ use crate::worlds::{ONE_CLIENT, TWENTY_CLIENTS, TWO_CLIENTS};
 //
 // A write acts when a third replica executes it. A read acts when it is called if all replicas have executed the state
 // that it reads.
-static WRITE_AND_READ: Run<'static> = Run {
+const WRITE_AND_READ: Run<'static> = Run {
     world: ONE_CLIENT,
     parts: &[Part::Lines(&["invoke 0 out (1)", "flush", "invoke 0 rdp (*)", "flush"])],
     refused: None,
@@ -30,12 +30,8 @@ static WRITE_AND_READ: Run<'static> = Run {
     ],
 };
 
-#[test]
-fn a_write_has_51_entries_and_a_read_15(rt: HostRuntime) {
-    assert!(rt; comes_out(rt.alloc(), &WRITE_AND_READ));
-}
-
-static CASES: [Run<'static>; 6] = [
+static CASES: [Run<'static>; 7] = [
+    WRITE_AND_READ,
     Run {
         world: TWO_CLIENTS,
         parts: &[Part::Lines(&[])],
@@ -149,7 +145,7 @@ static CASES: [Run<'static>; 6] = [
 
 #[test]
 fn answers(rt: HostRuntime) {
-    assert_eq!(rt; first_wrong(rt.alloc(), &CASES), None);
+    come_out(&rt, rt.alloc(), &CASES);
 }
 
 // A call whose frames are delivered twice and backwards: those of each kind that were made, the last one first, from
@@ -159,22 +155,82 @@ fn answers(rt: HostRuntime) {
 // by frames 10 to 13.
 const CALL: Part<'static> = Part::Lines(&["invoke 0 out (1)"]);
 
-const BACKWARDS: Part<'static> = Part::Twice(&[
-    (0, &[3, 2, 1, 0]),
-    (2, &[3, 2, 1]),
-    (1, &[3, 2, 1]),
-    (5, &[3, 2, 0]),
-    (4, &[3, 1, 0]),
-    (3, &[2, 1, 0]),
-    (9, &[3, 2, 1]),
-    (8, &[3, 2, 0]),
-    (7, &[3, 1, 0]),
-    (6, &[2, 1, 0]),
-    (13, &[256]),
-    (12, &[256]),
-    (11, &[256]),
-    (10, &[256]),
-]);
+const BACKWARDS: Part<'static> = Part::Walk(&[(
+    0,
+    &[],
+    &[
+        (0, 3),
+        (0, 3),
+        (0, 2),
+        (0, 2),
+        (0, 1),
+        (0, 1),
+        (0, 0),
+        (0, 0),
+        (2, 3),
+        (2, 3),
+        (2, 2),
+        (2, 2),
+        (2, 1),
+        (2, 1),
+        (1, 3),
+        (1, 3),
+        (1, 2),
+        (1, 2),
+        (1, 1),
+        (1, 1),
+        (5, 3),
+        (5, 3),
+        (5, 2),
+        (5, 2),
+        (5, 0),
+        (5, 0),
+        (4, 3),
+        (4, 3),
+        (4, 1),
+        (4, 1),
+        (4, 0),
+        (4, 0),
+        (3, 2),
+        (3, 2),
+        (3, 1),
+        (3, 1),
+        (3, 0),
+        (3, 0),
+        (9, 3),
+        (9, 3),
+        (9, 2),
+        (9, 2),
+        (9, 1),
+        (9, 1),
+        (8, 3),
+        (8, 3),
+        (8, 2),
+        (8, 2),
+        (8, 0),
+        (8, 0),
+        (7, 3),
+        (7, 3),
+        (7, 1),
+        (7, 1),
+        (7, 0),
+        (7, 0),
+        (6, 2),
+        (6, 2),
+        (6, 1),
+        (6, 1),
+        (6, 0),
+        (6, 0),
+        (13, 256),
+        (13, 256),
+        (12, 256),
+        (12, 256),
+        (11, 256),
+        (11, 256),
+        (10, 256),
+        (10, 256),
+    ],
+)]);
 
 // The steps after that call, whose tuple is there once.
 static BEHIND: [Run<'static>; 3] = [
@@ -216,7 +272,7 @@ static BEHIND: [Run<'static>; 3] = [
 
 #[test]
 fn frames_that_come_twice_and_backwards(rt: HostRuntime) {
-    assert_eq!(rt; first_wrong(rt.alloc(), &BEHIND), None);
+    come_out(&rt, rt.alloc(), &BEHIND);
 }
 
 const ALL: &str =
@@ -224,7 +280,7 @@ const ALL: &str =
 
 // Calls of 20 clients, and then a read of all that they put in. While numbers 1 and 2 are on their way no other one is
 // free; then 16 requests fit into a batch.
-static TWENTY: Run<'static> = Run {
+const TWENTY: Run<'static> = Run {
     world: TWENTY_CLIENTS,
     parts: &[
         Part::Lines(&[
@@ -259,20 +315,17 @@ static TWENTY: Run<'static> = Run {
     ],
 };
 
-#[test]
-fn twenty_calls_at_once(rt: HostRuntime) {
-    assert!(rt; comes_out(rt.alloc(), &TWENTY));
-}
-
 // The marks reach 32 numbers, and move with each checkpoint. An unanswered call would end the calls of the client.
-static MANY: Run<'static> = Run {
+const MANY: Run<'static> = Run {
     world: ONE_CLIENT,
     parts: &[Part::Repeated(70, &["invoke 0 out (1)", "flush"])],
     refused: None,
     checks: &[Check::Accepted(70)],
 };
 
+static MANY_CALLS: [Run<'static>; 2] = [TWENTY, MANY];
+
 #[test]
-fn numbers_go_on(rt: HostRuntime) {
-    assert!(rt; comes_out(rt.alloc(), &MANY));
+fn many_calls(rt: HostRuntime) {
+    come_out(&rt, rt.alloc(), &MANY_CALLS);
 }

@@ -1,25 +1,18 @@
 //! Checkpoints, marks that move, and a replica that fetches the state of the others.
 
-use crate::frames::{Made, OUT_5};
 use crate::reports::{FETCH, NUMBER_ASKED, OF_THREE_RECEIVERS, PRE_PREPARE};
-use crate::runs::{Check, Part, Run, comes_out, first_wrong};
+use crate::runs::{Check, Part, Run, come_out};
 use crate::worlds::{
     CLIENT_OF_PERIOD_1, CLIENT_OF_PERIOD_2, ONE_CLIENT_OF_PERIOD_2, THREE_CLIENTS_OF_PERIOD_1,
 };
-use test_bytes::ORDERED;
 
 // A call has 51 entries. At number 2 four checkpoints are sent, and each is got by three others.
-static TWO: Run<'static> = Run {
+const TWO: Run<'static> = Run {
     world: ONE_CLIENT_OF_PERIOD_2,
     parts: &[Part::Lines(&["invoke 0 out (1)", "flush", "invoke 0 out (2)", "flush"])],
     refused: None,
     checks: &[Check::Entries(2 * 51 + 4 + 12)],
 };
-
-#[test]
-fn a_checkpoint_at_each_second_number(rt: HostRuntime) {
-    assert!(rt; comes_out(rt.alloc(), &TWO));
-}
 
 // Three clients' requests come to the primary.
 const THREE: Part<'static> = Part::Lines(&[
@@ -31,8 +24,9 @@ const THREE: Part<'static> = Part::Lines(&[
     "deliver 2 r0",
 ]);
 
-// With a period of 1 there are two numbers for them. When number 1 is stable, there is one for the third.
-static NUMBERED: [Run<'static>; 2] = [
+static NUMBERED: [Run<'static>; 3] = [
+    TWO,
+    // With a period of 1 there are two numbers for them. When number 1 is stable, there is one for the third.
     Run {
         world: THREE_CLIENTS_OF_PERIOD_1,
         parts: &[THREE],
@@ -52,19 +46,21 @@ static NUMBERED: [Run<'static>; 2] = [
 ];
 
 #[test]
-fn three_requests_and_two_numbers(rt: HostRuntime) {
-    assert_eq!(rt; first_wrong(rt.alloc(), &NUMBERED), None);
+fn numbers_and_checkpoints(rt: HostRuntime) {
+    come_out(&rt, rt.alloc(), &NUMBERED);
 }
 
 // Client 1, which is faulty, makes the request `out (5)` with MACs for replicas 0, 1 and 2 alone. So replica 3 doesn't
 // take its batch, and lags.
-const FOR_THREE: Part<'static> = Part::Made(Made::Request((1, 1, ORDERED, OUT_5), &[0, 1, 2]));
+const FOR_THREE: Part<'static> = Part::Lines(&[
+    "seal c1 r0,r1,r2 4101010000000000000001002101010000000000000005",
+]);
 
 // The root differs, and in three inner parts the pages of the tuple, of client 1 and of the header. Each place is the
 // number of the state, the level and the index.
 const OF_ONE: Check<'static> = Check::Texts(
     (3, FETCH, NUMBER_ASKED),
-    OF_THREE_RECEIVERS,
+    Some(OF_THREE_RECEIVERS),
     &[
         &[1, 0, 0, 0],
         &[1, 1, 0, 0],
@@ -79,7 +75,7 @@ const OF_ONE: Check<'static> = Check::Texts(
 // With a period of 2 it has the next number's batch, but not the one before it, and fetches the state of both.
 const OF_TWO: Check<'static> = Check::Texts(
     (3, FETCH, NUMBER_ASKED),
-    OF_THREE_RECEIVERS,
+    Some(OF_THREE_RECEIVERS),
     &[
         &[2, 0, 0, 0],
         &[2, 1, 0, 0],
@@ -116,6 +112,7 @@ static LAGGING: [Run<'static>; 2] = [
         checks: &[
             Check::Entries(3 + 9 + 27 + 3 + 3 + 7 * (1 + 3 + 3 + 3) + 1),
             OF_ONE,
+            Check::Sent(FETCH, 7),
             Check::Installs(1),
             Check::Execute(&[0, 1, 2], &[(1, 1)]),
             Check::Execute(&[3], &[]),
@@ -128,6 +125,7 @@ static LAGGING: [Run<'static>; 2] = [
         refused: None,
         checks: &[
             OF_TWO,
+            Check::Sent(FETCH, 9),
             Check::Installs(2),
             Check::Execute(&[0, 1, 2], &[(1, 1), (2, 1), (3, 1)]),
             Check::Execute(&[3], &[(3, 1)]),
@@ -138,5 +136,5 @@ static LAGGING: [Run<'static>; 2] = [
 
 #[test]
 fn a_replica_that_lags(rt: HostRuntime) {
-    assert_eq!(rt; first_wrong(rt.alloc(), &LAGGING), None);
+    come_out(&rt, rt.alloc(), &LAGGING);
 }

@@ -1,42 +1,27 @@
 //! Frames with a MAC that was changed on the way count for nothing.
 
 use crate::reports::sent;
-use crate::runs::{Check, Run, steps_come_out};
-use crate::worlds::{ONE_CLIENT, config_of, put_steps};
-use events::{Config, Entry, EntryKind};
+use crate::runs::{Check, Run, is_delivery_put, steps_come_out};
+use crate::worlds::{ONE_CLIENT, are_put, config_of};
+use events::{Entry, EntryKind};
 use schedule_text::Step;
-use schedule_world::{Report, run};
+use schedule_world::{Report, RunFault, run};
 use std::alloc::Global;
-use terms::{NoMemory, Party};
+use terms::Party;
 
-// The place after the MAC for the party. A frame ends with up to ten receivers, each before its MAC: 34 bytes each.
-fn mac_end(frame: &[u8], party: Party) -> Option<usize> {
-    let [high, low] = party.number().to_be_bytes();
-    let mut end = frame.len();
-    for _ in 0..10 {
-        let start = end.checked_sub(34)?;
-        if frame.get(start).copied() == Some(high)
-            && frame.get(start.saturating_add(1)).copied() == Some(low)
-        {
-            return Some(end);
-        }
-        end = start;
-    }
-    None
-}
-
-// Changes the last byte of the MAC for the party, and answers whether there is one.
+// Changes the last byte of the MAC for the party, and answers whether there is one. A frame ends with its
+// receivers, each before its MAC: 34 bytes each.
 fn forge(frame: &mut [u8], party: Party) -> bool {
-    let Some(end) = mac_end(frame, party) else {
-        return false;
-    };
-    match frame.get_mut(end.saturating_sub(1)) {
-        Some(last) => {
-            *last = last.wrapping_add(1);
-            true
+    let number = party.number().to_be_bytes();
+    for receiver in frame.rchunks_exact_mut(34) {
+        if receiver.starts_with(&number) {
+            if let Some(last) = receiver.last_mut() {
+                *last = last.wrapping_add(1);
+            }
+            return true;
         }
-        None => false,
     }
+    false
 }
 
 // The number of a frame that was sent.
@@ -53,69 +38,59 @@ fn number_of(report: &Report, wanted: &[u8]) -> Option<u64> {
     None
 }
 
-// The party gets the frame of this number, forged and then as it is.
-fn put_twice(
-    alloc: Global,
-    number: u64,
-    frame: &[u8],
-    party: Party,
-    steps: &mut Vec<Step>,
-) -> Result<bool, NoMemory> {
-    let mut bytes = Vec::from_slice(alloc, frame)?;
-    if !forge(bytes.as_mut_slice(), party) {
-        return Ok(false);
-    }
-    steps.push(Step::Feed { party, bytes })?;
-    steps.push(Step::Deliver {
-        frame: number,
-        party,
-    })?;
-    Ok(true)
+fn is_forgery_put(alloc: Global, frame: &[u8], party: Party, steps: &mut Vec<Step>) -> bool {
+    let Ok(()) = steps.reserve(1) else {
+        return false;
+    };
+    let Ok(mut bytes) = Vec::from_slice(alloc, frame) else {
+        return false;
+    };
+    let is_forged = forge(bytes.as_mut_slice(), party);
+    steps.push_reserved(Step::Feed { party, bytes });
+    is_forged
 }
 
-fn put_got(
+// The party gets the frame, forged and then as it is.
+fn are_both_put(
     alloc: Global,
     report: &Report,
-    frame: &[u8],
+    bytes: &[u8],
     party: Party,
     steps: &mut Vec<Step>,
-) -> Result<bool, NoMemory> {
-    match number_of(report, frame) {
-        Some(number) => put_twice(alloc, number, frame, party, steps),
-        None => Ok(false),
-    }
+) -> bool {
+    let Some(frame) = number_of(report, bytes) else {
+        return false;
+    };
+    is_forgery_put(alloc, bytes, party, steps) && is_delivery_put(frame, party, steps)
 }
 
 // The two calls of client 0.
-fn put_call(alloc: Global, timestamp: u64, steps: &mut Vec<Step>) -> Result<bool, NoMemory> {
+fn is_call_put(alloc: Global, timestamp: u64, steps: &mut Vec<Step>) -> bool {
     if timestamp == 1 {
-        put_steps(alloc, &["invoke 0 out (1)"], steps)
+        are_put(alloc, &["invoke 0 out (1)"], steps)
     } else {
-        put_steps(alloc, &["invoke 0 rdp (*)"], steps)
+        are_put(alloc, &["invoke 0 rdp (*)"], steps)
     }
 }
 
-fn put_entry(
-    alloc: Global,
-    report: &Report,
-    entry: &Entry,
-    steps: &mut Vec<Step>,
-) -> Result<bool, NoMemory> {
+fn is_entry_put(alloc: Global, report: &Report, entry: &Entry, steps: &mut Vec<Step>) -> bool {
     match entry.kind() {
-        EntryKind::Invoke(_, timestamp, _) => put_call(alloc, timestamp.0, steps),
-        EntryKind::Got(party, frame) => { put_got(alloc, report, frame.as_slice(), *party, steps) }
-        _ => Ok(true),
+        EntryKind::Invoke(_, timestamp, _) => is_call_put(alloc, timestamp.0, steps),
+        EntryKind::Got(party, frame) => {
+            are_both_put(alloc, report, frame.as_slice(), *party, steps)
+        }
+        _ => true,
     }
 }
 
 // The calls of a run and its deliveries, in its order, with a forgery of each frame before it.
-fn put_forged(alloc: Global, report: &Report, steps: &mut Vec<Step>) -> Result<bool, NoMemory> {
+fn are_forged_put(alloc: Global, report: &Report, steps: &mut Vec<Step>) -> bool {
     for entry in report.trace.as_slice() {
-        if !put_entry(alloc, report, entry, steps)? {
-            return Ok(false);
+        if !is_entry_put(alloc, report, entry, steps) {
+            return false;
         }
     }
-    Ok(true)
+    true
 }
 
 // Without forged frames there are 66 entries, of which 40 are of frames that are got. The positions come from an
@@ -135,36 +110,27 @@ static FORGED: Run<'static> = Run {
     ],
 };
 
-fn are_dropped_in(alloc: Global, plain: &Report) -> bool {
-    let mut steps = Vec::new(alloc);
-    let is_right = put_forged(alloc, plain, &mut steps) == Ok(true)
-        && steps_come_out(alloc, &FORGED, steps.as_slice());
-    drop(steps);
-    is_right
-}
-
 static LINES: [&str; 4] = ["invoke 0 out (1)", "flush", "invoke 0 rdp (*)", "flush"];
 
-fn are_dropped_behind(alloc: Global, config: &Config, steps: &[Step]) -> bool {
-    match run(alloc, config, steps) {
-        Ok(plain) => are_dropped_in(alloc, &plain),
-        Err(_) => false,
-    }
+fn are_dropped_in(alloc: Global, ended: &Result<Report, RunFault>) -> bool {
+    let Ok(plain) = ended else {
+        return false;
+    };
+    let mut steps = Vec::new(alloc);
+    are_forged_put(alloc, plain, &mut steps) && steps_come_out(alloc, &FORGED, steps.as_slice())
 }
 
 fn are_dropped_after(alloc: Global, steps: &[Step]) -> bool {
-    match config_of(alloc, &FORGED.world) {
-        Some(config) => are_dropped_behind(alloc, &config, steps),
-        None => false,
-    }
+    let Some(config) = config_of(alloc, &FORGED.world) else {
+        return false;
+    };
+    let ended = run(alloc, &config, steps);
+    are_dropped_in(alloc, &ended)
 }
 
 fn are_dropped(alloc: Global) -> bool {
     let mut steps = Vec::new(alloc);
-    let is_right = put_steps(alloc, &LINES, &mut steps) == Ok(true)
-        && are_dropped_after(alloc, steps.as_slice());
-    drop(steps);
-    is_right
+    are_put(alloc, &LINES, &mut steps) && are_dropped_after(alloc, steps.as_slice())
 }
 
 #[test]

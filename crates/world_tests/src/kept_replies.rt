@@ -2,7 +2,7 @@
 //! kept.
 
 use crate::reports::{NUMBER, REPLY};
-use crate::runs::{Check, Part, Run, comes_out};
+use crate::runs::{Check, Part, Run, come_out};
 use crate::worlds::TWO_CLIENTS_OF_PERIOD_2;
 
 // A call makes 13 frames: the request, the pre-prepare, three prepares and four commits, and four replies, which stay
@@ -12,7 +12,7 @@ use crate::worlds::TWO_CLIENTS_OF_PERIOD_2;
 //
 // The calls' numbers are 1 and 2, and the read is answered from the state of number 2. The late answer acted early,
 // and once. The positions come from an implementation in Python.
-static ASKING_AGAIN: Run<'static> = Run {
+static ASKING_AGAIN: [Run<'static>; 1] = [Run {
     world: TWO_CLIENTS_OF_PERIOD_2,
     parts: &[
         Part::Lines(&["invoke 0 out (1)"]),
@@ -32,10 +32,10 @@ static ASKING_AGAIN: Run<'static> = Run {
     ],
     refused: None,
     checks: &[
-        Check::Bytes((0, REPLY, NUMBER), &[1, 2, 1, 2]),
-        Check::Bytes((1, REPLY, NUMBER), &[1, 2, 1, 2]),
-        Check::Bytes((2, REPLY, NUMBER), &[1, 2, 1, 2]),
-        Check::Bytes((3, REPLY, NUMBER), &[1, 2, 1, 2]),
+        Check::Texts((0, REPLY, NUMBER), None, &[&[1], &[2], &[1], &[2]]),
+        Check::Texts((1, REPLY, NUMBER), None, &[&[1], &[2], &[1], &[2]]),
+        Check::Texts((2, REPLY, NUMBER), None, &[&[1], &[2], &[1], &[2]]),
+        Check::Texts((3, REPLY, NUMBER), None, &[&[1], &[2], &[1], &[2]]),
         Check::Accepts(&[(1, 1, "done"), (0, 1, "done"), (0, 2, "all 2 (1) (2)")]),
         Check::Points(&[
             (45, 0, 1, "out (1)", "done"),
@@ -43,9 +43,9 @@ static ASKING_AGAIN: Run<'static> = Run {
             (164, 0, 2, "rdAll 64 (*)", "all 2 (1) (2)"),
         ]),
     ],
-};
+}];
 
 #[test]
 fn kept_replies_are_sent_again(rt: HostRuntime) {
-    assert!(rt; comes_out(rt.alloc(), &ASKING_AGAIN));
+    come_out(&rt, rt.alloc(), &ASKING_AGAIN);
 }

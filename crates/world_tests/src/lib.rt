@@ -12,8 +12,6 @@ mod checkpoints;
 #[cfg(test)]
 mod forged;
 #[cfg(test)]
-mod frames;
-#[cfg(test)]
 mod kept_replies;
 #[cfg(test)]
 mod left_behind;

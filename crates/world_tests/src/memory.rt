@@ -1,12 +1,11 @@
 //! Memory refused in a run. In a plain run nothing is refused here. `tools/growths` refuses each growth in turn: a
 //! party that lacks memory stops, and the answers that the others accept are right.
 
-use crate::worlds::{World, config_of, put_steps};
+use crate::worlds::{World, are_put, config_of};
 use events::{Config, EntryKind};
 use schedule_text::Step;
 use schedule_world::{Acceptance, Report, RunFault, run};
 use std::alloc::Global;
-use terms::NoMemory;
 use tuple_codec::Answer;
 use tuple_text::write_answer;
 
@@ -44,25 +43,27 @@ fn config(alloc: Global) -> Option<Config> {
 }
 
 // The steps of these lines, at the second try if memory ran out at the first one.
-fn are_put(alloc: Global, lines: &[&str], steps: &mut Vec<Step>) -> bool {
-    if put_steps(alloc, lines, steps) == Ok(true) {
+fn are_put_at_last(alloc: Global, lines: &[&str], steps: &mut Vec<Step>) -> bool {
+    if are_put(alloc, lines, steps) {
         return true;
     }
     steps.clear();
-    put_steps(alloc, lines, steps) == Ok(true)
+    are_put(alloc, lines, steps)
 }
 
-// Whether the answer has this text.
-fn has_text(alloc: Global, answer: &Answer<Global>, wanted: &str) -> Result<bool, NoMemory> {
+// Whether the answer has this text. None if memory ran out.
+fn has_text(alloc: Global, answer: &Answer<Global>, wanted: &str) -> Option<bool> {
     let mut text = Vec::new(alloc);
-    write_answer(answer, &mut text)?;
-    Ok(text.as_slice() == wanted.as_bytes())
+    match write_answer(answer, &mut text) {
+        Ok(()) => Some(text.as_slice() == wanted.as_bytes()),
+        Err(_) => None,
+    }
 }
 
 fn is_answer(alloc: Global, answer: &Answer<Global>, wanted: &str) -> bool {
     match has_text(alloc, answer, wanted) {
-        Ok(has) => has,
-        Err(NoMemory) => has_text(alloc, answer, wanted) == Ok(true),
+        Some(has) => has,
+        None => has_text(alloc, answer, wanted).unwrap_or(false),
     }
 }
 
@@ -90,9 +91,9 @@ fn are_right(alloc: Global, report: &Report) -> bool {
     }
 }
 
-fn is_right_or_refused_in(alloc: Global, config: &Config, steps: &[Step]) -> bool {
-    match run(alloc, config, steps) {
-        Ok(report) => are_right(alloc, &report),
+fn is_right_or_refused(alloc: Global, ended: &Result<Report, RunFault>) -> bool {
+    match ended {
+        Ok(report) => are_right(alloc, report),
         Err(RunFault::NoMemory) => true,
         Err(RunFault::BadSchedule { .. }) => false,
     }
@@ -131,36 +132,35 @@ fn is_open(step: usize, before: &Report) -> bool {
     step == AGAIN && !before.stopped.is_empty() && !second_call(before).0
 }
 
-fn is_called_or_open_in(alloc: Global, config: &Config, steps: &[Step]) -> bool {
-    match run(alloc, config, steps) {
-        Ok(report) => is_called(&report),
+fn is_called_or_open(ended: &Result<Report, RunFault>) -> bool {
+    match ended {
+        Ok(report) => is_called(report),
         Err(RunFault::NoMemory) => true,
-        Err(RunFault::BadSchedule { step, before }) => is_open(step, &before),
+        Err(RunFault::BadSchedule { step, before }) => is_open(*step, before),
     }
 }
 
-// A run of these steps, in which client 0 calls again or not.
-fn is_right_after(alloc: Global, steps: &[Step], calls_again: bool) -> bool {
-    match config(alloc) {
-        Some(config) => {
-            let is_right = if calls_again {
-                is_called_or_open_in(alloc, &config, steps)
-            } else {
-                is_right_or_refused_in(alloc, &config, steps)
-            };
-            drop(config);
-            is_right
-        }
-        None => false,
+// Whether the run in which client 0 calls again or not came out right.
+fn is_end_right(alloc: Global, ended: &Result<Report, RunFault>, calls_again: bool) -> bool {
+    if calls_again {
+        is_called_or_open(ended)
+    } else {
+        is_right_or_refused(alloc, ended)
     }
+}
+
+fn is_right_after(alloc: Global, steps: &[Step], calls_again: bool) -> bool {
+    let Some(config) = config(alloc) else {
+        return false;
+    };
+    let ended = run(alloc, &config, steps);
+    is_end_right(alloc, &ended, calls_again)
 }
 
 fn is_right(alloc: Global, lines: &[&str], calls_again: bool) -> bool {
     let mut steps = Vec::new(alloc);
-    let is_right = are_put(alloc, lines, &mut steps)
-        && is_right_after(alloc, steps.as_slice(), calls_again);
-    drop(steps);
-    is_right
+    are_put_at_last(alloc, lines, &mut steps)
+        && is_right_after(alloc, steps.as_slice(), calls_again)
 }
 
 #[test]

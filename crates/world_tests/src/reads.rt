@@ -1,11 +1,14 @@
 //! Reads while a write is under way, reads that are asked for twice, and requests of a client that replicas don't
 //! answer. The positions of points come from an implementation in Python.
 
-use crate::frames::Made;
 use crate::reports::{MODE, REQUEST};
-use crate::runs::{Check, Part, Run, comes_out, first_wrong};
+use crate::runs::{Check, Part, Run, come_out};
 use crate::worlds::{BACKUP_AND_TWO_CLIENTS, CLIENT, TWO_CLIENTS};
-use test_bytes::{ABSENT, DONE, ORDERED, READ, READ_ONLY, TAKE};
+
+// The modes of a request: that it is answered at once, and in the order.
+const READ_ONLY: &[u8] = &[1];
+
+const ORDERED: &[u8] = &[0];
 
 // Client 0 puts a tuple. The primary and two backups come to commit it, and with their commits replica 0 executes it.
 // Its reply is frame 7.
@@ -23,7 +26,9 @@ const AT_ONE: Part<'static> = Part::Lines(&[
 ]);
 
 // Replica 3, which is faulty, sends an equal reply.
-const LIKE: Part<'static> = Part::Made(Made::Reply(0, (1, ORDERED, 1, DONE)));
+const LIKE: Part<'static> = Part::Lines(&[
+    "seal r3 c0 4800030100000000000000000100000000000000000131",
+]);
 
 const BOTH_REPLIES: Part<'static> = Part::Lines(&["deliver 7 c0", "deliver 8 c0"]);
 
@@ -34,7 +39,9 @@ const AT_TWO_REPLICAS: Part<'static> = Part::Lines(&[
     "deliver 9 r2",
 ]);
 
-const AS_THEY_DO: Part<'static> = Part::Made(Made::Reply(1, (1, READ_ONLY, 0, ABSENT)));
+const AS_THEY_DO: Part<'static> = Part::Lines(&[
+    "seal r3 c1 4800030101000000000000000101000000000000000033",
+]);
 
 const THREE_REPLIES: Part<'static> = Part::Lines(&[
     "deliver 10 c1",
@@ -92,7 +99,7 @@ static UNFINISHED: [Run<'static>; 3] = [
 
 #[test]
 fn a_read_beside_a_write(rt: HostRuntime) {
-    assert_eq!(rt; first_wrong(rt.alloc(), &UNFINISHED), None);
+    come_out(&rt, rt.alloc(), &UNFINISHED);
 }
 
 // Replica 1 executes the tuple too, and client 1 reads.
@@ -109,14 +116,15 @@ const TWO_AND_TWO: Part<'static> = Part::Lines(&[
     "deliver 12 c1",
 ]);
 
-// At the fourth reply client 1 asks in the order. Then it accepts the answer of number 2, and the read is there once.
-static FALLBACKS: [Run<'static>; 3] = [
+static FALLBACKS: [Run<'static>; 5] = [
+    // At the fourth reply client 1 asks in the order. Then it accepts the answer of number 2, and the read is there
+    // once.
     Run {
         world: TWO_CLIENTS,
         parts: &[AT_ONE, AT_TWO, TWO_AND_TWO],
         refused: None,
         checks: &[
-            Check::Bytes((257, REQUEST, MODE), &[READ_ONLY]),
+            Check::Texts((257, REQUEST, MODE), None, &[READ_ONLY]),
             Check::Accepts(&[]),
             Check::Points(&[]),
         ],
@@ -126,7 +134,7 @@ static FALLBACKS: [Run<'static>; 3] = [
         parts: &[AT_ONE, AT_TWO, TWO_AND_TWO, Part::Lines(&["deliver 13 c1"])],
         refused: None,
         checks: &[
-            Check::Bytes((257, REQUEST, MODE), &[READ_ONLY, ORDERED]),
+            Check::Texts((257, REQUEST, MODE), None, &[READ_ONLY, ORDERED]),
             Check::Accepts(&[]),
             Check::Points(&[]),
         ],
@@ -141,7 +149,7 @@ static FALLBACKS: [Run<'static>; 3] = [
         ],
         refused: None,
         checks: &[
-            Check::Bytes((257, REQUEST, MODE), &[READ_ONLY, ORDERED]),
+            Check::Texts((257, REQUEST, MODE), None, &[READ_ONLY, ORDERED]),
             Check::Accepts(&[(0, 1, "done"), (1, 1, "found (1)")]),
             Check::Points(&[
                 (50, 0, 1, "out (1)", "done"),
@@ -149,27 +157,29 @@ static FALLBACKS: [Run<'static>; 3] = [
             ]),
         ],
     },
+    THREE_ANSWERS,
+    IN_TIME,
 ];
 
 #[test]
-fn a_read_of_two_states(rt: HostRuntime) {
-    assert_eq!(rt; first_wrong(rt.alloc(), &FALLBACKS), None);
+fn reads_that_fall_back(rt: HostRuntime) {
+    come_out(&rt, rt.alloc(), &FALLBACKS);
 }
 
 // Replica 3, which is faulty, answers from number 1 too, and differently; replica 2 answers from number 0.
-static THREE_ANSWERS: Run<'static> = Run {
+const THREE_ANSWERS: Run<'static> = Run {
     world: BACKUP_AND_TWO_CLIENTS,
     parts: &[
         AT_ONE,
         AT_TWO,
         Part::Lines(&["deliver 9 r0", "deliver 9 r1", "deliver 9 r2"]),
-        Part::Made(Made::Reply(1, (1, READ_ONLY, 1, ABSENT))),
+        Part::Lines(&["seal r3 c1 4800030101000000000000000101000000000000000133"]),
         THREE_REPLIES,
         Part::Lines(&["deliver 13 c1", "flush"]),
     ],
     refused: None,
     checks: &[
-        Check::Bytes((257, REQUEST, MODE), &[READ_ONLY, ORDERED]),
+        Check::Texts((257, REQUEST, MODE), None, &[READ_ONLY, ORDERED]),
         Check::Execute(&[0, 1, 2], &[(1, 1), (2, 1)]),
         Check::Accepts(&[(0, 1, "done"), (1, 1, "found (1)")]),
         Check::Points(&[
@@ -179,14 +189,9 @@ static THREE_ANSWERS: Run<'static> = Run {
     ],
 };
 
-#[test]
-fn a_read_with_three_answers(rt: HostRuntime) {
-    assert!(rt; comes_out(rt.alloc(), &THREE_ANSWERS));
-}
-
 // Time goes by for client 1, and it asks in the order. The replies to its first request end the call all the same, and
 // though the read is then executed too, it is there once.
-static IN_TIME: Run<'static> = Run {
+const IN_TIME: Run<'static> = Run {
     world: TWO_CLIENTS,
     parts: &[Part::Lines(&[
         "invoke 0 out (1)",
@@ -197,7 +202,7 @@ static IN_TIME: Run<'static> = Run {
     ])],
     refused: None,
     checks: &[
-        Check::Bytes((257, REQUEST, MODE), &[READ_ONLY, ORDERED]),
+        Check::Texts((257, REQUEST, MODE), None, &[READ_ONLY, ORDERED]),
         Check::Execute(&[0, 1, 2, 3], &[(1, 1), (2, 1)]),
         Check::Accepts(&[(0, 1, "done"), (1, 1, "found (1)")]),
         Check::AcceptedAt(&[49, 71]),
@@ -207,14 +212,6 @@ static IN_TIME: Run<'static> = Run {
         ]),
     ],
 };
-
-#[test]
-fn a_read_that_is_asked_for_twice(rt: HostRuntime) {
-    assert!(rt; comes_out(rt.alloc(), &IN_TIME));
-}
-
-// The operation `out (1)`, and a byte after it.
-const SPARE: &[u8] = b"\x21\x01\x01\0\0\0\0\0\0\0\x01\0";
 
 // All get the request of client 1, which is faulty, twice.
 const TWICE: Part<'static> = Part::Lines(&[
@@ -231,7 +228,7 @@ static ASKED: [Run<'static>; 4] = [
     Run {
         world: CLIENT,
         parts: &[
-            Part::Made(Made::Request((1, 1, READ_ONLY, READ), &[0, 1, 2, 3])),
+            Part::Lines(&["seal c1 r0,r1,r2,r3 410101000000000000000101220110"]),
             TWICE,
         ],
         refused: None,
@@ -243,7 +240,7 @@ static ASKED: [Run<'static>; 4] = [
     Run {
         world: CLIENT,
         parts: &[
-            Part::Made(Made::Request((1, 1, READ_ONLY, READ), &[1])),
+            Part::Lines(&["seal c1 r1 410101000000000000000101220110"]),
             TWICE,
         ],
         refused: None,
@@ -252,7 +249,7 @@ static ASKED: [Run<'static>; 4] = [
     Run {
         world: CLIENT,
         parts: &[
-            Part::Made(Made::Request((1, 1, READ_ONLY, TAKE), &[0, 1, 2, 3])),
+            Part::Lines(&["seal c1 r0,r1,r2,r3 410101000000000000000101230110"]),
             TWICE,
         ],
         refused: None,
@@ -261,7 +258,7 @@ static ASKED: [Run<'static>; 4] = [
     Run {
         world: CLIENT,
         parts: &[
-            Part::Made(Made::Request((1, 1, ORDERED, SPARE), &[0, 1, 2, 3])),
+            Part::Lines(&["seal c1 r0,r1,r2,r3 410101000000000000000100210101000000000000000100"]),
             TWICE,
         ],
         refused: None,
@@ -271,5 +268,5 @@ static ASKED: [Run<'static>; 4] = [
 
 #[test]
 fn requests_of_a_faulty_client(rt: HostRuntime) {
-    assert_eq!(rt; first_wrong(rt.alloc(), &ASKED), None);
+    come_out(&rt, rt.alloc(), &ASKED);
 }

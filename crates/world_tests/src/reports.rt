@@ -147,27 +147,37 @@ pub fn has_points(alloc: Global, report: &Report, rows: &[PointRow<'_>]) -> bool
     points.len() == rows.len()
 }
 
-// The replica and the batch, if the entry is an execution.
-fn execution(entry: &Entry) -> Option<(u8, Batch)> {
+fn is_executed_by(entry: &Entry, replica: u8) -> bool {
     match entry.kind() {
-        EntryKind::Executed(replica, number, batch) => {
-            let count = batch.first().copied()?;
-            Some((replica.0, (number.0, count)))
+        EntryKind::Executed(by, _, _) => by.0 == replica,
+        _ => false,
+    }
+}
+
+// Whether the entry is the execution of this batch.
+fn is_batch(entry: &Entry, wanted: Option<&Batch>) -> bool {
+    let Some((wanted, count)) = wanted else {
+        return false;
+    };
+    match entry.kind() {
+        EntryKind::Executed(_, number, batch) => {
+            number.0 == *wanted && batch.as_slice().first() == Some(count)
         }
-        _ => None,
+        _ => false,
     }
 }
 
 fn executes(report: &Report, replica: u8, batches: &[Batch]) -> bool {
-    let mut left = batches.iter();
+    let mut count = 0usize;
     for entry in report.trace.as_slice() {
-        if let Some((who, batch)) = execution(entry) {
-            if who == replica && left.next().copied() != Some(batch) {
+        if is_executed_by(entry, replica) {
+            if !is_batch(entry, batches.get(count)) {
                 return false;
             }
+            count = count.saturating_add(1);
         }
     }
-    left.next().is_none()
+    count == batches.len()
 }
 
 /// Whether each of these replicas executed these batches, in this order, and no others.
@@ -182,7 +192,7 @@ pub fn execute(report: &Report, replicas: &[u8], batches: &[Batch]) -> bool {
 
 fn is_executed_at(report: &Report, position: usize, replica: u8) -> bool {
     match report.trace.get(position) {
-        Some(entry) => execution(entry) == Some((replica, (1, 1))),
+        Some(entry) => is_executed_by(entry, replica) && is_batch(entry, Some(&(1, 1))),
         None => false,
     }
 }
@@ -219,9 +229,14 @@ pub fn sent(entry: &Entry) -> Option<(u16, &[u8])> {
     }
 }
 
-// The type byte of a frame.
-fn kind_of(frame: &[u8]) -> Option<u8> {
-    frame.get(4).copied()
+// Whether a frame of this type is sent; by this party, if one is named.
+fn is_of(entry: &Entry, party: Option<u16>, kind: u8) -> bool {
+    match sent(entry) {
+        Some((sender, frame)) => {
+            frame.get(4) == Some(&kind) && party.unwrap_or(sender) == sender
+        }
+        None => false,
+    }
 }
 
 /// Whether the parties that send a frame are these, one frame each.
@@ -241,50 +256,42 @@ pub fn senders_are(report: &Report, senders: &[u16]) -> bool {
 pub fn count_of(report: &Report, party: Option<u16>, kind: u8) -> usize {
     let mut count = 0usize;
     for entry in report.trace.as_slice() {
-        if let Some((sender, frame)) = sent(entry) {
-            if kind_of(frame) == Some(kind) && (party.is_none() || party == Some(sender)) {
-                count = count.saturating_add(1);
-            }
+        if is_of(entry, party, kind) {
+            count = count.saturating_add(1);
         }
     }
     count
 }
 
-/// Whether the frames of the type that the party sends have these bytes at the place, in this order, and there are no
-/// others.
-pub fn bytes_are(report: &Report, (party, kind, place): Cut, bytes: &[u8]) -> bool {
-    let mut left = bytes.iter();
-    for entry in report.trace.as_slice() {
-        if let Some((sender, frame)) = sent(entry) {
-            if sender == party && kind_of(frame) == Some(kind) && frame.get(place) != left.next() {
-                return false;
-            }
-        }
+// Whether the frame that is sent has this text at the place, and so many bytes after it if their number is given.
+fn has_text(entry: &Entry, place: usize, spare: Option<usize>, text: Option<&&[u8]>) -> bool {
+    let (Some((_, frame)), Some(text)) = (sent(entry), text) else {
+        return false;
+    };
+    match spare {
+        Some(spare) => frame.get(place..frame.len().saturating_sub(spare)) == Some(*text),
+        None => has_at(frame, place, text),
     }
-    left.next().is_none()
 }
 
-/// Whether all frames of the type are the party's, and have these texts from the place on, in this order, and so many
-/// bytes after them.
+/// Whether the frames of the type that the party sends have these texts from the place on, in this order, and so many
+/// bytes after them if their number is given, and there are no others.
 pub fn texts_are(
     report: &Report,
     (party, kind, place): Cut,
-    spare: usize,
+    spare: Option<usize>,
     texts: &[&[u8]],
 ) -> bool {
-    let mut left = texts.iter();
+    let mut count = 0usize;
     for entry in report.trace.as_slice() {
-        if let Some((sender, frame)) = sent(entry) {
-            if kind_of(frame) == Some(kind)
-                && (sender != party
-                    || frame.get(place..frame.len().saturating_sub(spare))
-                        != left.next().copied())
-            {
+        if is_of(entry, Some(party), kind) {
+            if !has_text(entry, place, spare, texts.get(count)) {
                 return false;
             }
+            count = count.saturating_add(1);
         }
     }
-    left.next().is_none()
+    count == texts.len()
 }
 
 // Whether the bytes have this text at the place.

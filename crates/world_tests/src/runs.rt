@@ -1,19 +1,18 @@
 //! Runs in tables: the world, the steps, and the properties of the report. One function makes a run and looks at it,
-//! so a test owns nothing.
+//! so a test owns nothing. Where memory runs out a run comes out otherwise.
 
-use crate::frames::{Made, party_of, put_made};
 use crate::reports::{
-    Batch, Cut, Got, PointRow, Row, accepts, are_accepted_at, are_got, bytes_are, count_of,
-    done_and_read, execute, executes_at, has_points, installs, senders_are, sends_last, texts_are,
+    Batch, Cut, Got, PointRow, Row, accepts, are_accepted_at, are_got, count_of, done_and_read,
+    execute, executes_at, has_points, installs, senders_are, sends_last, texts_are,
 };
-use crate::walks::{Leg, put_walk};
-use crate::worlds::{World, config_of, put_steps};
+use crate::worlds::{World, are_put, config_of, party_of};
 use events::Config;
 use schedule_text::Step;
 use schedule_world::{Report, RunFault, run};
 use std::alloc::Global;
 use std::ops::Range;
-use terms::NoMemory;
+use std::process::Abort;
+use terms::Party;
 
 /// Steps of a run. Parties stand there by their numbers.
 #[derive(Clone, Copy)]
@@ -24,15 +23,15 @@ pub enum Part<'a> {
     Repeated(usize, &'a [&'a str]),
     /// Each of these parties gets each frame from the first to the one before the second.
     Frames(u64, u64, &'a [u16]),
-    /// Frame by frame, each of the parties beside it gets it twice.
-    Twice(&'a [(u64, &'a [u16])]),
-    /// Time goes by at each of these.
-    Ticks(&'a [u16]),
-    /// A faulty party makes a frame.
-    Made(Made<'a>),
-    /// Replicas 0, 1 and 2 carry calls, and replica 3 may fetch the state.
+    /// Legs one after another.
     Walk(&'a [Leg<'a>]),
+    /// Faulty replica 3 makes a frame of no bytes for nobody, which no line can say.
+    ForNobody,
 }
+
+/// The steps of lines, and then frames that go to parties one by one. How many frames were made before the leg stands
+/// first, and each frame by how many more were made before it.
+pub type Leg<'a> = (u64, &'a [&'a str], &'a [(u64, u16)]);
 
 /// A property of a report.
 pub enum Check<'a> {
@@ -44,11 +43,9 @@ pub enum Check<'a> {
     SentBy(u16, u8, usize),
     /// These parties send the frames, one each.
     Senders(&'a [u16]),
-    /// The party's frames of a type have these bytes at a place, in this order.
-    Bytes(Cut, &'a [u8]),
-    /// All frames of the type are the party's, and have these texts from that place on, in this order, and so many
-    /// bytes after them.
-    Texts(Cut, usize, &'a [&'a [u8]]),
+    /// The party's frames of a type have these texts at a place, in this order, and so many bytes after them if their
+    /// number is given.
+    Texts(Cut, Option<usize>, &'a [&'a [u8]]),
     /// The last entry is a frame of this party, which has these bytes from this place on.
     Last(u16, usize, &'a [u8]),
     /// Each of these replicas executes these batches.
@@ -84,74 +81,86 @@ pub struct Run<'a> {
     pub checks: &'a [Check<'a>],
 }
 
-fn put_repeated(
-    alloc: Global,
-    times: usize,
-    lines: &[&str],
-    steps: &mut Vec<Step>,
-) -> Result<bool, NoMemory> {
+fn are_repeated(alloc: Global, times: usize, lines: &[&str], steps: &mut Vec<Step>) -> bool {
     for _ in 0..times {
-        if !put_steps(alloc, lines, steps)? {
-            return Ok(false);
+        if !are_put(alloc, lines, steps) {
+            return false;
         }
     }
-    Ok(true)
+    true
 }
 
-fn put_deliveries(
-    frames: Range<u64>,
-    parties: &[u16],
-    steps: &mut Vec<Step>,
-) -> Result<(), NoMemory> {
+/// Appends the delivery of a frame, and tells whether memory was enough.
+pub fn is_delivery_put(frame: u64, party: Party, steps: &mut Vec<Step>) -> bool {
+    let Ok(()) = steps.reserve(1) else {
+        return false;
+    };
+    steps.push_reserved(Step::Deliver { frame, party });
+    true
+}
+
+fn are_all_to(frame: u64, parties: &[u16], steps: &mut Vec<Step>) -> bool {
+    for party in parties {
+        if !is_delivery_put(frame, party_of(*party), steps) {
+            return false;
+        }
+    }
+    true
+}
+
+fn are_frames_put(frames: Range<u64>, parties: &[u16], steps: &mut Vec<Step>) -> bool {
     for frame in frames {
-        for party in parties {
-            let party = party_of(*party);
-            steps.push(Step::Deliver { frame, party })?;
+        if !are_all_to(frame, parties, steps) {
+            return false;
         }
     }
-    Ok(())
+    true
 }
 
-fn put_twice(frame: u64, parties: &[u16], steps: &mut Vec<Step>) -> Result<(), NoMemory> {
-    for party in parties {
-        let party = party_of(*party);
-        steps.push(Step::Deliver { frame, party })?;
-        steps.push(Step::Deliver { frame, party })?;
+fn are_put_behind(made: u64, rows: &[(u64, u16)], steps: &mut Vec<Step>) -> bool {
+    for (behind, party) in rows {
+        if !is_delivery_put(made.saturating_add(*behind), party_of(*party), steps) {
+            return false;
+        }
     }
-    Ok(())
+    true
 }
 
-fn put_each_twice(rows: &[(u64, &[u16])], steps: &mut Vec<Step>) -> Result<(), NoMemory> {
-    for (frame, parties) in rows {
-        put_twice(*frame, parties, steps)?;
+fn are_legs_put(alloc: Global, legs: &[Leg<'_>], steps: &mut Vec<Step>) -> bool {
+    for (made, lines, rows) in legs {
+        if !are_put(alloc, lines, steps) || !are_put_behind(*made, rows, steps) {
+            return false;
+        }
     }
-    Ok(())
+    true
 }
 
-fn put_ticks(parties: &[u16], steps: &mut Vec<Step>) -> Result<(), NoMemory> {
-    for party in parties {
-        let party = party_of(*party);
-        steps.push(Step::Tick { party })?;
-    }
-    Ok(())
+fn is_empty_frame_put(alloc: Global, steps: &mut Vec<Step>) -> bool {
+    let Ok(()) = steps.reserve(1) else {
+        return false;
+    };
+    steps.push_reserved(Step::Seal {
+        sender: party_of(3),
+        receivers: Vec::new(alloc),
+        body: Vec::new(alloc),
+    });
+    true
 }
 
 // Whether the steps were put: memory ran out for none, and each line is a step.
-fn is_put(alloc: Global, part: &Part<'_>, steps: &mut Vec<Step>) -> bool {
+fn is_part_put(alloc: Global, part: &Part<'_>, steps: &mut Vec<Step>) -> bool {
     match *part {
-        Part::Lines(lines) => put_steps(alloc, lines, steps) == Ok(true),
-        Part::Repeated(times, lines) => put_repeated(alloc, times, lines, steps) == Ok(true),
-        Part::Frames(first, end, parties) => put_deliveries(first..end, parties, steps).is_ok(),
-        Part::Twice(rows) => put_each_twice(rows, steps).is_ok(),
-        Part::Ticks(parties) => put_ticks(parties, steps).is_ok(),
-        Part::Made(ref made) => put_made(alloc, made, steps).is_ok(),
-        Part::Walk(legs) => put_walk(alloc, legs, steps) == Ok(true),
+        Part::Lines(lines) => are_put(alloc, lines, steps),
+        Part::Repeated(times, lines) => are_repeated(alloc, times, lines, steps),
+        Part::Frames(first, end, parties) => are_frames_put(first..end, parties, steps),
+        Part::Walk(legs) => are_legs_put(alloc, legs, steps),
+        Part::ForNobody => is_empty_frame_put(alloc, steps),
     }
 }
 
-fn are_put(alloc: Global, parts: &[Part<'_>], steps: &mut Vec<Step>) -> bool {
+fn are_parts_put(alloc: Global, parts: &[Part<'_>], steps: &mut Vec<Step>) -> bool {
     for part in parts {
-        if !is_put(alloc, part, steps) {
+        if !is_part_put(alloc, part, steps) {
             return false;
         }
     }
@@ -164,7 +173,6 @@ fn holds(alloc: Global, report: &Report, check: &Check<'_>) -> bool {
         Check::Sent(kind, count) => count_of(report, None, kind) == count,
         Check::SentBy(party, kind, count) => count_of(report, Some(party), kind) == count,
         Check::Senders(parties) => senders_are(report, parties),
-        Check::Bytes(cut, bytes) => bytes_are(report, cut, bytes),
         Check::Texts(cut, spare, texts) => texts_are(report, cut, spare, texts),
         Check::Last(party, start, text) => sends_last(report, party, start, text),
         Check::Execute(replicas, batches) => execute(report, replicas, batches),
@@ -190,14 +198,19 @@ fn all_hold(alloc: Global, report: &Report, checks: &[Check<'_>]) -> bool {
     true
 }
 
-fn config_comes_out(alloc: Global, row: &Run<'_>, config: &Config, steps: &[Step]) -> bool {
-    match run(alloc, config, steps) {
-        Ok(report) => row.refused.is_none() && all_hold(alloc, &report, row.checks),
+fn is_right(alloc: Global, row: &Run<'_>, ended: &Result<Report, RunFault>) -> bool {
+    match ended {
+        Ok(report) => row.refused.is_none() && all_hold(alloc, report, row.checks),
         Err(RunFault::BadSchedule { step, before }) => {
-            row.refused == Some(step) && all_hold(alloc, &before, row.checks)
+            row.refused == Some(*step) && all_hold(alloc, before, row.checks)
         }
         Err(RunFault::NoMemory) => false,
     }
+}
+
+fn config_comes_out(alloc: Global, row: &Run<'_>, config: &Config, steps: &[Step]) -> bool {
+    let ended = run(alloc, config, steps);
+    is_right(alloc, row, &ended)
 }
 
 /// Whether the run of these steps, which stand in place of its own, comes out so.
@@ -211,14 +224,14 @@ pub fn steps_come_out(alloc: Global, row: &Run<'_>, steps: &[Step]) -> bool {
 /// Whether the run comes out so.
 pub fn comes_out(alloc: Global, row: &Run<'_>) -> bool {
     let mut steps = Vec::new(alloc);
-    let is_right = are_put(alloc, row.parts, &mut steps)
+    let is_right = are_parts_put(alloc, row.parts, &mut steps)
         && steps_come_out(alloc, row, steps.as_slice());
     drop(steps);
     is_right
 }
 
 /// The first run that comes out otherwise.
-pub fn first_wrong(alloc: Global, rows: &[Run<'_>]) -> Option<usize> {
+fn first_wrong(alloc: Global, rows: &[Run<'_>]) -> Option<usize> {
     let mut number = 0usize;
     for row in rows {
         if !comes_out(alloc, row) {
@@ -227,4 +240,10 @@ pub fn first_wrong(alloc: Global, rows: &[Run<'_>]) -> Option<usize> {
         number = number.saturating_add(1);
     }
     None
+}
+
+/// Each run of the table comes out so: a test that fails names the first that doesn't. The assertion stands here and
+/// not in each test, since each costs a proof.
+pub fn come_out<R: Abort>(rt: &R, alloc: Global, rows: &[Run<'_>]) {
+    assert_eq!(rt; first_wrong(alloc, rows), None);
 }

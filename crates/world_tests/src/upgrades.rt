@@ -1,29 +1,32 @@
 //! An upgrade of the space that three replicas carry while replica 3 is cut off, and the parts that it then fetches.
 
 use crate::reports::{FETCH, INDEX, NUMBER_ASKED, OF_ONE_RECEIVER, OF_THREE_RECEIVERS, PAGE};
-use crate::runs::{Check, Part, Run, first_wrong};
-use crate::walks::Leg;
+use crate::runs::{Check, Part, Run, come_out};
+use crate::walks::{CARRIED, CARRIED_TO_CHECKPOINT, CHECKPOINTS, FOUR_PARTS, ONE_PART};
 use crate::worlds::ONE_CLIENT_OF_PERIOD_2;
 
 // All four replicas execute two calls, which make 13 frames each, and four checkpoints. Replica 3 is the first that
 // gets a read.
 const UPGRADED: Part<'static> = Part::Walk(&[
-    Leg::Lines(
+    (
+        0,
         &["invoke 0 out (1)", "flush", "invoke 0 out (2)", "flush"],
-        2 * 13 + 4,
+        &[],
     ),
-    Leg::Carry("invoke 0 upgrade"),
-    Leg::CarryToCheckpoint("invoke 0 out (w7)"),
-    Leg::TellCheckpoints,
-    Leg::Fetch(9),
-    Leg::Ask("invoke 0 rdp (?wide)"),
+    (30, &["invoke 0 upgrade"], CARRIED),
+    (40, &["invoke 0 out (w7)"], CARRIED_TO_CHECKPOINT),
+    (40, &[], CHECKPOINTS),
+    (53, &[], FOUR_PARTS),
+    (61, &[], FOUR_PARTS),
+    (69, &[], ONE_PART),
+    (71, &["invoke 0 rdp (?wide)"], &[(0, 3)]),
 ]);
 
 // The parts of number 4 in which a state of number 2 differs: an upgrade rewrites the pages of both tuples. Each place
 // is the number of the state, the level and the index.
 const OF_FOUR: Check<'static> = Check::Texts(
     (3, FETCH, NUMBER_ASKED),
-    OF_THREE_RECEIVERS,
+    Some(OF_THREE_RECEIVERS),
     &[
         &[4, 0, 0, 0],
         &[4, 1, 0, 0],
@@ -41,7 +44,7 @@ const OF_FOUR: Check<'static> = Check::Texts(
 // last reply, and the header.
 const PAGES: Check<'static> = Check::Texts(
     (0, PAGE, INDEX),
-    OF_ONE_RECEIVER,
+    Some(OF_ONE_RECEIVER),
     &[
         b"\0\0\0\0\0\0\0\0\0\0\0\x0a\x01\x01\0\0\0\0\0\0\0\x01",
         b"\0\x01\0\0\0\0\0\0\0\x01\0\x0a\x01\x01\0\0\0\0\0\0\0\x02",
@@ -63,7 +66,9 @@ static FETCHED: [Run<'static>; 2] = [
         refused: None,
         checks: &[
             OF_FOUR,
+            Check::Sent(FETCH, 9),
             PAGES,
+            Check::Sent(PAGE, 5),
             Check::Installs(4),
             Check::Last(3, 0, FOUND_AT_FOUR),
         ],
@@ -94,5 +99,5 @@ static FETCHED: [Run<'static>; 2] = [
 
 #[test]
 fn an_upgrade_is_fetched(rt: HostRuntime) {
-    assert_eq!(rt; first_wrong(rt.alloc(), &FETCHED), None);
+    come_out(&rt, rt.alloc(), &FETCHED);
 }

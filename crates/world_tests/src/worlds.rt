@@ -1,9 +1,12 @@
 //! Worlds of replicas and clients, of which some may be faulty, and the steps of lines.
+//!
+//! Frames that faulty parties make stand in lines, as their bodies. Python made these by docs/formats.md, with hmac and
+//! hashlib, without the code that reads them.
 
 use events::Config;
 use schedule_text::{Step, read_step};
 use std::alloc::Global;
-use terms::NoMemory;
+use terms::{ClientId, Party, ReplicaId};
 use test_bytes::FRAME_SEED;
 
 /// How many replicas may be faulty, how many clients there are, the checkpoint period, and who is faulty.
@@ -178,13 +181,38 @@ pub fn config_of(alloc: Global, world: &World<'_>) -> Option<Config> {
     .ok()
 }
 
-/// Appends the steps of these lines to the others, and tells whether each line is one.
-pub fn put_steps(alloc: Global, lines: &[&str], steps: &mut Vec<Step>) -> Result<bool, NoMemory> {
+// There is room before the step is read: else what refuses it would have to be dropped too, and each drop costs a proof.
+fn is_line_put(alloc: Global, line: &str, steps: &mut Vec<Step>) -> bool {
+    let Ok(()) = steps.reserve(1) else {
+        return false;
+    };
+    match read_step(alloc, line.as_bytes()) {
+        Ok(Some(step)) => {
+            steps.push_reserved(step);
+            true
+        }
+        _ => false,
+    }
+}
+
+/// Appends the steps of these lines to the others, and tells whether all were put: each line is a step, and memory ran
+/// out for none.
+pub fn are_put(alloc: Global, lines: &[&str], steps: &mut Vec<Step>) -> bool {
     for line in lines {
-        match read_step(alloc, line.as_bytes()) {
-            Ok(Some(step)) => steps.push(step)?,
-            _ => return Ok(false),
+        if !is_line_put(alloc, line, steps) {
+            return false;
         }
     }
-    Ok(true)
+    true
+}
+
+/// The party of this number.
+pub fn party_of(number: u16) -> Party {
+    let [high, low] = number.to_be_bytes();
+    if high == 0 {
+        Party::Replica(ReplicaId(low))
+    } else {
+        let number = u16::from(low);
+        Party::Client(ClientId { number })
+    }
 }
