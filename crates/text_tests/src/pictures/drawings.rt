@@ -107,10 +107,7 @@ fn add_rest(alloc: Global, trace: &mut Vec<Entry>) -> Result<(), Fail> {
     let null = SharedBytes::new(null)?;
     add(trace, EntryKind::Executed(ReplicaId(0), Number(7), null))?;
     let root = Arc::new(alloc, [0; 32])?;
-    add(
-        trace,
-        EntryKind::Installed(ReplicaId(1), Number(16), root),
-    )?;
+    add(trace, EntryKind::Installed(ReplicaId(1), Number(16), root))?;
     let answer = Arc::new(alloc, found(alloc, b"out (\"<&>\")")?)?;
     Ok(add(trace, EntryKind::Accepted(CLIENT, Timestamp(1), answer))?)
 }
