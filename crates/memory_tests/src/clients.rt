@@ -1,5 +1,7 @@
 //! A client that makes its first call.
 
+ghost use Rattle.std.specs.Prelude.{◌≡◌};
+
 use crate::left::{Call, Outcome, assert_right, outcome_of, under_each_size};
 use authenticator::Ring;
 use client_cert::{Client, InvokeFault};
@@ -20,15 +22,18 @@ struct Invokes;
 
 impl Call for Invokes {
     fn call(&mut self, alloc: Global) -> Outcome {
-        match PublicKeys::new(alloc, &seed()) {
-            Ok(publics) => invokes_with(alloc, publics),
+        let seed = seed();
+        match PublicKeys::new(alloc, &seed) {
+            Ok(publics) => invokes_with(alloc, &seed, publics),
             Err(NoMemory) => Outcome::Refused,
         }
     }
 }
 
-fn invokes_with(alloc: Global, publics: PublicKeys) -> Outcome {
-    let ring = Ring::new(alloc, &seed(), 1, 1);
+fn invokes_with(alloc: Global, seed: &[u8; 32], publics: PublicKeys) -> Outcome
+    requires keys { publics ≡ seed.now }
+{
+    let ring = Ring::new(alloc, seed, 1, 1);
     let mut client = Client::new(ClientId { number: 0 }, 1, ring, publics);
     take(&mut client, alloc)
 }
