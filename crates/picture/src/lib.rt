@@ -9,7 +9,7 @@
 //!
 //! `write_picture` appends the declaration and the opening of an `svg` element, UTF-8, and the element's end, or
 //! leaves the bytes as they were. It is safe and returns, on any configuration and any entries. The lanes, arrows and
-//! marks in between, and that tags are well nested, are tested and looked at (`picture_tests`, `docs/pictures`).
+//! marks in between, and that tags are well nested, are tested and looked at (`text_tests`, `docs/pictures`).
 //!
 //! # How it is made
 //!
