@@ -2,6 +2,7 @@
 use Rattle.std.proofs.Common.{◌≡◌, ℕ, Bool, true, false, ◌&&◌, ◌==◌, List, slice_index, ◌++◌, get_or, Some, ap, sym, refl, ◌∙◌}
 use Rattle.std.proofs.lemmas.Bool.{false≢true}
 use lib.Dec.{eqb}
+use Rattle.terms.specs.declared.order.Mode.{Mode}
 use Rattle.terms.specs.declared.order.Mode.TheVariants as modes
 use Rattle.tuple_codec.specs.Operations.{Operation}
 use Rattle.wire.specs.Messages.{MessageData, request, pre_prepare, prepare, commit, checkpoint, view_change, new_view, reply, fetch, meta, page, BodyData, FrameData}
@@ -16,28 +17,16 @@ use Rattle.read_only.specs.Hearing.{HearsNoRead, read_only_request}
 abbrev has_marks : MessageData → List ℕ → Bool
 has_marks message behind = eqb (message_type message) 0x41 && eqb (get_or (fields_spelling message ++ behind) 8 0) 1
 
-is_read : (message : MessageData) (behind : List ℕ) → has_marks message behind ≡ true
-    → (timestamp : ℕ) × (op : Operation) × (message ≡ request timestamp modes.ReadOnly op)
-is_read (request timestamp modes.ReadOnly op) behind e = (timestamp, op, refl)
-is_read (request timestamp modes.Ordered op) behind e = absurd (let g : ⊥ = cc in g)
-is_read (pre_prepare view number batch) behind e = absurd (let g : ⊥ = cc in g)
-is_read (prepare view number digest) behind e = absurd (let g : ⊥ = cc in g)
-is_read (commit view number digest) behind e = absurd (let g : ⊥ = cc in g)
-is_read (checkpoint number root) behind e = absurd (let g : ⊥ = cc in g)
-is_read (view_change c) behind e = absurd (let g : ⊥ = cc in g)
-is_read (new_view n) behind e = absurd (let g : ⊥ = cc in g)
-is_read (reply client timestamp kind number outcome) behind e = absurd (let g : ⊥ = cc in g)
-is_read (fetch number level index) behind e = absurd (let g : ⊥ = cc in g)
-is_read (meta number level index digests) behind e = absurd (let g : ⊥ = cc in g)
-is_read (page number index text) behind e = absurd (let g : ⊥ = cc in g)
+-- a request with the marks is heard as a read-only one
+pub marked_is_read : (bytes : List ℕ) (m : Membership) (me sender timestamp : ℕ) (mode : Mode) (op : Operation)
+    → heard m me bytes ≡ Some (record { sender = sender; message = request timestamp mode op }) → asks_read bytes ≡ true → mode ≡ modes.ReadOnly
+marked_is_read bytes m me sender timestamp modes.ReadOnly op h e = refl
+marked_is_read bytes m me sender timestamp modes.Ordered op h e =
+    let w = heard_was_opened m me bytes (record { sender = sender; message = request timestamp modes.Ordered op }) h in
+    let marks : BodyData → Bool = λ body. has_marks body.message (authenticator_spelling w.frame.authenticator) in
+    absurd (false≢true (sym (ap asks_read w.opens.spelled.spelled ∙ ap marks w.body_is) ∙ e))
 
--- a frame with the marks is a read-only request
-pub marked_is_read : (bytes : List ℕ) (frame : FrameData) → SpellsFrame bytes frame → asks_read bytes ≡ true
-    → (timestamp : ℕ) × (op : Operation) × (frame.body.message ≡ request timestamp modes.ReadOnly op)
-marked_is_read bytes frame s marks =
-    is_read frame.body.message (authenticator_spelling frame.authenticator) (ap asks_read (sym s.spelled) ∙ marks)
-
--- and each read-only request that is heard has them
+-- each read-only request that is heard has them
 heard_is_marked : (bytes : List ℕ) (m : Membership) (me sender timestamp : ℕ) (op : Operation)
     → heard m me bytes ≡ Some (read_only_request sender timestamp op) → asks_read bytes ≡ true
 heard_is_marked bytes m me sender timestamp op h =

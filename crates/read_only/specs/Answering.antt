@@ -16,10 +16,6 @@ use Rattle.wire.specs.declared.messages.Reply.{Reply}
 use Rattle.read_only.specs.declared.answering.Shelf.{Shelf}
 use Rattle.read_only.specs.declared.hearing.ReadRequest.{ReadRequest}
 
--- The text spells an operation.
-abbrev pub SpellsSomeOperation : List ℕ → Type 0
-SpellsSomeOperation text = (op : Operation) × SpellsOperation text op
-
 -- The text spells an operation that leaves each list of tuples as it is.
 abbrev pub SpellsRead : List ℕ → Type 0
 SpellsRead text = (op : Operation) × SpellsOperation text op × (is_read_only op ≡ true)

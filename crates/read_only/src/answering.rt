@@ -2,8 +2,9 @@
 
 ghost use Rattle.std.specs.Prelude.{◌≡◌, ◌↔◌, IfOk, MatchResult};
 ghost use Rattle.tuple_codec.specs.OperationView.{outcome_of};
+ghost use Rattle.tuple_codec.specs.Spelling.{SpellsSomeOperation};
 ghost use Rattle.wire.specs.Spelling.{IsMessage};
-ghost use Rattle.read_only.specs.Answering.{AnswersRead, AnswersText, SpellsNoRead, SpellsRead, SpellsSomeOperation, begins_as_read, read_reply, reply_data};
+ghost use Rattle.read_only.specs.Answering.{AnswersRead, AnswersText, SpellsNoRead, SpellsRead, begins_as_read, read_reply, reply_data};
 
 use crate::hearing::ReadRequest;
 use crate::read_fault::ReadFault;
@@ -11,7 +12,7 @@ use bumpalo::Bump;
 use space::Space;
 use std::alloc::Global;
 use terms::{ClientId, Mode, Number, Timestamp};
-use tuple_codec::{Answer, Bad, decode_op};
+use tuple_codec::{Answer, decode_judged_op};
 use wire::Reply;
 
 /// The executed state that answers reads: its tuples, and its number.
@@ -83,10 +84,8 @@ fn peek(space: &Space, text: &[u8], arena: &Bump) -> Result<Answer<Global>, Read
     requires { SpellsRead text.now }
     ensures { MatchResult result (AnswersText space.now text.now) (λ e. e ≡ ReadFault.NoMemory) }
 {
-    let op = match decode_op(arena, text) {
-        Ok((op, _)) => op,
-        Err(Bad::NoMemory) => return Err(ReadFault::NoMemory),
-        Err(Bad::Malformed) => unreachable!(),
+    let Ok(op) = decode_judged_op(arena, text) else {
+        return Err(ReadFault::NoMemory);
     };
     Ok(space.peek(&op)?)
 }

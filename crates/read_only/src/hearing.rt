@@ -1,15 +1,14 @@
 //! Read-only requests, heard in the bytes of their frames.
 
-ghost use Rattle.std.specs.Prelude.{◌≡◌, ◌≤◌, ◌==◌, length, drop, slice_index, true, IfSome, IsFalse, IsNone};
-ghost use Rattle.byteorder.specs.Endian.{big_number};
+ghost use Rattle.std.specs.Prelude.{◌≡◌, ◌==◌, slice_index, true, IfSome, IsFalse, IsNone};
 ghost use Rattle.signing.specs.Heard.{heard};
 ghost use Rattle.wire.specs.Marks.{asks_read};
 ghost use Rattle.read_only.specs.Hearing.{HearsNoRead, HearsRead};
 
 use authenticator::Ring;
-use byteorder::{BigEndian, ByteOrder};
-use terms::{ClientId, FIRST_CLIENT, Party, ReplicaId, Timestamp};
-use wire::judge;
+use signing::hear_request;
+use terms::{ClientId, ReplicaId, Timestamp};
+use wire::has_type_of_requests;
 
 /// A read-only request as it stands in the bytes of its frame.
 #[derive(Clone, Copy, Drop)]
@@ -27,15 +26,6 @@ pub fn asks_read(bytes: &[u8]) -> bool
     ensures none { IsFalse result → HearsNoRead bytes.now }
 {
     has_type_of_requests(bytes) && has_read_only_mode(bytes)
-}
-
-fn has_type_of_requests(bytes: &[u8]) -> bool
-    ensures { result ≡ slice_index bytes.now 4 == 0x41 }
-{
-    match bytes {
-        [_, _, _, _, 0x41, ..] => true,
-        _ => false,
-    }
 }
 
 fn has_read_only_mode(bytes: &[u8]) -> bool
@@ -56,35 +46,10 @@ pub fn hear_read<'b>(ring: &mut Ring, me: ReplicaId, bytes: &'b [u8]) -> Option<
     ensures none { IsNone result → heard ring.old me.0 bytes.now ≡ None }
     ensures same { ring.new ≡ ring.old }
 {
-    let Ok(header) = judge(bytes) else {
-        return None;
-    };
-    let sender = header.sender.number();
-    let me = Party::Replica(me);
-    if sender == me.number() {
-        return None;
-    }
-    if ring.refusal(&header, me).is_some() {
-        return None;
-    }
-    // Only clients send requests.
-    let client = ClientId {
-        number: sender - FIRST_CLIENT,
-    };
-    let (timestamp, op) = fields_of(header.text);
+    let request = hear_request(ring, me, bytes)?;
     Some(ReadRequest {
-        client,
-        timestamp,
-        op,
+        client: request.client,
+        timestamp: request.timestamp,
+        op: request.op,
     })
-}
-
-// The timestamp and the bytes of the operation in the body of a request. The timestamp follows the type and the
-// sender, the operation the mode.
-fn fields_of(text: &[u8]) -> (Timestamp, &[u8])
-    requires { 12 ≤ length text.now }
-    ensures timestamp { result.0.0 ≡ big_number 8 (drop 3 text.now) }
-    ensures op { result.1.now ≡ drop 12 text.now }
-{
-    (Timestamp(BigEndian::read_u64(&text[3..])), &text[12..])
 }

@@ -1,4 +1,5 @@
 pub mod Opened
+pub mod Requests
 pub mod Heard
 pub mod Joining
 pub mod Nodes

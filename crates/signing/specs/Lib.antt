@@ -7,5 +7,6 @@ pub mod Joined
 pub mod Lamport
 pub mod Laws
 pub mod Merkle
+pub mod Requests
 pub mod Signatures
 pub mod Signing

@@ -10,12 +10,14 @@
 //! `hearing` says that a party hears exactly the frames of others that open and, if they have to be signed, have
 //! their sender's signature. A view change or new view is heard by all others or by none. `hear` goes from the bytes
 //! to the body in one call, or gives the first refusal that applies; refused bytes take no memory. `hears` says
-//! whether a party hears the bytes, and decodes nothing. No proof claims that nobody else can sign.
+//! whether a party hears the bytes, and decodes nothing; `hear_request` hears a request in its bytes. No proof claims
+//! that nobody else can sign.
 #![tactic(auto)]
 
 mod from_bytes;
 mod hear_fault;
 mod heard_frame;
+mod heard_request;
 mod laws;
 mod public_keys;
 mod secrets;
@@ -26,6 +28,7 @@ mod tree;
 pub use from_bytes::{hear, hears};
 pub use hear_fault::HearFault;
 pub use heard_frame::HeardFrame;
+pub use heard_request::{HeardRequest, hear_request};
 pub use laws::{hearing, verifying_is_decided};
 pub use public_keys::PublicKeys;
 pub use signature::{SIGNATURE_LEN, Signature, verify, verify_bytes};

@@ -113,6 +113,10 @@ SpellsTemplate bs p = Spells IsTemplate template_spelling bs p
 abbrev pub SpellsOperation : List ℕ → Operation → Type 0
 SpellsOperation bs o = Spells IsOperation operation_spelling bs o
 
+-- The bytes spell some operation.
+abbrev pub SpellsSomeOperation : List ℕ → Type 0
+SpellsSomeOperation bs = (op : Operation) × SpellsOperation bs op
+
 abbrev pub SpellsOutcome : List ℕ → Outcome → Type 0
 SpellsOutcome bs r = Spells IsOutcome outcome_spelling bs r
 

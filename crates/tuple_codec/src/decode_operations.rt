@@ -1,10 +1,10 @@
 //! From bytes to operations and answers.
 
-ghost use Rattle.std.specs.Prelude.{◌≡◌, ◌≢◌, ◌+◌, ◌<◌, ◌≤◌, length, IfErr, OnOk};
+ghost use Rattle.std.specs.Prelude.{◌≡◌, ◌≢◌, ◌+◌, ◌<◌, ◌≤◌, length, IfErr, IfOk, OnOk};
 ghost use Rattle.tuple_codec.specs.Operations.{out, rdp, inp, rd_all, in_all};
 ghost use Rattle.tuple_codec.specs.OperationView.{operation_of, outcome_of};
 ghost use Rattle.tuple_codec.specs.Gives.{Gives, DecodesSpelled, DecodesEach};
-ghost use Rattle.tuple_codec.specs.Spelling.{SpellsOperation, SpellsOutcome, FrontSpellsOperation, FrontSpellsOutcome};
+ghost use Rattle.tuple_codec.specs.Spelling.{SpellsOperation, SpellsOutcome, SpellsSomeOperation, FrontSpellsOperation, FrontSpellsOutcome};
 ghost use Rattle.tuple_codec.specs.Reading.{read_as, tuple_at, template_at, cas_at, counted_at, operation_behind, operation_at, tuples_at, found_at, swapped_at, all_at, outcome_behind, outcome_at, with_tuple};
 
 use crate::bad::Bad;
@@ -67,8 +67,25 @@ pub fn decode_result<A: Allocator + Clone>(
     }
 }
 
+/// The operation that the bytes, whole, spell; the caller judged them before. NoMemory if memory runs out.
+pub fn decode_judged_op<A: Allocator + Clone>(alloc: A, bytes: &[u8]) -> Result<Op<A>, NoMemory>
+    requires { SpellsSomeOperation bytes.now }
+    ensures { IfOk result (λ op. SpellsOperation bytes.now (operation_of op)) }
+{
+    match read_op(&alloc, bytes) {
+        Ok((op, _rest)) => Ok(op),
+        Err(Bad::NoMemory) => Err(NoMemory),
+        Err(Bad::Malformed) => unreachable!(),
+    }
+}
+
+/// The operation at the front, and the rest. It reads the bytes once, so those that spell none may take memory before
+/// they are refused.
 #[tactic(auto, unfolding(crate::specs::Reading::operation_at))]
-fn read_op<'b, A: Allocator + Clone>(alloc: &A, bytes: &'b [u8]) -> Result<(Op<A>, &'b [u8]), Bad>
+pub fn read_op<'b, A: Allocator + Clone>(
+    alloc: &A,
+    bytes: &'b [u8],
+) -> Result<(Op<A>, &'b [u8]), Bad>
     ensures { Gives (λ x. (operation_of x.0, x.1.now)) result (operation_at bytes.now) }
 {
     let (tag, rest) = next_byte(bytes)?;
@@ -174,8 +191,10 @@ fn read_counted<'b, A: Allocator + Clone>(
     }
 }
 
+/// The answer at the front, and the rest. It reads the bytes once, so those that spell none may take memory before they
+/// are refused.
 #[tactic(auto, unfolding(crate::specs::Reading::outcome_at))]
-fn read_answer<'b, A: Allocator + Clone>(
+pub fn read_answer<'b, A: Allocator + Clone>(
     alloc: &A,
     bytes: &'b [u8],
 ) -> Result<(Answer<A>, &'b [u8]), Bad>

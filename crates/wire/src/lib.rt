@@ -8,7 +8,7 @@
 //! `decode_judged_body` gives the body alone. `encode`, `begin_frame`, `put_authenticator` and `encode_frame` write
 //! the spelling; `body_bytes` is the slice that a MAC or a signature authenticates.
 //!
-//! `requests` gives the frames of a batch's text, and `Batch::of` the text of frames. Laws: `one_spelling` (no frame
+//! `request_in` gives the fields of a request out of the bytes of its frame. `requests` gives the frames of a batch's text, and `Batch::of` the text of frames. Laws: `one_spelling` (no frame
 //! begins another), `reads_what_is_spelled`, `carries_frames` (a message carries whole frames, and none is left out).
 //! This crate only carries signatures.
 #![tactic(auto)]
@@ -31,6 +31,7 @@ mod oversize;
 mod put;
 mod put_lists;
 mod reading;
+mod request_bytes;
 mod sealing;
 mod sizes;
 
@@ -50,4 +51,5 @@ pub use messages::{
     Batch, BatchEntry, Body, Checkpoint, CheckpointEntry, Commit, Fetch, Message, Meta, NewView,
     Page, PrePrepare, Prepare, Reply, Request, ViewChange,
 };
+pub use request_bytes::{RequestBytes, has_type_of_requests, request_in};
 pub use sealing::{begin_frame, body_bytes, encode_frame, put_authenticator};
