@@ -1,10 +1,13 @@
 //! The endpoint of a replica.
 
-ghost use Rattle.std.specs.Prelude.{◌≡◌, ◌≢◌, ◌↔◌, ◌+◌, ◌*◌, ◌<◌, ◌≤◌, true, false, Some, IfOk, IfErr, OnOk};
+ghost use Rattle.std.specs.Prelude.{◌≡◌, ◌≢◌, ◌↔◌, ◌+◌, ◌*◌, ◌<◌, ◌≤◌, true, false, Some, IfOk, IfErr, IfSome, IsNone, OnOk};
+ghost use Rattle.wire.specs.Marks.{has_type_of_requests};
 ghost use Rattle.wire.specs.Spelling.{IsMessage, is_signed};
 ghost use Rattle.wire.specs.Views.{message_data};
 ghost use Rattle.authenticator.specs.Keys.{signing_seed};
 ghost use Rattle.authenticator.specs.declared.sealed.SealFault.TheVariants as SealFault;
+ghost use Rattle.signing.specs.Heard.{heard};
+ghost use Rattle.signing.specs.Requests.{HearsRequest};
 ghost use Rattle.protocol.specs.System.Frames.{leaf_of};
 ghost use Rattle.posting.specs.Endpoint.{FitsFrame, HearsBody, IsTooLongToSign, PostsFrame, PostsTo, PostsToOthers, SendsToOthers, SignsFrame, TellsGenuine};
 
@@ -15,7 +18,7 @@ use crate::sealing::{seal_for_one, seal_for_others};
 use crate::signing_frames::sign_message;
 use authenticator::{Ring, SealFault};
 use events::{Output, SharedBytes};
-use signing::{PublicKeys, Signer};
+use signing::{HeardRequest, PublicKeys, Signer, hear_request};
 use std::alloc::Global;
 use std::marker::Model;
 use terms::{NoMemory, Party, ReplicaId};
@@ -83,6 +86,17 @@ impl Endpoint {
         ensures same { self.new ≡ self.old }
     {
         hear_body(&mut self.ring, &self.publics, alloc, self.me, bytes)
+    }
+
+    /// The request that the replica hears from bytes with the type of requests. Nothing is decoded, and no memory is
+    /// taken but for the keys that the endpoint keeps.
+    pub fn hear_request<'b>(&mut self, bytes: &'b [u8]) -> Option<HeardRequest<'b>>
+        requires { has_type_of_requests bytes.now ≡ true }
+        ensures some { IfSome result (HearsRequest self.old.membership self.old.me bytes.now) }
+        ensures none { IsNone result → heard self.old.membership self.old.me bytes.now ≡ None }
+        ensures same { self.new ≡ self.old }
+    {
+        hear_request(&mut self.ring, self.me, bytes)
     }
 
     /// Whether each request of the batch is genuine: the replica hears it. Nothing is decoded, and no memory is taken

@@ -3,7 +3,8 @@ use Rattle.std.proofs.Common.{◌≡◌, ◌≢◌, ℕ, suc, ◌+◌, ◌*◌, 
 use Rattle.std.specs.Prelude.{is_none, option_map}
 use Rattle.std.specs.Bool.{then_some}
 use Rattle.std.specs.Option.{option_and_then}
-use Rattle.std.proofs.lemmas.Bool.{and_parts, leb-true, ltb-true}
+use Rattle.std.proofs.lemmas.Bool.{and_parts, false≢true, leb-true, ltb-true}
+use lib.Dec.{eqb}
 use Rattle.quorum.specs.Votes.{or_else}
 use Rattle.terms.specs.declared.order.Number.{Number}
 use Rattle.terms.specs.declared.parties.ReplicaId.{ReplicaId}
@@ -20,12 +21,15 @@ use Rattle.wire.specs.Words.{requests_of}
 use Rattle.wire.specs.declared.messages.Request.{Request as WireRequest}
 use Rattle.wire.specs.declared.messages.Message.{Message as WireMessage}
 use Rattle.wire.specs.declared.messages.Message.TheVariants as messages
+use Rattle.wire.specs.Marks.{has_type_of_requests}
+use Rattle.wire.specs.Spelling.{message_type}
 use Rattle.wire.specs.Views.{message_data}
 use Rattle.terms.specs.declared.order.Mode.{Mode}
 use Rattle.tuple_codec.specs.OperationView.{operation_of}
 use Rattle.wire.specs.Messages.{BodyData as Body, NewViewData, request as Request, pre_prepare as PrePrepare, prepare as Prepare, commit as Commit}
 use Rattle.signing.specs.Heard.{heard}
 use Rattle.signing.proofs.Heard.{heard_was_opened}
+use Rattle.signing.proofs.Requests.{heard_is_marked}
 use Rattle.ordering.specs.Log as logs
 use Rattle.ordering.specs.Log.{LogData, is_in_marks, logged_batch, with_batch, with_prepare, with_commit, due_prepare, due_commit}
 use Rattle.ordering.specs.Taking.{ordering_fault, fault_beside}
@@ -462,13 +466,18 @@ silence_dropped r bytes one h = drops r one bytes (λ c past runs known. let sil
     heard_by_none c known = ap (λ m. heard m (me_of r) bytes) known ∙ ap (λ (x : ℕ). heard r.desk.membership x bytes) (sym one.0) ∙ h
 
 -- clients send only requests
-pub client_dropped : (r : JoinedData) (k : ℕ) (m : WireMessage) (bytes : List ℕ) → AreOne r.orderer r.desk → ((x : WireRequest) → m ≡ messages.Request x → ⊥)
+pub client_dropped : (r : JoinedData) (k : ℕ) (m : WireMessage) (bytes : List ℕ) → AreOne r.orderer r.desk → has_type_of_requests bytes ≡ false
     → heard r.desk.membership r.desk.me bytes ≡ Some (record { sender = 256 + k; message = message_data m }) → TakesBytes bytes r touched.Nothing r []
-client_dropped r k m bytes one other h = drops r one bytes (λ c past runs known.
+client_dropped r k m bytes one unmarked h = drops r one bytes (λ c past runs known.
     let hears = heard_by r one c bytes _ known h in
     let sender = (heard_was_opened (members c) (me_of r) bytes _ hears) in
     absurd (no_sender c past m other runs.holds.of_log.fits (subst (λ (b : Body). has_sender (members c) b ≡ true) sender.body_is sender.opens.sender)))
   where
+    other : (x : WireRequest) → m ≡ messages.Request x → ⊥
+    other x e =
+        let marked = heard_is_marked r.desk.membership r.desk.me bytes _ h ∙ ap (λ (y : WireMessage). eqb (message_type (message_data y)) 0x41) e in
+        false≢true (sym unmarked ∙ marked)
+
     no_replica : (c : Configuration) (past : List Entry) → FitsLog c (me_of r) r.orderer.log past → is_replica (members c) (256 + k) ≡ true → ⊥
     no_replica c past f h = let l = ltb-true (256 + k) (3 * c.faults + 1) h in let few = f.is_log.few in let same = f.faults in absurd (omega (arith, l, few, same))
 
@@ -485,10 +494,3 @@ client_dropped r k m bytes one other h = drops r one bytes (λ c past runs known
     no_sender c past (messages.Fetch x) other f h = no_replica c past f h
     no_sender c past (messages.Meta x) other f h = no_replica c past f h
     no_sender c past (messages.Page x) other f h = no_replica c past f h
-
--- the request of a message of the program
-pub heard_request : (m : Membership) (me s : ℕ) (bytes : List ℕ) (message : WireMessage) (x : WireRequest) (mode : Mode) → heard m me bytes ≡ Some (record { sender = s; message = message_data message })
-    → message ≡ messages.Request x → x.mode ≡ mode → heard m me bytes ≡ Some (record { sender = s; message = Request x.timestamp.0 mode (operation_of x.op) })
-heard_request m me s bytes message x mode h is same =
-    h ∙ ap (λ (y : WireMessage). Some (record { sender = s; message = message_data y })) is
-    ∙ ap (λ (k : Mode). Some (record { sender = s; message = Request x.timestamp.0 k (operation_of x.op) })) same

@@ -1,8 +1,11 @@
 //! The orderer: the log of the three phases, what the replica keeps for view changes, and the keys with which it
 //! authenticates and seals frames.
 
-ghost use Rattle.std.specs.Prelude.{◌≡◌, ◌+◌, ◌*◌, ◌<◌, IfOk};
+ghost use Rattle.std.specs.Prelude.{◌≡◌, ◌+◌, ◌*◌, ◌<◌, true, IfOk, IfSome, IsNone};
+ghost use Rattle.wire.specs.Marks.{has_type_of_requests};
 ghost use Rattle.wire.specs.Spelling.{IsBatch};
+ghost use Rattle.signing.specs.Heard.{heard};
+ghost use Rattle.signing.specs.Requests.{HearsRequest};
 ghost use Rattle.posting.specs.Endpoint.{HearsBody};
 ghost use Rattle.replica.specs.Changing.{AreChanges};
 ghost use Rattle.replica.specs.Taking.{IsNewOrderer, TakesBatch, TakesPrepare, TakesCommit};
@@ -11,7 +14,7 @@ use authenticator::{Ring, signing_seed};
 use events::{Config, Stop};
 use ordering::{HashedBatch, Log};
 use posting::Endpoint;
-use signing::{PublicKeys, Signer};
+use signing::{HeardRequest, PublicKeys, Signer};
 use std::alloc::Global;
 use std::marker::Model;
 use std::sync::Arc;
@@ -107,6 +110,18 @@ impl Orderer {
         ensures same { self.new ≡ self.old }
     {
         Ok(self.endpoint.hear(alloc, bytes)?)
+    }
+
+    /// Authenticates bytes with the type of requests and returns the request in them, if they have one.
+    pub(crate) fn hear_request<'b>(&mut self, bytes: &'b [u8]) -> Option<HeardRequest<'b>>
+        requires { has_type_of_requests bytes.now ≡ true }
+        ensures some { IfSome result
+            (HearsRequest self.old.endpoint.membership self.old.endpoint.me bytes.now) }
+        ensures none { IsNone result
+            → heard self.old.endpoint.membership self.old.endpoint.me bytes.now ≡ None }
+        ensures same { self.new ≡ self.old }
+    {
+        self.endpoint.hear_request(bytes)
     }
 
     /// Takes the primary's batch for a number, if its place is free and its requests are authentic. Returns whether.

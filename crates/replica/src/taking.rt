@@ -1,6 +1,7 @@
 //! What the replica does with a message that arrives.
 
-ghost use Rattle.std.specs.Prelude.{◌≡◌, ◌+◌, ◌<◌, [], Some, IfOk};
+ghost use Rattle.std.specs.Prelude.{◌≡◌, ◌+◌, ◌<◌, true, false, [], Some, IfOk};
+ghost use Rattle.wire.specs.Marks.{has_type_of_requests};
 ghost use Rattle.wire.specs.Messages.{pre_prepare, prepare, commit};
 ghost use Rattle.wire.specs.Spelling.{IsBatch};
 ghost use Rattle.wire.specs.Views.{message_data};
@@ -13,7 +14,7 @@ use events::{Outputs, Stop};
 use read_only::asks_read;
 use std::alloc::Global;
 use terms::{ClientId, Mode, Number, Party, ReplicaId};
-use wire::{Body, Commit, Message, PrePrepare, Prepare, Request};
+use wire::{Body, Commit, Message, PrePrepare, Prepare, has_type_of_requests};
 
 /// What a message touched, and so what may follow.
 #[derive(Clone, Copy, Drop)]
@@ -47,6 +48,9 @@ impl Joined {
         if asks_read(bytes) {
             return self.on_read(alloc, bytes, outputs);
         }
+        if has_type_of_requests(bytes) {
+            return self.on_request_bytes(alloc, bytes, outputs);
+        }
         // A stored view change isn't verified again.
         if has_type_of_view_changes(bytes) && self.orderer.received.has_frame(bytes) {
             self.orderer.judges();
@@ -56,41 +60,46 @@ impl Joined {
             return Ok(Touched::Nothing);
         };
         match sender {
-            Party::Client(client) => self.on_client(alloc, client, message, bytes, outputs),
+            Party::Client(client) => Ok(self.on_client(client, message, bytes)),
             Party::Replica(sender) => self.on_replica(alloc, sender, message, bytes, outputs),
         }
     }
 
-    // Takes a client's message, which arrived in this frame. It is no read.
-    fn on_client(
+    // Takes the ordered request in the bytes, if it is authentic. They are no read.
+    fn on_request_bytes(
         &mut self,
         alloc: Global,
-        client: ClientId,
-        message: Message,
-        frame: &[u8],
+        bytes: &[u8],
         outputs: &mut Outputs,
     ) -> Result<Touched, Stop>
         requires first { outputs.old.items ≡ [] }
-        requires heard { heard self.old.desk.membership self.old.desk.me frame.now
-            ≡ Some (record { sender = 256 + client.number; message = message_data message }) }
-        requires unmarked { HearsNoRead frame.now }
-        ensures ok { IfOk result (λ touched. TakesBytes frame.now self.old
+        requires kind { has_type_of_requests bytes.now ≡ true }
+        requires unmarked { HearsNoRead bytes.now }
+        ensures ok { IfOk result (λ touched. TakesBytes bytes.now self.old
             touched self.new outputs.new.items) }
         ensures endpoint { self.new.orderer.endpoint ≡ self.old.orderer.endpoint }
     {
         self.are_one();
-        let Message::Request(request) = message else {
+        let Some(request) = self.orderer.hear_request(bytes) else {
             return Ok(Touched::Nothing);
         };
-        let Request {
-            timestamp,
-            mode,
-            ..
-        } = request;
-        match mode {
-            Mode::Ordered => self.on_request(alloc, client, timestamp, frame, outputs),
+        match request.mode {
+            Mode::Ordered => {
+                self.on_request(alloc, request.client, request.timestamp, bytes, outputs)
+            }
             Mode::ReadOnly => Ok(Touched::Nothing),
         }
+    }
+
+    // Drops a client's message, which arrived in this frame: clients send requests alone.
+    fn on_client(&self, client: ClientId, message: Message, frame: &[u8]) -> Touched
+        requires heard { heard self.now.desk.membership self.now.desk.me frame.now
+            ≡ Some (record { sender = 256 + client.number; message = message_data message }) }
+        requires other { has_type_of_requests frame.now ≡ false }
+        ensures { TakesBytes frame.now self.now result self.now [] }
+    {
+        self.are_one();
+        Touched::Nothing
     }
 
     // Takes another replica's message, which arrived in this frame.

@@ -1,21 +1,31 @@
-use Rattle.std.proofs.Common.{rules, ◌+◌, refl}
+use Rattle.std.proofs.Common.{◌≡◌, ◌+◌, ℕ, None, Some, ap, refl, ◌∙◌}
+use Rattle.terms.specs.declared.order.Mode.{Mode}
 use Rattle.terms.specs.declared.order.Mode.TheVariants as modes
+use Rattle.wire.specs.Messages.{request}
+use Rattle.signing.specs.Heard.{heard}
+use Rattle.replica.specs.JoinedView.{joined_data}
+use Rattle.replica.proofs.Beginning.{silence_dropped}
 use Rattle.replica.proofs.Carrying.{request_carried}
-use Rattle.replica.proofs.Beginning.{heard_request, client_dropped}
-use Rattle.replica.proofs.joined.Joined.on_client.Goals as goal
+use Rattle.replica.proofs.joined.Joined.on_request_bytes.Goals as goal
 
-pub returns-in_default : goal.returns-in_default
-returns-in_default c = record {
-  ok = rw c.requires.first (client_dropped _ c.args.client.number c.args.message c.args.frame.now c.are_one.ensures c.in_default.not-Request c.requires.heard);
-  endpoint = search rules;
-}
+pub returns-in_default-clause-ok : goal.returns-in_default-clause-ok
+returns-in_default-clause-ok c =
+    rw (c.requires.first, c.hear_request.ensures.same, ← c.self.view_is)
+    (silence_dropped (joined_data c.self.inside) c.args.bytes.now c.self.invariant
+    (ap (λ m. heard m c.self.inside.desk.me c.args.bytes.now) c.self.invariant.1
+    ∙ ap (λ (x : ℕ). heard c.self.inside.orderer.endpoint.membership x c.args.bytes.now) c.self.invariant.0
+    ∙ c.in_default.ensures.none refl))
 
 pub on_request-requires-clause-carried : goal.on_request-requires-clause-carried
 on_request-requires-clause-carried c =
-    request_carried c.args.self.now.desk.membership c.args.self.now.desk.me c.args.frame.now _
-    (heard_request _ _ (256 + c.args.client.number) c.args.frame.now c.args.message c.in-Request.request modes.Ordered c.requires.heard c.in-Request.is c.in-Ordered.is) refl
+    let it = c.in-Some.request in
+    request_carried c.self.inside.orderer.endpoint.membership c.self.inside.orderer.endpoint.me c.args.bytes.now _
+    (c.in-Some.ensures.some.hears
+    ∙ ap (λ (m : Mode). Some (record { sender = 256 + it.client.number; message = request it.timestamp.0 m c.in-Some.ensures.some.op })) c.in-Ordered.is) refl
 
-pub returns : goal.returns
-returns c =
-    absurd (c.requires.unmarked _ _ (256 + c.args.client.number) _ _
-    (heard_request _ _ (256 + c.args.client.number) c.args.frame.now c.args.message c.in-Request.request modes.ReadOnly c.requires.heard c.in-Request.is c.in-ReadOnly.is))
+pub returns-in-ReadOnly-clause-ok : goal.returns-in-ReadOnly-clause-ok
+returns-in-ReadOnly-clause-ok c =
+    let it = c.in-Some.request in
+    absurd (c.requires.unmarked c.self.inside.orderer.endpoint.membership c.self.inside.orderer.endpoint.me (256 + it.client.number) it.timestamp.0 c.in-Some.ensures.some.op
+    (c.in-Some.ensures.some.hears
+    ∙ ap (λ (m : Mode). Some (record { sender = 256 + it.client.number; message = request it.timestamp.0 m c.in-Some.ensures.some.op })) c.in-ReadOnly.is))
