@@ -46,7 +46,7 @@ impl Desk {
 }
 
 // The call without its operation. The operation is dropped here alone.
-fn begun_call(call: Call) -> BegunCall
+fn begun_call(call: Call<Global>) -> BegunCall
     ensures { result ≡ record { client = call.client; timestamp = call.timestamp } }
 {
     BegunCall {

@@ -1,18 +1,26 @@
 -- The calls that frames spell, in the program.
-use Rattle.std.specs.Prelude.{◌≡◌, ℕ, List, Option}
+use Rattle.std.specs.Prelude.{◌≡◌, ◌<◌, ℕ, List, Option, Some}
+use Rattle.terms.specs.declared.parties.ClientId.{ClientId}
+use Rattle.tuple_codec.specs.Operations.{Operation}
 use Rattle.tuple_codec.specs.OperationView.{operation_of}
-use Rattle.wire.specs.Messages.{BodyData}
+use Rattle.tuple_codec.specs.Spelling.{SpellsOperation}
+use Rattle.wire.specs.declared.request_bytes.RequestBytes.{RequestBytes}
 use Rattle.protocol.specs.System.Configuration.{Configuration}
-use Rattle.protocol.specs.Replica.State.{Call as CallData, call_in, call_of}
+use Rattle.protocol.specs.Replica.State.{Call as CallData, call_of}
 use Rattle.execution.specs.declared.calls.Call.{Call}
 
-abbrev pub call_data : Call → CallData
-call_data x = record { client = x.client.number; timestamp = x.timestamp.0; op = operation_of x.op }
+module _ {A : Type 0} where
+  abbrev pub call_data : Call A → CallData
+  call_data x = record { client = x.client.number; timestamp = x.timestamp.0; op = operation_of x.op }
 
--- The call, or none, is that of the body in each configuration with so many clients.
-abbrev pub IsCallIn : ℕ → BodyData → Option CallData → Type 0
-IsCallIn clients body call = (c : Configuration) → c.clients ≡ clients → call_in c body ≡ call
-
--- It is the call of the frame.
+-- The call, or none, is that of the frame in each configuration with so many clients.
 abbrev pub IsCallOf : ℕ → List ℕ → Option CallData → Type 0
 IsCallOf clients frame call = (c : Configuration) → c.clients ≡ clients → call_of c frame ≡ call
+
+-- The frame spells a call of this client with the request's timestamp, and the request's bytes spell its operation.
+pub record HoldsCall (clients : ℕ) (frame : List ℕ) (client : ClientId) (it : RequestBytes) : Type 0 where
+  pub op : Operation
+  pub call : IsCallOf clients frame
+      (Some (record { client = client.number; timestamp = it.timestamp.0; op = op }))
+  pub spelled : SpellsOperation it.op.now op
+  pub known : client.number < clients

@@ -8,6 +8,7 @@ ghost use Rattle.execution.specs.Touching.{Changes};
 
 use crate::calls::read_call;
 use crate::replies::WatchedReplies;
+use bumpalo::Bump;
 use space::Watched;
 use std::alloc::Global;
 use terms::{ClientId, NoMemory, Number, Timestamp};
@@ -23,9 +24,11 @@ pub struct Ran {
     pub answer: Answer<Global>,
 }
 
-/// Runs the request that a frame spells, if it is an ordered request of a client, above its last one.
+/// Runs the request that a frame spells, if it is an ordered request of a client, above its last one. The arena is for
+/// its operation.
 fn run_frame(
     alloc: Global,
+    arena: &Bump,
     space: &mut Watched,
     replies: &mut WatchedReplies,
     ran: &mut Vec<Ran>,
@@ -41,7 +44,7 @@ fn run_frame(
     ensures births { space.new.state.next ≤ space.old.state.next + 256 }
     ensures changes { Changes space.old replies.old space.new replies.new }
 {
-    let Some(call) = read_call(alloc, frame, clients)? else {
+    let Some(call) = read_call(arena, frame, clients)? else {
         return Ok(());
     };
     if call.timestamp.0 <= replies.replies().seen(call.client) {
@@ -59,7 +62,8 @@ fn run_frame(
     Ok(())
 }
 
-/// Runs the requests of frames one after another. An `Err` may leave the effects of some of them.
+/// Runs the requests of frames one after another. An `Err` may leave the effects of some of them. Their operations lie
+/// in one arena until the last one ran.
 pub fn run_frames(
     alloc: Global,
     space: &mut Watched,
@@ -77,8 +81,9 @@ pub fn run_frames(
     ensures births { space.new.state.next ≤ space.old.state.next + 256 * length frames.now }
     ensures changes { Changes space.old replies.old space.new replies.new }
 {
+    let arena = Bump::new(alloc);
     for frame in frames {
-        run_frame(alloc, space, replies, ran, number, clients, frame)?;
+        run_frame(alloc, &arena, space, replies, ran, number, clients, frame)?;
     }
     Ok(())
 }

@@ -1,10 +1,15 @@
-use Rattle.std.specs.Prelude.{option_map}
-use Rattle.wire.specs.Views.{body_data}
-use Rattle.execution.specs.Calls.{call_data}
-use Rattle.execution.proofs.Calling.{call_said}
+use Rattle.std.proofs.Common.{◌≡◌, [], Some, ap, refl, ◌∙◌}
+use Rattle.tuple_codec.specs.Operations.{Operation, IsOperation}
+use Rattle.tuple_codec.specs.OperationView.{operation_of}
+use Rattle.tuple_codec.specs.Reading.{operation_at}
+use Rattle.tuple_codec.specs.Spelling.{operation_spelling}
+use Rattle.tuple_codec.proofs.Grammar.{one}
+use Rattle.tuple_codec.proofs.OperationLaws.{operation_reads}
 use Rattle.execution.proofs.calls.read_call.Goals as goal
 
 pub returns-clause-found : goal.returns-clause-found
-returns-clause-found c =
-    call_said c.args.clients c.args.frame.now (body_data c.in_ok-body.body) (option_map call_data c.call_in.result) c.in_ok-body.ensures
-    c.call_in.ensures.found
+returns-clause-found g c k e =
+    let text = c.in-Some.request.op.now in
+    let holds = c.in-Some.ensures.some in
+    let same = one IsOperation operation_spelling operation_at operation_reads text text [] [] holds.op (operation_of c.in_ok-op.op) holds.spelled c.in_ok-op.ensures refl in
+    holds.call k e ∙ ap (λ (op : Operation). Some (record { client = c.in-Some.client.number; timestamp = c.in-Some.request.timestamp.0; op = op })) same.1
