@@ -10,6 +10,7 @@ use schedule_text::{Step, StepFault, read_step};
 use schedule_world::{Acceptance, Point, Report, RunFault, run};
 use std::alloc::Global;
 use std::io::{BufReader, Read, Write};
+use std::mem::forget;
 use terms::{ClientId, Timestamp};
 use trace_text::write_entry;
 use tuple_codec::Answer;
@@ -23,7 +24,7 @@ const HELD: usize = 8192;
 
 /// Runs the lines of a schedule and writes the report: the accepted answers, the points, and the number of entries of
 /// the trace. If requested, it writes each entry before the report, or the picture in place of both. Nothing is
-/// written for a refused schedule.
+/// written for a refused schedule. The memory of a run that ended is left to the end of the process.
 pub fn schedule<R: Read + Drop, W: Write>(
     alloc: Global,
     config: &Config,
@@ -33,7 +34,10 @@ pub fn schedule<R: Read + Drop, W: Write>(
 ) -> Result<(), ScheduleFault> {
     let report = report_of(alloc, config, reader)?;
     let mut text = Vec::new(alloc);
-    write_printed(alloc, config, &report, printed, &mut text, writer)
+    let written = write_printed(alloc, config, &report, printed, &mut text, writer);
+    // The command ends here, and its process with it: giving back each block of a long run takes a tenth of its time.
+    forget(report);
+    written
 }
 
 // The report of the run of all lines.
@@ -47,7 +51,9 @@ fn report_of<R: Read + Drop>(
         numbers: Vec::new(alloc),
     };
     let refused = read_lines(alloc, reader, &mut lines)?;
-    lines.report(alloc, config, refused)
+    let report = lines.report(alloc, config, refused);
+    forget(lines);
+    report
 }
 
 fn read_lines<R: Read + Drop>(

@@ -39,3 +39,4 @@ pub use laws::first_frame_may_come;
 pub use points::Point;
 pub use report::{Acceptance, Report};
 pub use running::{RunFault, run};
+pub use stage::Parties;

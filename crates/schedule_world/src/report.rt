@@ -1,5 +1,6 @@
 //! The report of a run.
 
+use crate::stage::Parties;
 use events::Entry;
 use points::Point;
 use std::alloc::Global;
@@ -27,4 +28,6 @@ pub struct Report {
     pub points: Vec<Point>,
     /// The correct parties that ran out of memory and stopped, ascending by number.
     pub stopped: Vec<Party>,
+    /// All parties, as the run left them.
+    pub parties: Parties,
 }

@@ -14,7 +14,7 @@ ghost use Rattle.schedule_world.specs.Stages.{IsSeated, IsStanding};
 use crate::making::{ReplicaKeys, seal_bytes, sign_bytes};
 use crate::receivers::{is_correct, is_party, is_replica, may_receive};
 use crate::report::Report;
-use crate::stage::Stage;
+use crate::stage::{Parties, Stage};
 use events::{Config, SharedBytes};
 use points::points;
 use schedule_text::Step;
@@ -89,16 +89,24 @@ fn report_of(stage: Stage, alloc: Global, config: &Config) -> Result<Report, NoM
 {
     let stopped = stage.stopped(alloc, config)?;
     let Stage {
+        replicas,
+        seats,
+        pool,
         trace,
         accepted,
-        ..
     } = stage;
+    let parties = Parties {
+        replicas,
+        seats,
+        pool,
+    };
     let points = points(alloc, config, trace.as_slice())?;
     Ok(Report {
         trace,
         accepted,
         points,
         stopped,
+        parties,
     })
 }
 

@@ -32,9 +32,9 @@ use std::sync::Arc;
 use terms::{ClientId, NoMemory, Party, ReplicaId, Timestamp};
 use tuple_codec::{Answer, Op};
 
-// A client, with the timestamp of its last call.
+/// A client, with the timestamp of its last call.
 #[derive(Drop)]
-struct Seat {
+pub(crate) struct Seat {
     client: Client,
     calls: u64,
 }
@@ -42,11 +42,20 @@ struct Seat {
 /// The parties, the frames that were made, and the trace. Faulty parties are there too, and receive nothing.
 #[derive(Drop)]
 pub(crate) struct Stage {
-    replicas: Vec<Replica>,
-    seats: Vec<Seat>,
-    pool: Pool,
+    pub(crate) replicas: Vec<Replica>,
+    pub(crate) seats: Vec<Seat>,
+    pub(crate) pool: Pool,
     pub(crate) trace: Vec<Entry>,
     pub(crate) accepted: Vec<Acceptance>,
+}
+
+/// The parties of a run that ended, and the frames that they sent. To give back all that they hold takes a tenth of a
+/// long run's time; a process that ends may [`std::mem::forget`] it.
+#[derive(Drop)]
+pub struct Parties {
+    pub(crate) replicas: Vec<Replica>,
+    pub(crate) seats: Vec<Seat>,
+    pub(crate) pool: Pool,
 }
 
 impl Stage {
