@@ -1,5 +1,5 @@
 -- What the private functions that find entries by their births speak of.
-use Rattle.std.specs.Prelude.{◌≡◌, ℕ, List, take, map, filter, find, flat_map, fold, Option, option_map, option_to_list, Result, IfOk}
+use Rattle.std.specs.Prelude.{◌≡◌, ℕ, List, take, map, filter, find, flat_map, fold, Option, option_map, option_to_list, Result, IfOk, Vec}
 use Rattle.std.specs.Borrow.{Bor}
 use Rattle.std.specs.Ordering.{nat_cmp}
 use Rattle.std.specs.Map.{lookup, remove_entry}
@@ -9,6 +9,10 @@ use Rattle.template_match.specs.Tests.{is_match}
 use Rattle.space.specs.Births.{Entry, SpaceState}
 use Rattle.space.specs.Pages.{entries_text}
 use Rattle.space.specs.declared.version.Version.{Version}
+
+-- the tuples that lie behind these loans
+abbrev pub lent_tuples : List (Bor TupleTree) → List TupleTree
+lent_tuples ts = map (λ t. t.now) ts
 
 -- the entry of a birth
 abbrev pub found_at : List Entry → ℕ → List Entry
@@ -59,3 +63,7 @@ AreOldest n p es result = IfOk result (λ copies. copies ≡ take n (matches_in 
 
 abbrev pub AreOldestAt : {E : Type 0} → ℕ → TemplateTree → List Entry → List ℕ → Result (List TupleTree) E → Type 0
 AreOldestAt n p es births result = AreOldest n p (entries_at es births) result
+
+-- They are seen where they lie.
+abbrev pub AreOldestSeen : {A E : Type 0} → ℕ → TemplateTree → List Entry → List ℕ → Result (Vec (Bor TupleTree) A) E → Type 0
+AreOldestSeen n p es births result = IfOk result (λ seen. lent_tuples seen.items ≡ take n (matches_at p es births))

@@ -15,6 +15,7 @@ pub mod Marking
 pub mod Pages
 pub mod Prints
 pub mod Reading
+pub mod Seeing
 pub mod Stored
 pub mod VersionCode
 pub mod Watching

@@ -15,8 +15,9 @@
 //!   memory runs out, the space is unchanged.
 //! - A space of version 1 answers `Refused` to `inAll` and to an operation that has or asks for a wide number, and is
 //!   unchanged. [`Space::new`] gives version 1, [`Space::new_v2`] version 2, and only `upgrade` changes the version.
-//! - `peek` answers reads, the same to each client, and refuses exactly the other operations.
-//! - `apply` and `peek` run out of memory only if the operation adds a tuple or copies a match (`WantsMemory`).
+//! - `peek` answers reads, the same to each client, and refuses exactly the other operations. `look` shows the same
+//!   answers where they lie, and leaves what `apply` would leave.
+//! - `apply`, `peek` and `look` run out of memory only if the operation adds a tuple or finds a match (`WantsMemory`).
 //! - `page_text` and `header_text` give the pages of the definition, in the form of the version. `from_pages` gives a
 //!   space exactly if the texts are a state's, unless memory runs out. It runs out only for 256 texts and a state's
 //!   header.
@@ -42,6 +43,7 @@ mod pages;
 mod place_table;
 mod prints;
 mod reading;
+mod seen;
 mod stored;
 mod tuples;
 mod version;
@@ -53,6 +55,7 @@ pub use laws::{
     reads_know_no_client, states_stay_states, tuples_follow_states,
 };
 pub use pages::HEADER_LEN;
+pub use seen::Seen;
 pub use tuples::{PeekFault, Space};
 pub use version::{MAX_TUPLES, MAX_TUPLES_V2, Version};
 pub use watched::Watched;

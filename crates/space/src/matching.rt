@@ -3,7 +3,7 @@
 ghost use Rattle.std.specs.Prelude.{◌≡◌, ◌≢◌, [], OnErr};
 ghost use Rattle.space.specs.Births.{oldest_births};
 ghost use Rattle.space.specs.Prints.{TellsMatches};
-ghost use Rattle.space.specs.Found.{IsMatchAt, IsOldestAt, AreOldestAt, matches_at, entries_at};
+ghost use Rattle.space.specs.Found.{IsMatchAt, IsOldestAt, AreOldestAt, AreOldestSeen, matches_at, entries_at};
 
 use crate::prints::print_of_template;
 use crate::stored::Stored;
@@ -97,6 +97,33 @@ pub fn copies_of_matches<A: Allocator>(
         }
     }
     Ok(copies)
+}
+
+/// The oldest matches among the tuples of these births, at most `max`, where they lie.
+pub fn seen_matches<'a, A: Allocator>(
+    alloc: Global,
+    tuples: &'a Stored,
+    births: &[u64],
+    template: &Template<A>,
+    max: Max,
+) -> Result<Vec<&'a Tuple<Global>>, NoMemory>
+    ensures value { AreOldestSeen max.count template.now tuples.now.entries births.now result }
+    ensures memory { OnErr result (matches_at template.now tuples.now.entries births.now ≢ []) }
+{
+    let mut seen = Vec::new(alloc);
+    let wanted = print_of_template(template);
+    let mut near = 0;
+    for birth in births {
+        if seen.len() >= max.count as usize {
+            return Ok(seen);
+        }
+        if let Some(tuple) = match_at(tuples, *birth, &mut near, template, wanted) {
+            // The first one takes the room of all.
+            seen.reserve(max.count as usize - seen.len())?;
+            seen.push_reserved(tuple);
+        }
+    }
+    Ok(seen)
 }
 
 /// The births of the oldest matches among the tuples of these births, at most `max`. Takes no memory.

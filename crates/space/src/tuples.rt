@@ -11,6 +11,7 @@ ghost use Rattle.tuple_codec.specs.OperationView.{operation_of, outcome_of};
 ghost use Rattle.space.specs.Answers.{Answers, AnswersAnyone, RefusesChanges, LacksMemory};
 ghost use Rattle.space.specs.Candidates.{candidates_of};
 ghost use Rattle.space.specs.Applying.{served_outcome, first_match, has_room, most_tuples, is_unknown, is_forbidden, refuses};
+ghost use Rattle.space.specs.Seeing.{ShowsAnyone, ShowsServed, StaysAsAsked, outcome_seen};
 ghost use Rattle.space.specs.Serving.{AnswersServed, FollowsServed, WantsServed};
 ghost use Rattle.space.specs.Pages.{page_text, header_text, texts_of, ArePages, MayBePages, ReadsEachState};
 ghost use Rattle.space.specs.Reading.{ArePagesOf, ReadsAllPages};
@@ -21,9 +22,10 @@ ghost use Rattle.space.specs.Births.{IsState, Follows, TuplesFollow, WantsMemory
 use crate::births::{PAGES, empty_pages, next_birth};
 use crate::index::Index;
 use crate::keys::put_tuple_key;
-use crate::matching::{births_of_matches, copies_of_matches, oldest_match};
+use crate::matching::{births_of_matches, copies_of_matches, oldest_match, seen_matches};
 use crate::pages::{HEADER_LEN, header_of, text_of};
 use crate::reading::{read_header, read_page};
+use crate::seen::Seen;
 use crate::stored::Stored;
 use crate::version::{MAX_TUPLES, MAX_TUPLES_V2, Version};
 use arrayvec::ArrayVec;
@@ -364,6 +366,26 @@ impl Space {
         Ok(Answer::All(copies))
     }
 
+    // Sees the oldest match.
+    fn see<A: Allocator>(&self, template: &Template<A>) -> Seen<'_>
+        ensures { outcome_seen result ≡ served_outcome (tuples_of self.now) (rdp template.now) }
+    {
+        match self.oldest_match(template) {
+            Some((_, tuple)) => Seen::Found(tuple),
+            None => Seen::Absent,
+        }
+    }
+
+    // Sees the oldest matches, at most `max`.
+    fn see_all<A: Allocator>(&self, max: Max, template: &Template<A>) -> Result<Seen<'_>, NoMemory>
+        ensures value { ShowsServed result self.now (rd_all max.count template.now) }
+        ensures memory { OnErr result (WantsServed self.now (rd_all max.count template.now)) }
+    {
+        let births = self.candidates(template);
+        let seen = seen_matches(self.alloc, &self.tuples, births, template, max)?;
+        Ok(Seen::All(seen))
+    }
+
     // Takes the oldest match.
     fn take<A: Allocator>(&mut self, template: &Template<A>) -> Answer<Global>
         ensures value { outcome_of result ≡ served_outcome (tuples_of self.old) (inp template.now) }
@@ -564,6 +586,39 @@ impl Space {
             Op::Out(_) | Op::Inp(_) | Op::Cas(_, _) | Op::InAll(_, _) | Op::Upgrade => {
                 Err(PeekFault::NotReadOnly)
             }
+        }
+    }
+
+    /// The same as [`Space::peek`], but for the copies: what is seen lies in the space. It is all that [`Space::apply`]
+    /// would answer and leave. NoMemory comes only if there are matches to list.
+    pub fn look<A: Allocator>(&self, op: &Op<A>) -> Result<Seen<'_>, PeekFault>
+        ensures answer { ShowsAnyone result self.now (operation_of op.now) }
+        ensures state { OnOk result (StaysAsAsked self.now (operation_of op.now)) }
+        ensures not_read_only { RefusesChanges result (operation_of op.now) }
+        ensures memory { LacksMemory result → WantsMemory self.now (operation_of op.now) }
+        ensures valid { IsState self.now }
+    {
+        self.note_state();
+        let reads = op.is_read();
+        if !reads {
+            return Err(PeekFault::NotReadOnly);
+        }
+        if self.is_unknown(op) {
+            return Ok(Seen::Refused);
+        }
+        self.look_known(op)
+    }
+
+    // Shows the answer to an operation that changes nothing and is not refused.
+    fn look_known<A: Allocator>(&self, op: &Op<A>) -> Result<Seen<'_>, PeekFault>
+        ensures answer { ShowsServed result self.now (operation_of op.now) }
+        ensures not_read_only { RefusesChanges result (operation_of op.now) }
+        ensures memory { LacksMemory result → WantsServed self.now (operation_of op.now) }
+    {
+        match op {
+            Op::Rdp(template) => Ok(self.see(template)),
+            Op::RdAll(max, template) => Ok(self.see_all(*max, template)?),
+            _ => Err(PeekFault::NotReadOnly),
         }
     }
 }
