@@ -15,6 +15,7 @@ pub mod Placing
 pub mod Fronts
 pub mod Loading
 pub mod Restoring
+pub mod Wording
 pub mod Keying
 pub mod Trees
 pub mod Storing

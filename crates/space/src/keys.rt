@@ -1,22 +1,24 @@
-//! Keys of bytes.
+//! Keys of numbers.
 
-ghost use Rattle.std.specs.Prelude.{◌≡◌, ◌+◌, ◌≤◌, ◌<◌, ◌++◌, ◌∷◌, [], length, Some, None, if◌then◌else◌};
+ghost use Rattle.std.specs.Prelude.{◌≡◌, ◌+◌, ◌*◌, ◌≤◌, ◌<◌, ◌++◌, ◌∷◌, [], length, ◌/◌, Some, None, if◌then◌else◌};
 ghost use Rattle.tuple_tree.specs.Values.{datum_length, IsTemplate};
 ghost use Rattle.tuple_tree.specs.AtomView.{datum_of};
-ghost use Rattle.tuple_codec.specs.Spelling.{datum_spelling, string as string_spelling, wide_bytes as wide_spelling};
-ghost use Rattle.space.specs.Keys.{tuple_key, template_key};
+ghost use Rattle.tuple_codec.specs.Spelling.{wide_bytes as wide_spelling};
+ghost use Rattle.space.specs.Keys.{tuple_key, template_key, datum_key, key_of, words};
 
 use arrayvec::ArrayVec;
+use byteorder::{ByteOrder, LittleEndian};
 use std::alloc::Allocator;
 use tuple_tree::{Atom, Field, Template, Tuple, Value};
 
-/// A key has at most so many bytes: a count and the spelling of a value.
-pub const KEY_LEN: usize = 1026;
+/// A key has at most so many numbers: the first one, and those of at most 1,021 bytes, eight in each.
+pub const KEY_LEN: usize = 130;
 
-/// The bytes that stand for a number of fields and a first value. There are none if no value is first, or a tuple is.
-pub type Key = ArrayVec<u8, KEY_LEN>;
+/// The numbers that stand for a number of fields and a first value. There are none if no value is first, or a tuple is.
+/// Eight bytes in one number are hashed and compared at once.
+pub type Key = ArrayVec<u64, KEY_LEN>;
 
-/// Fills in the key of a tuple. It is filled in place, since a return would copy its 1,026 bytes.
+/// Fills in the key of a tuple. It is filled in place, since a return would copy it.
 pub fn put_tuple_key<A: Allocator>(tuple: &Tuple<A>, key: &mut Key)
     requires { key.old.items ≡ [] }
     ensures { key.new.items ≡ tuple_key tuple.now }
@@ -42,34 +44,24 @@ pub fn put_template_key<A: Allocator>(template: &Template<A>, key: &mut Key) -> 
     }
 }
 
-fn put_key<A: Allocator>(count: usize, first: &Atom<A>, key: &mut Key)
+/// Fills in the key of a number of fields and a first value.
+pub fn put_key<A: Allocator, const N: usize>(
+    count: usize,
+    first: &Atom<A>,
+    key: &mut ArrayVec<u64, N>,
+)
     requires empty { key.old.items ≡ [] }
     requires few { count ≤ 32 }
+    requires room { datum_length (datum_of first.now) / 8 + 2 ≤ N }
     requires fits { datum_length (datum_of first.now) ≤ 1024 }
-    ensures { key.new.items ≡ count ∷ datum_spelling (datum_of first.now) }
+    ensures { key.new.items ≡ datum_key count (datum_of first.now) }
 {
-    key.push(count as u8);
     match first {
-        Atom::Number(number) => {
-            key.push(1);
-            put(key, &number.to_be_bytes());
-        }
-        Atom::Text(text) => {
-            key.push(2);
-            put_string(key, text.as_bytes());
-        }
-        Atom::Bytes(bytes) => {
-            key.push(3);
-            put_string(key, bytes.as_slice());
-        }
-        Atom::Truth(truth) => {
-            key.push(4);
-            key.push(*truth as u8);
-        }
-        Atom::Wide(number) => {
-            key.push(6);
-            put(key, &wide_bytes(*number));
-        }
+        Atom::Number(number) => put(key, count, 1, &number.to_be_bytes()),
+        Atom::Text(text) => put(key, count, 2, text.as_bytes()),
+        Atom::Bytes(bytes) => put(key, count, 3, bytes.as_slice()),
+        Atom::Truth(truth) => put(key, count, 4, &[*truth as u8]),
+        Atom::Wide(number) => put(key, count, 6, &wide_bytes(*number)),
     }
 }
 
@@ -80,17 +72,31 @@ fn wide_bytes(number: i128) -> [u8; 16]
     number.to_be_bytes()
 }
 
-fn put_string(key: &mut Key, string: &[u8])
-    requires { length key.old.items + (2 + length string.now) ≤ 1026 }
-    ensures { key.new.items ≡ key.old.items ++ string_spelling string.now }
+// Fills in a key by a number of fields, and the tag and the bytes of the first one.
+fn put<const N: usize>(key: &mut ArrayVec<u64, N>, count: usize, tag: u64, bytes: &[u8])
+    requires empty { key.old.items ≡ [] }
+    requires few { count ≤ 32 }
+    requires tag { tag < 8 }
+    requires fits { length bytes.now ≤ 1024 }
+    requires room { length bytes.now / 8 + 2 ≤ N }
+    ensures { key.new.items ≡ key_of count tag bytes.now }
 {
-    put(key, &(string.len() as u16).to_be_bytes());
-    put(key, string);
+    key.push(count as u64 + 64 * (tag + 8 * bytes.len() as u64));
+    put_words(bytes, key);
 }
 
-fn put(key: &mut Key, bytes: &[u8])
-    requires { length key.old.items + length bytes.now ≤ 1026 }
-    ensures { key.new.items ≡ key.old.items ++ bytes.now }
+// Adds the numbers of these bytes.
+fn put_words<const N: usize>(bytes: &[u8], key: &mut ArrayVec<u64, N>)
+    requires { length key.old.items + (length bytes.now / 8 + 1) ≤ N }
+    ensures { key.new.items ≡ key.old.items ++ words (length bytes.now / 8) bytes.now }
 {
-    let _ = key.try_extend_from_slice(bytes);
+    let mut rest = bytes;
+    while rest.len() >= 8 {
+        key.push(LittleEndian::read_u64(rest));
+        let (_, after) = rest.split_at(8);
+        rest = after;
+    }
+    if !rest.is_empty() {
+        key.push(LittleEndian::read_uint(rest, rest.len()));
+    }
 }

@@ -1,4 +1,4 @@
-//! Lists of births by keys of bytes.
+//! Lists of births by keys of numbers.
 
 ghost use Rattle.std.specs.Prelude.{◌≡◌, ◌<◌, [], ℕ, List, OnOk, IsTrue};
 ghost use Rattle.space.specs.Filing.{births_at, room_at, AddsBirth, TakesBirth, KeepsBirths, LetsGo};
@@ -12,7 +12,7 @@ use terms::NoMemory;
 #[derive(Drop)]
 pub struct Lists {
     alloc: Global,
-    lists: HashMap<Vec<u8>, KeyBirths>,
+    lists: HashMap<Vec<u64>, KeyBirths>,
 }
 
 impl Lists {
@@ -27,7 +27,7 @@ impl Lists {
     }
 
     /// The births of a key, the oldest first.
-    pub fn get(&self, key: &[u8]) -> &[u64]
+    pub fn get(&self, key: &[u64]) -> &[u64]
         ensures { result.now ≡ births_at self.now key.now }
     {
         match self.lists.get(key) {
@@ -37,7 +37,7 @@ impl Lists {
     }
 
     /// Makes room for one more birth at a key. A key that has no list gets an empty one.
-    pub fn reserve(&mut self, key: &[u8]) -> Result<(), NoMemory>
+    pub fn reserve(&mut self, key: &[u64]) -> Result<(), NoMemory>
         ensures ok { OnOk result (0 < room_at self.new key.now) }
         ensures births { KeepsBirths self.old self.new }
     {
@@ -52,7 +52,7 @@ impl Lists {
     }
 
     /// Adds a birth, the newest one, into room that was reserved.
-    pub fn add(&mut self, key: &[u8], birth: u64)
+    pub fn add(&mut self, key: &[u64], birth: u64)
         requires { 0 < room_at self.old key.now }
         ensures { AddsBirth key.now birth self.old self.new }
     {
@@ -63,7 +63,7 @@ impl Lists {
     }
 
     /// Frees the list of a key if it has no births.
-    pub fn prune(&mut self, key: &[u8])
+    pub fn prune(&mut self, key: &[u64])
         ensures kept { KeepsBirths self.old self.new }
         ensures gone { LetsGo key.now self.old self.new }
     {
@@ -73,7 +73,7 @@ impl Lists {
     }
 
     /// Takes a birth from those of a key.
-    pub fn remove(&mut self, key: &[u8], birth: u64)
+    pub fn remove(&mut self, key: &[u64], birth: u64)
         ensures { TakesBirth key.now birth self.old self.new }
     {
         if self.take(key, birth) {
@@ -82,7 +82,7 @@ impl Lists {
     }
 
     // Takes a birth, and says whether the key has none left.
-    fn take(&mut self, key: &[u8], birth: u64) -> bool
+    fn take(&mut self, key: &[u64], birth: u64) -> bool
         ensures taken { TakesBirth key.now birth self.old self.new }
         ensures emptied { IsTrue result → births_at self.new key.now ≡ [] }
     {
