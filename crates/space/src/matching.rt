@@ -30,7 +30,11 @@ fn match_at<'a, A: Allocator>(
     if tuples.passes(birth, near, wanted) {
         return None;
     }
-    match_found(tuples, birth, near, template)
+    // The place is lent as a copy, so that the walk keeps its own in a register.
+    let mut place = *near;
+    let found = match_found(tuples, birth, &mut place, template);
+    *near = place;
+    found
 }
 
 // The same, by a look at the tuple.

@@ -80,6 +80,7 @@ impl Stored {
     }
 
     /// The tuple of a birth. It is looked for at the place `near` first, which then is the place behind it.
+    #[inline(always)]
     pub fn get_near(&self, birth: u64, near: &mut usize) -> Option<&Tuple<Global>>
         ensures value { option_copied result ≡ lookup (is_at (nat_cmp birth)) self.now.entries }
     {
@@ -170,7 +171,9 @@ fn move_place(places: &mut PlaceTable, birth: u64, entries: &[(u64, Tuple<Global
     }
 }
 
-// The place of a birth's entry, which may be `near`, and else is mostly the one that was noted.
+// The place of a birth's entry, which is mostly `near`. Always inlined, so that a walk along the entries in their order
+// calls nothing for it.
+#[inline(always)]
 fn place_of(
     entries: &[(u64, Tuple<Global>)],
     places: &PlaceTable,
@@ -182,6 +185,14 @@ fn place_of(
     if lies_at(entries, birth, near) {
         return Some(near);
     }
+    noted_place(entries, places, birth)
+}
+
+// The place of a birth's entry, which is mostly the one that was noted.
+#[inline(never)]
+fn noted_place(entries: &[(u64, Tuple<Global>)], places: &PlaceTable, birth: u64) -> Option<usize>
+    ensures { LeadsTo result birth entries.now }
+{
     let place = places.near(birth);
     if lies_at(entries, birth, place) {
         return Some(place);
