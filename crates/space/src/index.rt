@@ -1,13 +1,15 @@
 //! Finds the births of a page, of a number of fields, and of a first value.
 
-ghost use Rattle.std.specs.Prelude.{◌≡◌, ◌<◌, ◌%◌, [], List, OnOk, IfOk};
+ghost use Rattle.std.specs.Prelude.{◌≡◌, ◌+◌, ◌/◌, ◌<◌, ◌≤◌, ◌%◌, [], List, OnOk, IfOk};
+ghost use Rattle.tuple_tree.specs.Items.{whole_length};
+ghost use Rattle.tuple_tree.specs.Values.{slot_length};
 ghost use Rattle.space.specs.Births.{Entry};
 ghost use Rattle.space.specs.Filing.{births_on, IsIndexOf, HasRoom, LetsGo, Files, FilesNothing, Unfiles, FindsCandidates};
 ghost use Rattle.space.specs.Keys.{tuple_key};
 
 use crate::birth_table::BirthTable;
 use crate::births::PAGES;
-use crate::keys::{Key, put_template_key, put_tuple_key};
+use crate::keys::{Key, SHORT_TEMPLATE, ShortKey, put_template_key, put_tuple_key};
 use crate::lists::Lists;
 use arrayvec::ArrayVec;
 use std::alloc::{Allocator, Global};
@@ -108,8 +110,25 @@ impl Index {
     pub fn candidates<A: Allocator>(&self, template: &Template<A>) -> &[u64]
         ensures { FindsCandidates template.now self.now result.now }
     {
-        let mut key = ArrayVec::new();
-        if put_template_key(template, &mut key) {
+        if template.encoded_len() <= SHORT_TEMPLATE {
+            let mut key: ShortKey = ArrayVec::new();
+            return self.candidates_by(template, &mut key);
+        }
+        let mut key: Key = ArrayVec::new();
+        self.candidates_by(template, &mut key)
+    }
+
+    // The same, by a key that is filled in.
+    fn candidates_by<A: Allocator, const N: usize>(
+        &self,
+        template: &Template<A>,
+        key: &mut ArrayVec<u64, N>,
+    ) -> &[u64]
+        requires empty { key.old.items ≡ [] }
+        requires room { whole_length slot_length template.now / 8 + 2 ≤ N }
+        ensures { FindsCandidates template.now self.now result.now }
+    {
+        if put_template_key(template, key) {
             self.firsts.get(key.as_slice())
         } else {
             self.lengths.get(template.len())

@@ -1,7 +1,8 @@
 //! Keys of numbers.
 
 ghost use Rattle.std.specs.Prelude.{◌≡◌, ◌+◌, ◌*◌, ◌≤◌, ◌<◌, ◌++◌, ◌∷◌, [], length, ◌/◌, Some, None, if◌then◌else◌};
-ghost use Rattle.tuple_tree.specs.Values.{datum_length, IsTemplate};
+ghost use Rattle.tuple_tree.specs.Items.{whole_length};
+ghost use Rattle.tuple_tree.specs.Values.{datum_length, slot_length, IsTemplate};
 ghost use Rattle.tuple_tree.specs.AtomView.{datum_of};
 ghost use Rattle.tuple_codec.specs.Spelling.{wide_bytes as wide_spelling};
 ghost use Rattle.space.specs.Keys.{tuple_key, template_key, datum_key, key_of, words};
@@ -18,6 +19,12 @@ pub const KEY_LEN: usize = 130;
 /// Eight bytes in one number are hashed and compared at once.
 pub type Key = ArrayVec<u64, KEY_LEN>;
 
+/// The key of a template of at most [`SHORT_TEMPLATE`] bytes, which is cheaper to clear.
+pub type ShortKey = ArrayVec<u64, 10>;
+
+/// A template of at most so many bytes is short.
+pub const SHORT_TEMPLATE: usize = 64;
+
 /// Fills in the key of a tuple. It is filled in place, since a return would copy it.
 pub fn put_tuple_key<A: Allocator>(tuple: &Tuple<A>, key: &mut Key)
     requires { key.old.items ≡ [] }
@@ -30,8 +37,12 @@ pub fn put_tuple_key<A: Allocator>(tuple: &Tuple<A>, key: &mut Key)
 }
 
 /// Fills in the key of the tuples that a template may match, if its first field is an actual, and says whether it is.
-pub fn put_template_key<A: Allocator>(template: &Template<A>, key: &mut Key) -> bool
-    requires { key.old.items ≡ [] }
+pub fn put_template_key<A: Allocator, const N: usize>(
+    template: &Template<A>,
+    key: &mut ArrayVec<u64, N>,
+) -> bool
+    requires empty { key.old.items ≡ [] }
+    requires room { whole_length slot_length template.now / 8 + 2 ≤ N }
     ensures value { (if result then Some key.new.items else None) ≡ template_key template.now }
     ensures valid { IsTemplate template.now }
 {

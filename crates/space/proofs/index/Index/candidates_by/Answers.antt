@@ -2,7 +2,7 @@ use Rattle.std.proofs.Common.{◌≡◌, ℕ, Bool, true, false, List, Option, S
 use Rattle.tuple_tree.specs.Items.{how_many}
 use Rattle.space.specs.Filing.{births_at, births_in}
 use Rattle.space.proofs.Among.{first_candidates, open_candidates}
-use Rattle.space.proofs.index.Index.candidates.Goals as goal
+use Rattle.space.proofs.index.Index.candidates_by.Goals as goal
 
 filled : (b : Bool) (key : List ℕ) (o : Option (List ℕ)) → (if b then Some key else None) ≡ o → b ≡ true → o ≡ Some key
 filled true key o e h = sym e
