@@ -6,7 +6,8 @@
 //! pages have the same root. A replica that lags finds the pages that differ by going down from the root.
 //!
 //! Trees and snapshots share their texts and the digests of their pages: each page's text is owned by an `Arc`, and
-//! so is each part. A write copies the part that it changes.
+//! so is each part. A write copies the part that it changes. A text is kept with its hasher, so a page to which more is
+//! added is hashed from where it ended.
 //!
 //! # What is proved
 //!
@@ -19,6 +20,7 @@ mod digests;
 mod page;
 mod part;
 mod parts;
+mod text;
 mod tree;
 
 pub use digests::{CHILDREN, digest, digest_of_children};

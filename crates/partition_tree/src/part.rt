@@ -1,20 +1,20 @@
 //! An inner part of the tree: its pages with their digests.
 
-ghost use Rattle.std.specs.Prelude.{◌≡◌, ◌<◌, [], IfOk, map, replicate, slice_index_or, slice_set};
-ghost use Rattle.std.specs.Arc.{arc_slice_items};
+ghost use Rattle.std.specs.Prelude.{◌≡◌, ◌<◌, [], IfOk, OnOk, OnErr, map, replicate, slice_index_or, slice_set};
 ghost use Rattle.sha2.specs.Sha256.{sha256};
 ghost use Rattle.partition_tree.specs.Parts.{part_digest};
 
 use crate::digests::{CHILDREN, digest, digest_of_children};
+use crate::text::Text;
 use std::alloc::{AllocError, Global};
 use std::marker::Model;
-use std::sync::ArcSlice;
+use std::sync::Arc;
 use terms::{Digest, NoMemory};
 
 /// The texts of 32 pages, each with an owner of its own that others may share, and their digests.
 #[derive(Drop)]
 pub struct Part {
-    texts: Vec<ArcSlice<u8>>,
+    texts: Vec<Arc<Text>>,
     digests: [Digest; CHILDREN],
 }
 
@@ -34,7 +34,7 @@ impl Part {
     pub fn empty(alloc: Global) -> Result<Part, NoMemory>
         ensures { IfOk result (λ p. p ≡ replicate 32 []) }
     {
-        let text = ArcSlice::from_vec(Vec::new(alloc))?;
+        let text = Arc::new(alloc, Text::new(Vec::new(alloc)))?;
         let mut texts = Vec::with_capacity(alloc, CHILDREN)?;
         for _page in 0..CHILDREN {
             texts.push(text.clone()?)?;
@@ -65,13 +65,18 @@ impl Part {
         digest_of_children(&self.digests)
     }
 
-    /// Replaces the text of a page, and hashes it.
-    pub fn set(&mut self, child: usize, text: ArcSlice<u8>)
+    /// Replaces the text of a page, and hashes it, or only what the page's text doesn't begin it with. An error leaves
+    /// the part as it was.
+    pub fn set(&mut self, child: usize, text: Vec<u8>) -> Result<(), NoMemory>
         requires { child < CHILDREN }
-        ensures { self.new ≡ slice_set self.old child (arc_slice_items text) }
+        ensures ok { OnOk result (self.new ≡ slice_set self.old child text.items) }
+        ensures err { OnErr result (self.new ≡ self.old) }
     {
-        self.digests[child] = digest(text.as_slice());
-        self.texts[child] = text;
+        let text = Text::after(&self.texts[child], text);
+        let digest = text.digest();
+        self.texts[child] = Arc::new(*self.texts.allocator(), text)?;
+        self.digests[child] = digest;
+        Ok(())
     }
 }
 

@@ -1,7 +1,6 @@
 //! The inner parts of a tree, each with an owner of its own that others may share, and changes of their pages.
 
 ghost use Rattle.std.specs.Prelude.{◌≡◌, ◌<◌, false, IfOk, OnOk, OnErr, map, length};
-ghost use Rattle.std.specs.Arc.{arc_slice_items};
 ghost use Rattle.partition_tree.specs.Changes.{AreKnown};
 ghost use Rattle.partition_tree.specs.Owners.{SetsText, KeepsPart, SetsPages, KeepsOthers};
 ghost use Rattle.partition_tree.specs.Parts.{AreFull, parts_of, part_digest};
@@ -9,18 +8,17 @@ ghost use Rattle.partition_tree.specs.Parts.{AreFull, parts_of, part_digest};
 use crate::digests::CHILDREN;
 use crate::page::Page;
 use crate::part::Part;
-use std::sync::{Arc, ArcSlice};
+use std::sync::Arc;
 use terms::{Digest, NoMemory};
 
 /// Replaces the text of a page, in a copy of the part if others share it.
-pub fn put(part: &mut Arc<Part>, child: usize, text: ArcSlice<u8>) -> Result<(), NoMemory>
+pub fn put(part: &mut Arc<Part>, child: usize, text: Vec<u8>) -> Result<(), NoMemory>
     requires { child < CHILDREN }
-    ensures ok { OnOk result (SetsText part.old part.new child (arc_slice_items text)) }
+    ensures ok { OnOk result (SetsText part.old part.new child text.items) }
     ensures err { OnErr result (KeepsPart part.old part.new) }
 {
     let part = Arc::make_mut(part)?;
-    part.set(child, text);
-    Ok(())
+    part.set(child, text)
 }
 
 // Replaces the text of a page, unless the page has it already. Gives whether the page changed.
@@ -32,7 +30,7 @@ fn change(part: &mut Arc<Part>, child: usize, text: Vec<u8>) -> Result<bool, NoM
     if part.page(child) == text.as_slice() {
         return Ok(false);
     }
-    put(part, child, ArcSlice::from_vec(text)?)?;
+    put(part, child, text)?;
     Ok(true)
 }
 

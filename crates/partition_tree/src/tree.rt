@@ -11,7 +11,7 @@ use crate::part::Part;
 use crate::parts::{change_all, put, renewed};
 use std::alloc::Global;
 use std::marker::Model;
-use std::sync::{Arc, ArcSlice};
+use std::sync::Arc;
 use terms::{Digest, Level, NoMemory};
 
 /// How many pages there are.
@@ -83,7 +83,8 @@ impl Tree {
         self.root
     }
 
-    /// Sets the text of page `i`, 0 to 1,023. Hashes it, and twice 1,024 bytes of digests. If the page has that text
+    /// Sets the text of page `i`, 0 to 1,023. Hashes it, or what stands in it behind the page's text, and twice 1,024
+    /// bytes of digests. If the page has that text
     /// already, it hashes nothing and takes no memory. An error leaves the tree as it was.
     pub fn set_page(&mut self, i: usize, text: &[u8]) -> Result<(), NoMemory>
         requires { i < PAGES }
@@ -94,7 +95,7 @@ impl Tree {
         if self.page(i) == text {
             return Ok(());
         }
-        let text = ArcSlice::from_slice(*self.parts.allocator(), text)?;
+        let text = Vec::from_slice(*self.parts.allocator(), text)?;
         let part = i / CHILDREN;
         put(&mut self.parts[part], i % CHILDREN, text)?;
         self.inner[part] = self.parts[part].digest();
@@ -103,8 +104,8 @@ impl Tree {
     }
 
     /// Sets the texts of several pages; of two texts for one page the later counts. Hashes each text that differs
-    /// from the page's, each part above such a page once, and the root once. Takes over the texts' memory. An error
-    /// leaves the tree as it was.
+    /// from the page's, or what stands in it behind that one, each part above such a page once, and the root once.
+    /// Takes over the texts' memory. An error leaves the tree as it was.
     pub fn set_pages(&mut self, pages: Vec<Page>) -> Result<(), NoMemory>
         ensures ok { OnOk result (self.new ≡ pages_with pages.items self.old) }
         ensures err { OnErr result (self.new ≡ self.old) }

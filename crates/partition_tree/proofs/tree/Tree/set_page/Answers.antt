@@ -57,7 +57,7 @@ invariant_of-self-2 c =
     let owners = c.self.inside.parts.items in
     let all : length owners ≡ 32 = c.self.invariant.0 in
     let was = c.index_mut.ensures.value in
-    let is = c.in_ok-put.ensures.ok ∙ ap (set (arc_value c.index_mut.result.now) (c.args.i % 32)) c.in_ok-text.ensures.ok in
+    let is = c.in_ok-put.ensures.ok ∙ ap (set (arc_value c.index_mut.result.now) (c.args.i % 32)) c.in_ok-text.ensures.items in
     let inner = c.self.inside.inner in
     let digest = c.digest.ensures ∙ ap part_digest c.deref.ensures in (
       rw length-set all,
@@ -70,6 +70,6 @@ pub returns-clause-ok : goal.returns-clause-ok
 returns-clause-ok c =
     let owners = c.self.inside.parts.items in
     let was = c.index_mut.ensures.value in
-    let is = c.in_ok-put.ensures.ok ∙ ap (set (arc_value c.index_mut.result.now) (c.args.i % 32)) c.in_ok-text.ensures.ok in
+    let is = c.in_ok-put.ensures.ok ∙ ap (set (arc_value c.index_mut.result.now) (c.args.i % 32)) c.in_ok-text.ensures.items in
     pages_written owners c.args.i _ _ c.args.text.now c.self.invariant.0 c.self.invariant.1 c.requires was is
     ∙ ap (λ (pages : List (List ℕ)). set pages c.args.i c.args.text.now) c.self.view_is
