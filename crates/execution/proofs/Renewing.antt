@@ -6,7 +6,8 @@ use Rattle.std.proofs.lemmas.Bool.{cases_eq, lt-ltb, le-ltb, ltb-true, ltb-false
 use Rattle.std.proofs.lemmas.List.{get_or-replicate, get_or_past, length-replicate}
 use Rattle.std.proofs.lemmas.List.Elements.{All-head, All-tail, All-push}
 use Rattle.space.specs.Pages.{page_text as tuple_page}
-use Rattle.space.specs.Watching.{WatchedState, is_touched as is_space_touched}
+use Rattle.space.specs.Watching.{WatchedState, is_changed, is_touched as is_space_touched}
+use Rattle.space.proofs.Touching.{written_whole}
 use Rattle.reply_cache.specs.Pages.{page_text as reply_page, reply_text}
 use Rattle.partition_tree.specs.Changes.{pages_with}
 use Rattle.partition_tree.specs.Digests.{empty_pages}
@@ -54,6 +55,14 @@ renewed_page st touched ps p e h = record {
     go : (i : ℕ) → touched i ≡ true → (i < p.index) ⊎ (p.index ≡ i) → IsAmong i (ps ++ p ∷ [])
     go i t (inl m) = among_left i ps p (h.among i m t)
     go i t (inr m) = among_last i ps p m
+
+-- A page that isn't touched needs no text.
+pub passed_page : (st : State) (touched : ℕ → Bool) (ps : List Page) (index : ℕ) → touched index ≡ false → AreRenewed st touched ps index → AreRenewed st touched ps (index + 1)
+passed_page st touched ps index off h = record { texts = h.texts; among = λ i l t. go i t (below_or_at i index l) }
+  where
+    go : (i : ℕ) → touched i ≡ true → (i < index) ⊎ (index ≡ i) → IsAmong i ps
+    go i t (inl m) = h.among i m t
+    go i t (inr e) = absurd (let bad : true ≡ false = sym t ∙ ap touched (sym e) ∙ off in cc)
 
 -- ---- the pages of a state
 
@@ -109,10 +118,10 @@ rest_at st i l =
 -- ---- a tree that has the pages
 
 pub has_all : (number : ℕ) (w : WatchedState) (r : RepliesState) (tree : List (List ℕ))
-    → tree ≡ pages_of (state_with number w.state r.replies) → HasPages tree w r
-has_all number w r tree e = record {
+    → tree ≡ pages_of (state_with number w.state r.replies) → ((page : ℕ) → page < 256 → is_space_touched w page ≡ false) → HasPages tree w r
+has_all number w r tree e untouched = record {
   long = ap length e ∙ pages_long st;
-  tuples = λ i l h. let m : i < 1024 = omega arith in at i m ∙ tuples_at st i l;
+  tuples = λ i l h. let m : i < 1024 = omega arith in at i m ∙ tuples_at st i l ∙ sym (written_whole w i (untouched i l)).1;
   replies = λ i l h. let m : 256 + i < 1024 = omega arith in at (256 + i) m ∙ replies_at st i l;
   rest = λ i l. go i l (nat_lt i 1024) refl;
 }
@@ -135,7 +144,7 @@ unfolding empty_pages no_text
 empty_long = length-replicate 1024 no_text
 
 pub has_none : (w : WatchedState) (r : RepliesState) (tree : List (List ℕ)) → tree ≡ empty_pages
-    → ((page : ℕ) → page < 256 → is_space_touched w page ≡ true) → ((client : ℕ) → client < 256 → is_touched r client ≡ true)
+    → ((page : ℕ) → page < 256 → is_changed w page ≡ true) → ((client : ℕ) → client < 256 → is_touched r client ≡ true)
     → HasPages tree w r
 unfolding empty_pages
 has_none w r tree e spaces replies = record {
@@ -183,7 +192,9 @@ all_set number w r tree ps has new =
         go false e = e
 
     tuples : (i : ℕ) → All (λ (p : Page). p.index ≢ i) ps → i < 256 → get_or tree i [] ≡ page_text st i
-    tuples i apart l = has.tuples i l (sym (tuples_touched w r i l) ∙ none i apart (omega arith)) ∙ sym (tuples_at st i l)
+    tuples i apart l =
+        let whole = written_whole w i (sym (tuples_touched w r i l) ∙ none i apart (omega arith)) in
+        has.tuples i l whole.0 ∙ whole.1 ∙ sym (tuples_at st i l)
 
     replies : (i : ℕ) → All (λ (p : Page). p.index ≢ 256 + i) ps → i < 256 → get_or tree (256 + i) [] ≡ page_text st (256 + i)
     replies i apart l = has.replies i l (sym (replies_touched w r i l) ∙ none (256 + i) apart (omega arith)) ∙ sym (replies_at st i l)

@@ -10,7 +10,7 @@ use Rattle.reply_cache.specs.Replies.{Replies}
 use Rattle.reply_cache.specs.Pages.{ArePages as AreReplyPages}
 use Rattle.protocol.specs.Replica.State.{State, IsReplicatedState, page_text, all_pages, pages_of}
 use Rattle.protocol.proofs.Words.Paging.{header_at}
-use Rattle.space.specs.Watching.{WatchedState}
+use Rattle.space.specs.Watching.{WatchedState, is_touched}
 use Rattle.execution.specs.Running.{state_with}
 use Rattle.execution.specs.Touching.{RepliesState}
 use Rattle.execution.specs.Keeping.{IsExecuted}
@@ -116,11 +116,12 @@ none_replaces old st number pages h falls other has none = falls (subst (NoneFal
 -- ---- the invariant of a state that was read
 
 pub keeps_read : (number clients : ℕ) (pages : List (List ℕ)) (w : WatchedState) (r : RepliesState) (s : SpaceState) (q : Replies)
-    → clients ≤ 256 → w.state ≡ s → r.replies ≡ q → HasPagesAt number pages (state_with number s q) → IsExecuted number clients pages w r
-keeps_read number clients pages w r s q few e f h =
+    → clients ≤ 256 → w.state ≡ s → r.replies ≡ q → HasPagesAt number pages (state_with number s q) → ((page : ℕ) → page < 256 → is_touched w page ≡ false)
+    → IsExecuted number clients pages w r
+keeps_read number clients pages w r s q few e f h untouched =
     let same : state_with number s q ≡ state_with number w.state r.replies = rw (e, f) refl in
     record {
       state = subst IsReplicatedState same h.state;
       few = few;
-      pages = has_all number w r pages (sym h.pages ∙ ap pages_of same);
+      pages = has_all number w r pages (sym h.pages ∙ ap pages_of same) untouched;
     }

@@ -2,8 +2,7 @@
 use Rattle.std.specs.Prelude.{◌≡◌, ℕ, ◌+◌, ◌-◌, ◌<◌, ◌⊎◌, Bool, true, false, List, [], ◌∷◌, length, slice_index_or, nat_lt, if◌then◌else◌, All, refl}
 use Rattle.std.specs.Coded.{Coded, code_by, coded×, coded_list, coded_bool}
 use Rattle.space.specs.Births.{IsState as IsSpace}
-use Rattle.space.specs.Pages.{page_text as tuple_page}
-use Rattle.space.specs.Watching.{WatchedState, TouchesChanges, is_touched as is_space_touched}
+use Rattle.space.specs.Watching.{WatchedState, IsWrittenAs, KeepsWritten, is_touched as is_space_touched}
 use Rattle.reply_cache.specs.Replies.{Replies, AreReplies}
 use Rattle.reply_cache.specs.RepliesCode.{replies_code}
 use Rattle.reply_cache.specs.Pages.{page_text as reply_page}
@@ -31,18 +30,18 @@ TouchesReplies old new =
 
 -- How requests change both: they touch what they change, and leave a space and replies.
 pub record Changes (w : WatchedState) (r : RepliesState) (w' : WatchedState) (r' : RepliesState) : Type 0 where
-  pub space : TouchesChanges w w'
+  pub space : KeepsWritten w w'
   pub replies : TouchesReplies r r'
   pub is_space : IsSpace w.state → IsSpace w'.state
   pub are_replies : AreReplies r.replies → AreReplies r'.replies
 
 -- ---- the tree
 
--- The tree has the text of each page that isn't touched, except for the header.
+-- The tree has what was written of each page of tuples, the text of each page of replies that isn't touched, and
+-- nothing behind the header.
 pub record HasPages (tree : List (List ℕ)) (w : WatchedState) (r : RepliesState) : Type 0 where
   pub long : length tree ≡ 1024
-  pub tuples : (page : ℕ) → page < 256 → is_space_touched w page ≡ false
-      → slice_index_or tree page [] ≡ tuple_page w.state page
+  pub tuples : (page : ℕ) → page < 256 → IsWrittenAs w page (slice_index_or tree page [])
   pub replies : (client : ℕ) → client < 256 → is_touched r client ≡ false
       → slice_index_or tree (256 + client) [] ≡ reply_page r.replies client
   pub rest : (page : ℕ) → 512 < page → slice_index_or tree page [] ≡ []

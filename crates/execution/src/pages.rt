@@ -1,6 +1,7 @@
 //! The pages of the executed state. A tree of them is renewed page by page, if they may have changed.
 
-ghost use Rattle.std.specs.Prelude.{◌≡◌, ◌<◌, IfOk, OnOk};
+ghost use Rattle.std.specs.Prelude.{◌≡◌, ◌<◌, [], slice_index_or, IfOk, OnOk};
+ghost use Rattle.space.specs.Watching.{IsWrittenAs};
 ghost use Rattle.protocol.specs.Replica.State.{page_text, pages_of};
 ghost use Rattle.execution.specs.Running.{state_with};
 ghost use Rattle.execution.specs.Touching.{is_page_touched, AreRenewed, Renews, HasPages};
@@ -8,7 +9,7 @@ ghost use Rattle.execution.specs.Touching.{is_page_touched, AreRenewed, Renews, 
 use crate::replies::WatchedReplies;
 use partition_tree::{Page, Tree};
 use reply_cache::ReplyCache;
-use space::{Space, Watched};
+use space::Watched;
 use std::alloc::Global;
 use terms::{ClientId, NoMemory, Number};
 
@@ -30,7 +31,7 @@ pub fn renew(
     ensures replies { replies.new.replies ≡ replies.old.replies }
     ensures has { HasPages tree.new space.new replies.new }
 {
-    let pages = touched_pages(alloc, space, replies, number)?;
+    let pages = touched_pages(alloc, tree, space, replies, number)?;
     tree.set_pages(pages)?;
     space.untouch();
     replies.untouch();
@@ -40,30 +41,34 @@ pub fn renew(
 // The pages that may have changed, with their texts.
 fn touched_pages(
     alloc: Global,
+    tree: &Tree,
     space: &Watched,
     replies: &WatchedReplies,
     number: Number,
 ) -> Result<Vec<Page>, NoMemory>
+    requires { HasPages tree.now space.now replies.now }
     ensures { IfOk result (λ pages. AreRenewed
         (state_with number.0 space.now.state replies.now.replies)
         (is_page_touched space.now replies.now) pages.items 513) }
 {
     let mut pages = Vec::new(alloc);
     for index in 0..TEXTS {
-        add_page(space, replies, number, index, &mut pages)?;
+        add_page(tree, space, replies, number, index, &mut pages)?;
     }
     Ok(pages)
 }
 
 // Adds a page with its text, if it may have changed.
 fn add_page(
+    tree: &Tree,
     space: &Watched,
     replies: &WatchedReplies,
     number: Number,
     index: usize,
     pages: &mut Vec<Page>,
 ) -> Result<(), NoMemory>
-    requires { index < 513 }
+    requires index { index < 513 }
+    requires has { HasPages tree.now space.now replies.now }
     ensures { OnOk result (Renews (state_with number.0 space.now.state replies.now.replies)
         (is_page_touched space.now replies.now) index pages.old.items pages.new.items) }
 {
@@ -71,7 +76,7 @@ fn add_page(
         return Ok(());
     }
     let alloc = *pages.allocator();
-    let text = text_of(alloc, space.space(), replies.replies(), number, index)?;
+    let text = text_of(alloc, tree, space, replies.replies(), number, index)?;
     pages.push(Page { index, text })?;
     Ok(())
 }
@@ -89,25 +94,28 @@ fn is_touched(space: &Watched, replies: &WatchedReplies, index: usize) -> bool
     true
 }
 
+// The text of a page, which is written on from that in the tree if it only got longer.
 #[tactic(auto, unfolding(protocol::specs::Replica::State::page_text))]
 fn text_of(
     alloc: Global,
-    space: &Space,
+    tree: &Tree,
+    space: &Watched,
     replies: &ReplyCache,
     number: Number,
     index: usize,
 ) -> Result<Vec<u8>, NoMemory>
-    requires { index < 513 }
+    requires index { index < 513 }
+    requires written { index < 256 → IsWrittenAs space.now index (slice_index_or tree.now index []) }
     ensures { IfOk result (λ text.
-        text.items ≡ page_text (state_with number.0 space.now replies.now) index) }
+        text.items ≡ page_text (state_with number.0 space.now.state replies.now) index) }
 {
     if index < 256 {
-        return space.page_text(index);
+        return space.page_text(index, tree.page(index));
     }
     if index < 512 {
         let number = (index - 256) as u16;
         return replies.page_text(ClientId { number });
     }
-    let text = Vec::from_slice(alloc, &space.header_text(number.0))?;
+    let text = Vec::from_slice(alloc, &space.space().header_text(number.0))?;
     Ok(text)
 }

@@ -10,7 +10,7 @@ use Rattle.tuple_tree.specs.Values.{TupleTree, TemplateTree}
 use Rattle.template_match.specs.Tests.{is_match}
 use Rattle.space.specs.Applying.{has_room, first_match}
 use Rattle.space.specs.Births.{Entry, SpaceState, tuples_of, birth_of, with_birth, with_tuple, without_match, served_state}
-use Rattle.space.specs.Pages.{entries_text, on_page, page_text}
+use Rattle.space.specs.Pages.{on_page}
 use Rattle.space.specs.Marking.{with_pages}
 use Rattle.space.proofs.Texts.{on_page-append}
 use Rattle.space.proofs.Trees.{first_taken}
@@ -21,24 +21,24 @@ unfolding on_page
 elsewhere page e other = ap (λ (b : Bool). cond b (e ∷ []) []) (ne_eqb (e.0 % 256) page other)
 
 module _ (s : SpaceState) (page : ℕ) (other : birth_of s % 256 ≢ page) where
-  added : (t : TupleTree) → page_text (with_birth s t) page ≡ page_text s page
+  added : (t : TupleTree) → on_page page (with_birth s t).entries ≡ on_page page s.entries
   added t =
-      ap (entries_text s.version) (on_page-append page s.entries ((birth_of s, t) ∷ []) ∙ ap (λ (xs : List Entry). on_page page s.entries ++ xs) (elsewhere page (birth_of s, t) other)
-      ∙ append-nil (on_page page s.entries))
+      on_page-append page s.entries ((birth_of s, t) ∷ []) ∙ ap (λ (xs : List Entry). on_page page s.entries ++ xs) (elsewhere page (birth_of s, t) other)
+      ∙ append-nil (on_page page s.entries)
 
-  pub text_with_tuple : (t : TupleTree) → page_text (with_tuple s t) page ≡ page_text s page
-  text_with_tuple t = go (has_room (tuples_of s))
+  pub page_with_tuple : (t : TupleTree) → on_page page (with_tuple s t).entries ≡ on_page page s.entries
+  page_with_tuple t = go (has_room (tuples_of s))
     where
-      go : (b : Bool) → page_text (cond b (with_birth s t) s) page ≡ page_text s page
+      go : (b : Bool) → on_page page (cond b (with_birth s t) s).entries ≡ on_page page s.entries
       go true = added t
       go false = refl
 
-  pub text_swapped : (p : TemplateTree) (t : TupleTree) → page_text (served_state s (cas p t)) page ≡ page_text s page
-  text_swapped p t = go (is_some (first_match p (tuples_of s)))
+  pub page_swapped : (p : TemplateTree) (t : TupleTree) → on_page page (served_state s (cas p t)).entries ≡ on_page page s.entries
+  page_swapped p t = go (is_some (first_match p (tuples_of s)))
     where
-      go : (b : Bool) → page_text (cond b s (with_tuple s t)) page ≡ page_text s page
+      go : (b : Bool) → on_page page (cond b s (with_tuple s t)).entries ≡ on_page page s.entries
       go true = refl
-      go false = text_with_tuple t
+      go false = page_with_tuple t
 
 on_page-remove : (page : ℕ) (es : List Entry) (i : ℕ) (d : Entry) → i < length es → (get_or es i d).0 % 256 ≢ page → on_page page (remove es i) ≡ on_page page es
 unfolding on_page
@@ -46,11 +46,11 @@ on_page-remove page [] i d l other = absurd (omega arith)
 on_page-remove page (x ∷ xs) zero d l other = sym (ap (λ (b : Bool). cond b (x ∷ on_page page xs) (on_page page xs)) (ne_eqb (x.0 % 256) page other))
 on_page-remove page (x ∷ xs) (suc i) d l other = ap (λ (ys : List Entry). cond (x.0 % 256 == page) (x ∷ ys) ys) (on_page-remove page xs i d (omega arith) other)
 
-pub text_taken : (s : SpaceState) (p : TemplateTree) (e : Entry) (page : ℕ) → Some e ≡ find (λ e. is_match p e.1) s.entries → e.0 % 256 ≢ page → page_text (without_match s p) page ≡ page_text s page
-text_taken s p e page h other =
+pub page_taken : (s : SpaceState) (p : TemplateTree) (e : Entry) (page : ℕ) → Some e ≡ find (λ e. is_match p e.1) s.entries → e.0 % 256 ≢ page → on_page page (without_match s p).entries ≡ on_page page s.entries
+page_taken s p e page h other =
     let k = first_taken (λ (x : Entry). is_match p x.1) s.entries e (sym h) in
-    ap (λ (es : List Entry). entries_text s.version (on_page page es)) k.1.left
-    ∙ ap (entries_text s.version) (on_page-remove page s.entries k.0 e k.1.within (λ q. other (ap (λ (x : Entry). x.0 % 256) k.1.here ∙ q)))
+    ap (on_page page) k.1.left
+    ∙ on_page-remove page s.entries k.0 e k.1.within (λ q. other (ap (λ (x : Entry). x.0 % 256) k.1.here ∙ q))
 
 -- ---- sets of pages
 
@@ -77,6 +77,17 @@ one_of_all page n l m h =
     let is : get_or (range_with_len 0 n) page 0 ≡ page = get_or-range_with_len 0 n page 0 l ∙ first in
     let e : page % 256 ≡ page = omega arith in
     h page 0 (omega (arith, l, length-range_with_len 0 n)) (ap (λ (i : ℕ). i % 256) is ∙ e)
+
+-- A page is one of those of the births, or none of them lies on it.
+pub on_or_off : (births : List ℕ) (page : ℕ) → Contains (map (λ b. b % 256) births) page ⊎ All (λ b. b % 256 ≢ page) births
+on_or_off [] page = inr (All-nil _)
+on_or_off (b ∷ bs) page = go (cases_eq page (b % 256)) (on_or_off bs page)
+  where
+    go : (page ≡ b % 256) ⊎ (page ≢ b % 256) → Contains (map (λ b. b % 256) bs) page ⊎ All (λ b. b % 256 ≢ page) bs
+        → Contains (map (λ b. b % 256) (b ∷ bs)) page ⊎ All (λ b. b % 256 ≢ page) (b ∷ bs)
+    go (inl same) rest = inl (0, omega arith, sym same)
+    go (inr other) (inl rest) = let l = rest.1 in inl (suc rest.0, omega arith, rest.2)
+    go (inr other) (inr rest) = inr (All-cons (λ b. b % 256 ≢ page) b bs (λ same. other (sym same)) rest)
 
 -- One of the births lies on a page that is there afterwards and wasn't before.
 pub marked : (births : List ℕ) (old : List Bool) (page : ℕ) → get_or (with_pages old births) page false ≡ true → get_or old page false ≡ false → Contains (map (λ b. b % 256) births) page

@@ -152,6 +152,14 @@ each_found (x ∷ xs) h =
 found_one : (es : List Entry) (e : Entry) → lookup (is_at (nat_cmp e.0)) es ≡ Some e.1 → found_at es e.0 ≡ e ∷ []
 found_one es e h = ap (λ o. map (λ (t : TupleTree). (e.0, t)) (option_to_list o)) h
 
+-- The births of entries lead to them.
+pub entries_listed : (es fs : List Entry) → All (λ e. lookup (is_at (nat_cmp e.0)) es ≡ Some e.1) fs → entries_at es (map (λ e. e.0) fs) ≡ fs
+entries_listed es [] h = refl
+entries_listed es (x ∷ xs) h =
+    flat_map-cons (found_at es) x.0 (map (λ (e : Entry). e.0) xs)
+    ∙ ap (λ ys. ys ++ entries_at es (map (λ (e : Entry). e.0) xs)) (found_one es x (All-head (λ e. lookup (is_at (nat_cmp e.0)) es ≡ Some e.1) x xs h))
+    ∙ ap (λ ys. x ∷ ys) (entries_listed es xs (All-tail (λ e. lookup (is_at (nat_cmp e.0)) es ≡ Some e.1) x xs h))
+
 module _ (test : Entry → Bool) (es : List Entry) where
   entries_among : (fs : List Entry) → All (λ e. lookup (is_at (nat_cmp e.0)) es ≡ Some e.1) fs → entries_at es (births_by test fs) ≡ filter test fs
   entries_among [] h = refl

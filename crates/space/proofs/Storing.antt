@@ -1,23 +1,25 @@
 -- The tables and the index follow the tuples.
-use Rattle.std.proofs.Common.{◌≡◌, ℕ, suc, ◌+◌, ◌-◌, ◌%◌, ◌≤◌, ◌<◌, Bool, true, false, cond, List, [], ◌∷◌, ◌++◌, length, map, take, get_or, set, Some, refl, sym, ap, subst, ◌∙◌, arith, inl, inr}
+use Rattle.std.proofs.Common.{◌≡◌, ℕ, suc, ◌+◌, ◌-◌, ◌%◌, ◌≤◌, ◌<◌, Bool, true, false, cond, List, [], ◌∷◌, ◌++◌, length, map, take, drop, get_or, set, Some, refl, sym, ap, subst, ◌∙◌, arith, inl, inr}
 use Rattle.std.specs.Prelude.{◌==◌, All, AllPairs, filter, find, remove, nat_lt}
 use Rattle.std.specs.Ordering.{nat_cmp, is_eq}
 use Rattle.std.specs.Map.{lookup, remove_entry}
 use Rattle.std.specs.BTreeMap.{is_at, insert_entry}
 use Rattle.std.proofs.lemmas.Bool.{cases_eq}
-use Rattle.std.proofs.lemmas.List.Elements.{All-weaker}
+use Rattle.std.proofs.lemmas.List.{length-map, drop-map}
+use Rattle.std.proofs.lemmas.List.Elements.{All-weaker, All-filter, All-drop}
 use Rattle.tuple_tree.specs.Values.{TupleTree, TemplateTree, IsTuple}
 use Rattle.template_match.specs.Tests.{is_match}
 use Rattle.space.specs.Applying.{most_tuples, without_first}
-use Rattle.space.specs.Births.{Entry, SpaceState, IsState, tuples_of, first_passing, birth_of, oldest_births, with_birth}
+use Rattle.space.specs.Births.{Entry, SpaceState, IsState, page_count, tuples_of, first_passing, birth_of, oldest_births, with_birth}
 use Rattle.space.specs.Candidates.{is_candidate, candidates_of}
 use Rattle.space.specs.Counted.{IsIndexed}
-use Rattle.space.specs.Filing.{births_by, IsIndexOf}
+use Rattle.space.specs.Filing.{births_by, births_on, IsIndexOf}
 use Rattle.space.specs.Found.{entries_at}
-use Rattle.space.specs.Pages.{on_page, entries_text, page_text}
+use Rattle.space.specs.Pages.{on_page, entries_text, page_text, text_of_oldest}
 use Rattle.space.specs.declared.index.Index.{Index}
 use Rattle.space.specs.declared.version.Version.{Version}
-use Rattle.space.proofs.Filing.{entries_of_births, find-filter, each_found, at_other, at_same}
+use Rattle.space.proofs.Filing.{entries_of_births, entries_listed, find-filter, each_found, at_other, at_same}
+use Rattle.space.proofs.Texts.{length-on_page, others_behind}
 use Rattle.space.proofs.Keying.{match_is_candidate}
 use Rattle.space.proofs.Trees.{IsTaken, first_taken, removed_by_place, inserted_last}
 use Rattle.space.proofs.Keeping.{IsCounted-push, IsCounted-remove, counted_one, birth_by_counts}
@@ -75,6 +77,25 @@ module _ (s : SpaceState) (h : IsState s) where
   pub page_among : (page : ℕ) → entries_text s.version (entries_at s.entries (births_by (λ e. e.0 % 256 == page) s.entries)) ≡ page_text s page
   unfolding on_page
   page_among page = ap (entries_text s.version) (entries_of_births (λ e. e.0 % 256 == page) s.entries h.rising)
+
+  -- so do those from any of them on
+  page_from : (page count : ℕ) → entries_at s.entries (drop count (births_on page s.entries)) ≡ drop count (on_page page s.entries)
+  unfolding on_page
+  page_from page count =
+      let xs : List Entry = filter (λ e. e.0 % 256 == page) s.entries in
+      let found : All (λ e. lookup (is_at (nat_cmp e.0)) s.entries ≡ Some e.1) xs =
+      All-filter (λ (e : Entry). e.0 % 256 == page) (λ e. lookup (is_at (nat_cmp e.0)) s.entries ≡ Some e.1) s.entries (each_found s.entries h.rising) in
+      ap (entries_at s.entries) (drop-map (λ (e : Entry). e.0) count xs)
+      ∙ entries_listed s.entries (drop count xs) (All-drop (λ e. lookup (is_at (nat_cmp e.0)) s.entries ≡ Some e.1) count xs found)
+
+  -- their text stands behind that of the others
+  pub page_behind : (page count : ℕ) → text_of_oldest s page count ++ entries_text s.version (entries_at s.entries (drop count (births_on page s.entries))) ≡ page_text s page
+  page_behind page count =
+      ap (λ (xs : List Entry). text_of_oldest s page count ++ entries_text s.version xs) (page_from page count) ∙ others_behind s page count
+
+pub length-births_on : (page : ℕ) (es : List Entry) → length (births_on page es) ≡ page_count es page
+unfolding on_page
+length-births_on page es = length-map (filter (λ e. e.0 % 256 == page) es) (λ e. e.0) ∙ length-on_page page es
 
 -- ---- the oldest match is taken
 

@@ -7,8 +7,8 @@ use Rattle.template_match.specs.Tests.{is_match}
 use Rattle.space.specs.Applying.{without_first, without_firsts}
 use Rattle.space.specs.Births.{Entry, SpaceState, IsState, without_match, without_matches, oldest_births}
 use Rattle.space.specs.Found.{without_births}
-use Rattle.space.specs.Pages.{page_text}
-use Rattle.space.proofs.Changing.{text_taken}
+use Rattle.space.specs.Pages.{on_page}
+use Rattle.space.proofs.Changing.{page_taken}
 use Rattle.space.proofs.Finding.{none_passes, one_taken}
 use Rattle.space.proofs.Keeping.{IsState-without_match}
 
@@ -56,21 +56,21 @@ module _ (p : TemplateTree) where
           ∙ ap (λ (t : SpaceState). without_births t (oldest_births n p (without_first (λ (x : Entry). is_match p x.1) s.entries))) (one_taken s p h x.0 x.1 (sym e))
           ∙ below
 
-  -- A page keeps its text on which none of them is born.
-  pub text_kept : (page n : ℕ) (s : SpaceState) → All (λ b. b % 256 ≢ page) (oldest_births n p s.entries) → page_text (without_matches s n p) page ≡ page_text s page
-  text_kept page zero s h = refl
-  text_kept page (suc n) s h = go (find (λ e. is_match p e.1) s.entries) refl (text_kept page n (without_match s p))
+  -- A page keeps its tuples on which none of them is born.
+  pub page_kept : (page n : ℕ) (s : SpaceState) → All (λ b. b % 256 ≢ page) (oldest_births n p s.entries) → on_page page (without_matches s n p).entries ≡ on_page page s.entries
+  page_kept page zero s h = refl
+  page_kept page (suc n) s h = go (find (λ e. is_match p e.1) s.entries) refl (page_kept page n (without_match s p))
     where
       go : (o : Option Entry) → find (λ e. is_match p e.1) s.entries ≡ o
-          → (All (λ b. b % 256 ≢ page) (oldest_births n p (without_match s p).entries) → page_text (without_matches (without_match s p) n p) page ≡ page_text (without_match s p) page)
-          → page_text (without_matches s (suc n) p) page ≡ page_text s page
-      go None e below = ap (λ (es : List Entry). page_text (record s { entries = es }) page) (none_taken (λ (x : Entry). is_match p x.1) (suc n) s.entries e)
+          → (All (λ b. b % 256 ≢ page) (oldest_births n p (without_match s p).entries) → on_page page (without_matches (without_match s p) n p).entries ≡ on_page page (without_match s p).entries)
+          → on_page page (without_matches s (suc n) p).entries ≡ on_page page s.entries
+      go None e below = ap (on_page page) (none_taken (λ (x : Entry). is_match p x.1) (suc n) s.entries e)
       go (Some x) e below =
           let rest : List ℕ = oldest_births n p (without_match s p).entries in
           let all : All (λ b. b % 256 ≢ page) (x.0 ∷ rest) =
           subst (λ (es : List Entry). All (λ b. b % 256 ≢ page) (take (suc n) (map (λ e. e.0) es))) (passing_left (λ (x : Entry). is_match p x.1) s.entries x e) h in
           below (All-tail (λ b. b % 256 ≢ page) x.0 rest all)
-          ∙ text_taken s p x page (sym e) (All-head (λ b. b % 256 ≢ page) x.0 rest all)
+          ∙ page_taken s p x page (sym e) (All-head (λ b. b % 256 ≢ page) x.0 rest all)
 
   -- the oldest one alone
   pub one_oldest : (es : List Entry) (e : Entry) → Some e ≡ find (λ e. is_match p e.1) es → oldest_births 1 p es ≡ e.0 ∷ []

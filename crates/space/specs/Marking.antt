@@ -2,12 +2,12 @@
 use Rattle.std.specs.Prelude.{◌≡◌, ℕ, ◌%◌, Bool, true, List, fold, slice_set}
 use Rattle.tuple_codec.specs.Operations.{Operation}
 use Rattle.space.specs.Births.{SpaceState}
-use Rattle.space.specs.Watching.{touched_births}
+use Rattle.space.specs.Watching.{changed_births}
 
 -- a set of pages with those of these births
 abbrev pub with_pages : List Bool → List ℕ → List Bool
 with_pages pages births = fold (λ set birth. slice_set set (birth % 256) true) pages births
 
--- Just the pages that the client's operation may change are added to a set of pages.
+-- Just the pages that the client's operation may change otherwise than by a new tuple are added to a set of pages.
 abbrev pub MarksChanged : SpaceState → ℕ → Operation → List Bool → List Bool → Type 0
-MarksChanged s client o old new = new ≡ with_pages old (touched_births s client o)
+MarksChanged s client o old new = new ≡ with_pages old (changed_births s client o)

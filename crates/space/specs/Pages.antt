@@ -2,7 +2,7 @@
 -- births: each as its birth number in 8 bytes, high byte first, in version 2 the length of its spelling in 2 bytes, and
 -- its spelling. What else a state has stands in a header: a byte for the version, the number of executed batches and the
 -- next birth number, both in 8 bytes.
-use Rattle.std.specs.Prelude.{◌≡◌, ℕ, ◌*◌, ◌^◌, ◌≤◌, ◌<◌, ◌%◌, List, [], ◌∷◌, ◌++◌, length, map, filter, flat_map, slice_index_or, ◌==◌, Result, MatchResult}
+use Rattle.std.specs.Prelude.{◌≡◌, ℕ, ◌*◌, ◌^◌, ◌≤◌, ◌<◌, ◌%◌, List, [], ◌∷◌, ◌++◌, length, take, map, filter, flat_map, slice_index_or, ◌==◌, Result, MatchResult}
 use Rattle.std.specs.Borrow.{Bor}
 use Rattle.std.specs.Int.{w64, to_be_bytes}
 use Rattle.tuple_tree.specs.Values.{TupleTree}
@@ -30,6 +30,10 @@ on_page page es = filter (λ e. e.0 % 256 == page) es
 
 abbrev pub page_text : SpaceState → ℕ → List ℕ
 page_text s page = entries_text s.version (on_page page s.entries)
+
+-- the text of a page's oldest tuples, so many
+abbrev pub text_of_oldest : SpaceState → ℕ → ℕ → List ℕ
+text_of_oldest s page count = entries_text s.version (take count (on_page page s.entries))
 
 -- the first byte of a header
 abbrev pub version_byte : Version → ℕ

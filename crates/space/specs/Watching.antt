@@ -1,19 +1,29 @@
 -- A space and which of its pages may have changed.
-use Rattle.std.specs.Prelude.{◌≡◌, ℕ, ◌%◌, ◌<◌, Bool, true, false, List, [], ◌∷◌, map, Contains, slice_index_or, if◌then◌else◌, refl}
-use Rattle.std.specs.Coded.{Coded, code_by, coded×, coded_list, coded_bool}
+use Rattle.std.specs.Prelude.{◌≡◌, ℕ, ◌%◌, ◌<◌, ◌≤◌, Bool, true, false, not, ◌||◌, ◌==◌, List, [], ◌∷◌, map, Contains, slice_index, slice_index_or, if◌then◌else◌, refl}
+use Rattle.std.specs.Coded.{Coded, code_by, coded×, coded_list, coded_bool, coded_ℕ}
 use Rattle.std.specs.List.{range_with_len}
 use Rattle.tuple_codec.specs.Operations.{Operation, out, rdp, inp, cas, rd_all, in_all, upgrade}
 use Rattle.space.specs.Applying.{refuses}
-use Rattle.space.specs.Births.{SpaceState, space_code, birth_of, oldest_births}
-use Rattle.space.specs.Pages.{page_text}
+use Rattle.space.specs.Births.{SpaceState, space_code, birth_of, oldest_births, page_count}
+use Rattle.space.specs.Pages.{page_text, text_of_oldest}
 
+-- a space, which pages may have changed otherwise than by new tuples, and how many tuples lay on each when it was written
 pub record WatchedState : Type 0 where
   pub state : SpaceState
-  pub touched : List Bool
+  pub changed : List Bool
+  pub written : List ℕ
+
+-- whether page 0 to 255 may have changed otherwise than by new tuples behind the others
+abbrev pub is_changed : WatchedState → ℕ → Bool
+is_changed w page = slice_index_or w.changed page false
+
+-- how many tuples lay on it when it was written
+abbrev pub written_on : WatchedState → ℕ → ℕ
+written_on w page = slice_index w.written page
 
 -- whether page 0 to 255 may have changed
 abbrev pub is_touched : WatchedState → ℕ → Bool
-is_touched w page = slice_index_or w.touched page false
+is_touched w page = is_changed w page || not (written_on w page == page_count w.state.entries page)
 
 -- the births whose pages an operation may change that is not refused: those of the tuples that it may add or take, and
 -- for an upgrade one on each page
@@ -29,6 +39,19 @@ served_births s upgrade = range_with_len 0 256
 -- of any operation of a client
 abbrev pub touched_births : SpaceState → ℕ → Operation → List ℕ
 touched_births s client o = if refuses s.version client o then [] else served_births s o
+
+-- those whose pages it may change otherwise than by a new tuple
+abbrev pub served_changes : SpaceState → Operation → List ℕ
+served_changes s (out t) = []
+served_changes s (rdp p) = []
+served_changes s (inp p) = oldest_births 1 p s.entries
+served_changes s (cas p t) = []
+served_changes s (rd_all n p) = []
+served_changes s (in_all n p) = oldest_births n p s.entries
+served_changes s upgrade = range_with_len 0 256
+
+abbrev pub changed_births : SpaceState → ℕ → Operation → List ℕ
+changed_births s client o = if refuses s.version client o then [] else served_changes s o
 
 -- The client's operation may change the page: one of these births lies there.
 abbrev pub MayChange : SpaceState → ℕ → Operation → ℕ → Type 0
@@ -46,8 +69,26 @@ TouchesOnly old new client o =
     (page : ℕ) → page < 256 → is_touched new page ≡ true → is_touched old page ≡ false
     → MayChange old.state client o page
 
--- a watched space as the pair of its fields
+-- the text of the tuples that lay on a page when it was written, if these are its oldest
+abbrev pub written_text : WatchedState → ℕ → List ℕ
+written_text w page = text_of_oldest w.state page (written_on w page)
+
+-- A page that isn't changed had this text when it was written.
+abbrev pub IsWrittenAs : WatchedState → ℕ → List ℕ → Type 0
+IsWrittenAs w page text = is_changed w page ≡ false → text ≡ written_text w page
+
+-- A page that isn't changed afterwards wasn't before, and was written with the same text.
+abbrev pub KeepsWritten : WatchedState → WatchedState → Type 0
+KeepsWritten old new =
+    (page : ℕ) → page < 256 → is_changed new page ≡ false
+    → (is_changed old page ≡ false) × (written_text new page ≡ written_text old page)
+
+-- On a page that isn't changed lie at least the tuples that lay there when it was written.
+abbrev pub IsWatched : WatchedState → Type 0
+IsWatched w = (page : ℕ) → page < 256 → is_changed w page ≡ false → written_on w page ≤ page_count w.state.entries page
+
+-- a watched space as its fields
 abbrev pub watched_code : Coded WatchedState
 watched_code =
-    code_by (SpaceState × List Bool) (coded× space_code (coded_list coded_bool)) (λ w. (w.state, w.touched))
-    (λ p. record { state = p.0; touched = p.1 }) (λ _. refl)
+    code_by (SpaceState × (List Bool × List ℕ)) (coded× space_code (coded× (coded_list coded_bool) (coded_list coded_ℕ)))
+    (λ w. (w.state, (w.changed, w.written))) (λ p. record { state = p.0; changed = p.1.0; written = p.1.1 }) (λ _. refl)

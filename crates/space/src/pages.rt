@@ -17,22 +17,47 @@ use tuple_tree::Tuple;
 /// How many bytes a header has.
 pub const HEADER_LEN: usize = 17;
 
-/// The text of the tuples of these births, in the form of a version.
-pub fn text_of(
+// How many bytes stand before a tuple at most: its birth, and its length.
+const HEAD_LEN: usize = 10;
+
+/// A text with that of the tuples of these births behind it, in the form of a version.
+pub fn text_behind(
     alloc: Global,
+    front: &[u8],
     version: Version,
     tuples: &Stored,
     births: &[u64],
 ) -> Result<Vec<u8>, NoMemory>
-    ensures { IfOk result (λ text. text.items ≡ births_text version tuples.now.entries births.now) }
+    ensures { IfOk result
+        (λ text. text.items ≡ front.now ++ births_text version tuples.now.entries births.now) }
 {
-    let mut text = Vec::new(alloc);
+    let mut text = begin_text(alloc, front, births_len(tuples, births))?;
     for birth in births {
         if let Some(tuple) = tuples.get(*birth) {
             put_entry(version, *birth, tuple, &mut text)?;
         }
     }
     Ok(text)
+}
+
+// A text that begins so, in a block with room for so many bytes more.
+fn begin_text(alloc: Global, front: &[u8], more: usize) -> Result<Vec<u8>, NoMemory>
+    ensures { IfOk result (λ text. text.items ≡ front.now) }
+{
+    let mut text = Vec::with_capacity(alloc, front.len().saturating_add(more))?;
+    text.extend_from_slice(front)?;
+    Ok(text)
+}
+
+// How many bytes the text of the tuples of these births takes at most. So it grows in one block.
+fn births_len(tuples: &Stored, births: &[u64]) -> usize {
+    let mut len: usize = 0;
+    for birth in births {
+        if let Some(tuple) = tuples.get(*birth) {
+            len = len.saturating_add(HEAD_LEN + usize::from(len_of(tuple)));
+        }
+    }
+    len
 }
 
 fn put_entry(

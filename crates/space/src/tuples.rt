@@ -1,6 +1,6 @@
 //! The space and its operations.
 
-ghost use Rattle.std.specs.Prelude.{◌≡◌, ◌+◌, ◌%◌, ◌^◌, ◌<◌, ◌≤◌, true, length, slice_set, is_some, OnOk, OnErr, IfOk, IfSome, IsTrue, ◌↔◌};
+ghost use Rattle.std.specs.Prelude.{◌≡◌, ℕ, ◌+◌, ◌%◌, ◌^◌, ◌<◌, ◌≤◌, true, length, slice_index_or, slice_set, is_some, OnOk, OnErr, IfOk, IfSome, IsTrue, ◌↔◌};
 ghost use Rattle.std.specs.List.{range_with_len};
 ghost use Rattle.std.specs.Ordering.{nat_cmp};
 ghost use Rattle.std.specs.Map.{lookup};
@@ -13,17 +13,17 @@ ghost use Rattle.space.specs.Candidates.{candidates_of};
 ghost use Rattle.space.specs.Applying.{served_outcome, first_match, has_room, most_tuples, is_unknown, is_forbidden, refuses};
 ghost use Rattle.space.specs.Seeing.{ShowsAnyone, ShowsServed, StaysAsAsked, outcome_seen};
 ghost use Rattle.space.specs.Serving.{AnswersServed, FollowsServed, WantsServed};
-ghost use Rattle.space.specs.Pages.{page_text, header_text, texts_of, ArePages, MayBePages, ReadsEachState};
+ghost use Rattle.space.specs.Pages.{page_text, text_of_oldest, header_text, texts_of, ArePages, MayBePages, ReadsEachState};
 ghost use Rattle.space.specs.Reading.{ArePagesOf, ReadsAllPages};
 ghost use Rattle.space.specs.Found.{IsOldest, without_birth, without_births};
 ghost use Rattle.space.specs.Marking.{MarksChanged, with_pages};
-ghost use Rattle.space.specs.Births.{IsState, Follows, TuplesFollow, WantsMemory, empty_state, empty_in, birth_of, oldest_births, tuples_of, with_birth, with_tuple, without_match, without_matches, upgraded};
+ghost use Rattle.space.specs.Births.{IsState, Follows, TuplesFollow, WantsMemory, empty_state, empty_in, oldest_births, page_count, tuples_of, with_birth, with_tuple, without_match, without_matches, upgraded};
 
 use crate::births::{PAGES, empty_pages, next_birth};
 use crate::index::Index;
 use crate::keys::put_tuple_key;
 use crate::matching::{births_of_matches, copies_of_matches, oldest_match, seen_matches};
-use crate::pages::{HEADER_LEN, header_of, text_of};
+use crate::pages::{HEADER_LEN, header_of, text_behind};
 use crate::reading::{read_header, read_page};
 use crate::seen::Seen;
 use crate::stored::Stored;
@@ -207,8 +207,31 @@ impl Space {
         requires { page < PAGES }
         ensures { IfOk result (λ text. text.items ≡ page_text self.now page) }
     {
+        self.page_text_behind(page, 0, &[])
+    }
+
+    /// The text of a page whose oldest tuples, so many, have this text. Only the others are looked at.
+    pub(crate) fn page_text_behind(
+        &self,
+        page: usize,
+        count: usize,
+        front: &[u8],
+    ) -> Result<Vec<u8>, NoMemory>
+        requires page { page < PAGES }
+        requires count { count ≤ page_count self.now.entries page }
+        requires front { front.now ≡ text_of_oldest self.now page count }
+        ensures { IfOk result (λ text. text.items ≡ page_text self.now page) }
+    {
         let births = self.index.on_page(page);
-        text_of(self.alloc, self.version, &self.tuples, births)
+        let others = births.split_at(count).1;
+        text_behind(self.alloc, front, self.version, &self.tuples, others)
+    }
+
+    /// How many tuples lie on each page.
+    pub(crate) fn page_counts(&self) -> &[u8; PAGES]
+        ensures { (page : ℕ) → page < 256 → slice_index_or result.now page 0 ≡ page_count self.now.entries page }
+    {
+        &self.page_counts
     }
 
     /// The text of the header after `number` executed batches: a byte for the version, the number and the next birth
@@ -476,22 +499,19 @@ impl Space {
         result
     }
 
-    /// Adds the pages that the operation may change to a set of pages. Takes no memory.
+    /// Adds the pages on which the operation may change more than add a tuple to a set of pages. Takes no memory.
     pub(crate) fn mark_changed<A: Allocator>(
         &self,
         client: u16,
         op: &Op<A>,
         pages: &mut [bool; PAGES],
     )
-        requires { self.now.next < 2 ^ 62 }
         ensures { MarksChanged self.now client (operation_of op.now) pages.old pages.new }
     {
         if self.is_refused(client, op) {
             return;
         }
         match op {
-            Op::Out(_) => add_page(pages, self.next_page()),
-            Op::Cas(_, _) => add_page(pages, self.next_page()),
             Op::Inp(template) => {
                 if let Some((birth, _)) = self.oldest_match(template) {
                     add_page(pages, (birth % PAGES as u64) as usize);
@@ -502,17 +522,8 @@ impl Space {
                 add_pages(pages, births.as_slice());
             }
             Op::Upgrade => add_all_pages(pages),
-            Op::Rdp(_) | Op::RdAll(_, _) => {}
+            Op::Out(_) | Op::Cas(_, _) | Op::Rdp(_) | Op::RdAll(_, _) => {}
         }
-    }
-
-    // The page of the next tuple.
-    fn next_page(&self) -> usize
-        requires { self.now.next < 2 ^ 62 }
-        ensures { result ≡ birth_of self.now % 256 }
-    {
-        let birth = next_birth(&self.page_counts, self.next);
-        (birth % PAGES as u64) as usize
     }
 
     fn answer<A: Allocator>(&mut self, client: u16, op: &Op<A>) -> Result<Answer<Global>, NoMemory>

@@ -15,4 +15,4 @@ returns-clause-has c =
     c.in_ok-set_pages.ensures.ok
     ∙ all_set c.args.number.0 c.args.space.now c.args.replies.now c.args.tree.now c.in_ok-pages.pages.items c.requires c.in_ok-pages.ensures in
     has_all c.args.number.0 c.untouch.new.self c.untouch-2.new.self c.set_pages.new.self
-    (rw (c.untouch.ensures.state, c.untouch-2.ensures.replies) set)
+    (rw (c.untouch.ensures.state, c.untouch-2.ensures.replies) set) c.untouch.ensures.none

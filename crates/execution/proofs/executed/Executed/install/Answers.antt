@@ -9,6 +9,7 @@ pub invariant_of-self : goal.invariant_of-self
 invariant_of-self c =
     keeps_read c.args.number.0 c.self.inside.clients c.args.pages c.untouch.new.self c.untouch-2.new.self c.in-Ok.state.0 c.in-Ok.state.1 c.self.invariant.few
     (c.untouch.ensures.state ∙ c.of.ensures.state) (c.untouch-2.ensures.replies ∙ c.of-2.ensures.replies) (c.in-Ok.ensures {u = tt}).found
+    c.untouch.ensures.none
 
 pub returns-then-not-none_falls-clause-none : goal.returns-then-not-none_falls-clause-none
 returns-then-not-none_falls-clause-none c e =

@@ -13,5 +13,5 @@ invariant_of-result c =
         replies = subst AreReplies (sym c.of-2.ensures.replies) c.new-3.ensures.valid;
       };
       few = c.requires;
-      pages = has_none c.of.result c.of-2.result c.in_ok-tree.tree c.in_ok-tree.ensures c.of.ensures.all c.of-2.ensures.all;
+      pages = has_none c.of.result c.of-2.result c.in_ok-tree.tree c.in_ok-tree.ensures c.of.ensures.changed c.of-2.ensures.all;
     }
