@@ -85,7 +85,7 @@ space_send : IsSend space.the_row
 space_send = search (sendable, in_space_send)
 
 in_watched_send : IsSend in_watched.the_row
-in_watched_send = declared_send in_watched.the_type (space_send, (search sendable, tt))
+in_watched_send = declared_send in_watched.the_type (space_send, (search sendable, (search sendable, tt)))
 
 watched_send : IsSend watched.the_row
 watched_send = search (sendable, in_watched_send)
