@@ -2,8 +2,10 @@
 use Rattle.std.proofs.Common.{◌≡◌, ℕ, ◌+◌, ◌-◌, true, false, cond, ◌&&◌, ◌==◌, List, [], ◌∷◌, Option, Some, None, refl, sym, ap, ◌∙◌, subst, arith}
 use Rattle.terms.specs.declared.order.Mode.{Mode}
 use Rattle.terms.specs.declared.order.Mode.TheVariants as modes
+use Rattle.std.specs.declared.alloc.Global.{Global}
 use Rattle.tuple_codec.specs.Operations.{Outcome}
 use Rattle.tuple_codec.specs.OperationView.{outcome_of}
+use Rattle.tuple_codec.specs.declared.operations.Answer.{Answer}
 use Rattle.std.proofs.lemmas.Bool.{eq-eqb}
 use Rattle.authenticator.specs.Membership.{Membership}
 use Rattle.signing.specs.Heard.{heard}
@@ -14,7 +16,8 @@ use Rattle.protocol.specs.System.Trace.Entry.{Got, Tick, Sent, Accepted}
 use Rattle.protocol.specs.Client.RightClient.{Reacts, reaction}
 use Rattle.protocol.specs.Client.RightClient.Reaction.{nothing, asks, accepts}
 use Rattle.client_cert.specs.declared.hearing.Heard.{Heard}
-use Rattle.client_cert.specs.Hearing.{HearsVote}
+use Rattle.client_cert.specs.Hearing.{HearsAnswer, HearsVote, IsAnswerIn, body_of}
+use Rattle.client_cert.specs.State.Turn.{accepts_it}
 use Rattle.client_cert.specs.State.{Ballot, CallState, ClientState, Takes, Turn, turn_of, ballot_of, ballots_of, held, me_of, went}
 use Rattle.client_cert.specs.Fits.{Holds, Fits}
 use Rattle.client_cert.specs.Asking.{AsksWith}
@@ -40,23 +43,38 @@ taken call more mode sender ballot takes =
     takes.at mode sender ∙ ap (λ b. cond b (Some ballot) (held (ballots_of mode call) sender)) (same_key mode sender)
 
 pub weigh_reply : (m : Membership) (me t faults : ℕ) (call more : CallState) (bytes : List ℕ) (x : Heard) (ballot : Ballot) (turn : Turn)
-    → HearsVote me t (heard m me bytes) (Some x)
+    → (v : HearsAnswer me t (heard m me bytes) x)
     → faults ≡ m.faults
-    → ballot ≡ ballot_of (record { mode = x.mode; number = x.number.0; answer = outcome_of x.answer })
+    → ballot ≡ record { number = x.number.0; text = x.text.now }
     → Takes call x.mode x.sender ballot more
     → turn_of faults more x.mode x.sender ≡ turn
-    → Weighs m me t call bytes more (turns turn t more.op (outcome_of x.answer))
-weigh_reply m me t faults call more bytes x ballot turn hears size is takes turned c history known h =
-    let here : HearsVote me t (heard (members c) me bytes) (Some x) = subst (λ (k : Membership). HearsVote me t (heard k me bytes) (Some x)) (sym known) hears in
+    → Weighs m me t call bytes more (turns turn t more.op v.answer)
+weigh_reply m me t faults call more bytes x ballot turn v size kept takes turned c history known h =
+    let here : heard (members c) me bytes ≡ Some (body_of me t x v.answer) = ap (λ (k : Membership). heard k me bytes) known ∙ v.heard_is in
+    let is : ballot ≡ ballot_of (record { mode = x.mode; number = x.number.0; answer = v.answer }) =
+        kept ∙ ap (λ text. let b : Ballot = record { number = x.number.0; text = text } in b) v.spelled.spelled in
     let now : Holds c me (Got me bytes ∷ history) t (Some more) =
-    holds_noted c me me t bytes history call more x.sender x.mode x.number.0 (outcome_of x.answer) here (rw is at takes) h in (
+    holds_noted c me me t bytes history call more x.sender x.mode x.number.0 v.answer here (rw is at takes) h in (
       now,
-      reaction_is c me me t bytes history more x.sender x.mode x.number.0 (outcome_of x.answer) here now
+      reaction_is c me me t bytes history more x.sender x.mode x.number.0 v.answer here now
           (taken call more x.mode x.sender ballot takes ∙ ap Some is)
-          ∙ ap (λ z. turns z t more.op (outcome_of x.answer))
+          ∙ ap (λ z. turns z t more.op v.answer)
           (ap (λ k. turn_of k more x.mode x.sender) (ap (λ z. z.faults) known ∙ sym size)
           ∙ turned),
     )
+
+-- the answer that its text spells is accepted
+pub weigh_accepts : (m : Membership) (me t faults : ℕ) (call more : CallState) (bytes : List ℕ) (x : Heard) (ballot : Ballot)
+    → (v : HearsAnswer me t (heard m me bytes) x)
+    → faults ≡ m.faults
+    → ballot ≡ record { number = x.number.0; text = x.text.now }
+    → Takes call x.mode x.sender ballot more
+    → turn_of faults more x.mode x.sender ≡ accepts_it
+    → (answer : Answer Global) → IsAnswerIn x.text.now answer
+    → Weighs m me t call bytes more (accepts t (outcome_of answer))
+weigh_accepts m me t faults call more bytes x ballot v size kept takes turned answer said c history known h =
+    let w = weigh_reply m me t faults call more bytes x ballot accepts_it v size kept takes turned c history known h in
+    (w.0, w.1 ∙ ap (accepts t) (sym (said v.answer v.spelled)))
 
 -- a history that fits the parts of the old client fits the new one
 pub fits_moved : (c : Configuration) (number t : ℕ) (call : Option CallState) (new : ClientState) (now : List Entry) → members c ≡ new.membership

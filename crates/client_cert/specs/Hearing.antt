@@ -1,51 +1,58 @@
 -- The replies that a client hears in frames. The contracts of private functions use these definitions.
-use Rattle.std.specs.Prelude.{◌≡◌, ℕ, ◌+◌, ◌==◌, ◌&&◌, false, List, Option, Some, None, option_and_then, option_map}
+use Rattle.std.specs.Prelude.{◌≡◌, ℕ, ◌+◌, ◌==◌, ◌&&◌, Bool, List, length, drop, slice_index, nat_le, Option, Some, None, option_and_then, if◌then◌else◌}
 use Rattle.std.specs.declared.alloc.Global.{Global}
+use Rattle.byteorder.specs.Endian.{big_number}
+use Rattle.terms.specs.declared.order.Mode.{Mode}
+use Rattle.terms.specs.declared.order.Mode.TheVariants as modes
 use Rattle.terms.specs.declared.order.Number.{Number}
 use Rattle.terms.specs.declared.order.Timestamp.{Timestamp}
 use Rattle.terms.specs.declared.parties.ClientId.{ClientId}
+use Rattle.tuple_codec.specs.Operations.{Outcome}
 use Rattle.tuple_codec.specs.declared.operations.Answer.{Answer}
 use Rattle.tuple_codec.specs.OperationView.{outcome_of}
-use Rattle.tuple_codec.specs.Spelling.{outcome_spelling}
-use Rattle.wire.specs.declared.messages.Body.{Body as WireBody}
-use Rattle.wire.specs.declared.messages.Reply.{Reply}
+use Rattle.tuple_codec.specs.Spelling.{SpellsOutcome}
 use Rattle.wire.specs.Messages.{BodyData as Body, reply as says}
-use Rattle.wire.specs.Views.{body_data}
 use Rattle.authenticator.specs.Membership.{Membership}
 use Rattle.signing.specs.Heard.{heard}
 use Rattle.protocol.specs.Client.RightClient.{vote_of}
 use Rattle.client_cert.specs.State.{Ballot}
 use Rattle.client_cert.specs.declared.hearing.Heard.{Heard}
 
--- the body of a reply to the client's call of this timestamp
-abbrev pub body_of : ℕ → ℕ → Heard → Body
-body_of me timestamp h =
-    record { sender = h.sender; message = says me timestamp h.mode h.number.0 (outcome_of h.answer) }
+-- the body of a reply to the client's call of this timestamp, with this answer
+abbrev pub body_of : ℕ → ℕ → Heard → Outcome → Body
+body_of me timestamp h answer =
+    record { sender = h.sender; message = says me timestamp h.mode h.number.0 answer }
+
+-- The body is that of a reply to the call, and the text spells its answer.
+pub record HearsAnswer (me timestamp : ℕ) (body : Option Body) (h : Heard) : Type 0 where
+  pub answer : Outcome
+  pub heard_is : body ≡ Some (body_of me timestamp h answer)
+  pub spelled : SpellsOutcome h.text.now answer
 
 -- a reply to the call was heard, or nothing that votes on it
 abbrev pub HearsVote : ℕ → ℕ → Option Body → Option Heard → Type 0
 HearsVote me timestamp body None = (s : ℕ) → option_and_then (vote_of me timestamp s) body ≡ None
-HearsVote me timestamp body (Some h) = body ≡ Some (body_of me timestamp h)
+HearsVote me timestamp body (Some h) = HearsAnswer me timestamp body h
 
--- the body of a reply in a frame
-abbrev pub reply_body : ℕ → Reply → Body
-reply_body sender r =
-    record {
-      sender = sender;
-      message = says (256 + r.client.number) r.timestamp.0 r.kind r.number.0 (outcome_of r.answer);
-    }
+-- whether the bytes have the type of replies, and this receiver and timestamp in the places of a reply's
+abbrev pub is_for : ℕ → ℕ → List ℕ → Bool
+is_for me timestamp bytes =
+    nat_le 17 (length bytes) && (slice_index bytes 4 == 0x48) && (big_number 2 (drop 7 bytes) == me)
+    && (big_number 8 (drop 9 bytes) == timestamp)
 
--- the reply answers the call, or it is to another call or client
-abbrev pub Answers : ℕ → ℕ → ℕ → Reply → Option Heard → Type 0
-Answers me timestamp sender r None = ((256 + r.client.number == me) && (r.timestamp.0 == timestamp)) ≡ false
-Answers me timestamp sender r (Some h) = body_of me timestamp h ≡ reply_body sender r
+-- the mode that a byte says
+abbrev pub mode_of : ℕ → Mode
+mode_of byte = if byte == 1 then modes.ReadOnly else modes.Ordered
+
+-- The text spells an answer.
+abbrev pub SpellsAnswer : List ℕ → Type 0
+SpellsAnswer text = (answer : Outcome) × SpellsOutcome text answer
+
+-- the answer that the text spells
+abbrev pub IsAnswerIn : List ℕ → Answer Global → Type 0
+IsAnswerIn text answer = (said : Outcome) → SpellsOutcome text said → outcome_of answer ≡ said
 
 -- ---- of the client with this number, for Rust values
-
--- the client hears this body from the bytes, or none
-abbrev pub HearsBody : Membership → ClientId → List ℕ → Option WireBody → Type 0
-HearsBody m client bytes body =
-    heard m (256 + client.number) bytes ≡ option_map body_data body
 
 -- the client hears this reply to its call from the bytes, or none
 abbrev pub HearsReply : Membership → ClientId → Timestamp → List ℕ → Option Heard → Type 0
@@ -53,6 +60,5 @@ HearsReply m client timestamp bytes h =
     HearsVote (256 + client.number) timestamp.0 (heard m (256 + client.number) bytes) h
 
 -- the ballot that is kept of a reply
-abbrev pub IsBallotOf : Number → Answer Global → Ballot → Type 0
-IsBallotOf number answer b =
-    b ≡ record { number = number.0; text = outcome_spelling (outcome_of answer) }
+abbrev pub IsBallotOf : Number → List ℕ → Ballot → Type 0
+IsBallotOf number text b = b ≡ record { number = number.0; text = text }

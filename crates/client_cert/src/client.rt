@@ -222,7 +222,6 @@ impl Client {
             Some(call) => {
                 let turned = weigh(
                     &mut self.ring,
-                    &self.publics,
                     alloc,
                     self.id,
                     self.faults,

@@ -1,26 +1,28 @@
-//! The replies that a client hears.
+//! The replies that a client hears, in the bytes of their frames.
 
-ghost use Rattle.std.specs.Prelude.{◌≡◌, ◌+◌, ◌==◌, ◌≤◌, IfOk, slice_index};
+ghost use Rattle.std.specs.Prelude.{◌≡◌, ◌+◌, ◌≤◌, IfOk, length, drop, slice_index};
+ghost use Rattle.byteorder.specs.Endian.{big_number};
 ghost use Rattle.client_cert.specs.Steps.{TurnsTo};
-ghost use Rattle.client_cert.specs.Hearing.{Answers, HearsBody, HearsReply, IsBallotOf};
+ghost use Rattle.client_cert.specs.Hearing.{HearsReply, IsBallotOf, IsAnswerIn, SpellsAnswer, is_for, mode_of};
 
 use crate::ballots::Ballot;
 use crate::call::{Call, Next};
 use authenticator::Ring;
+use byteorder::{BigEndian, ByteOrder};
 use events::Stop;
-use signing::{HearFault, HeardFrame, PublicKeys, hear};
 use std::alloc::Global;
 use terms::{ClientId, Mode, Number, Party, Timestamp};
-use tuple_codec::{Answer, encode_result};
-use wire::{Body, Message, Reply};
+use tuple_codec::{Answer, Bad, decode_result};
+use wire::judge;
 
-/// A reply to the open call.
-#[derive(Drop)]
-pub(crate) struct Heard {
+/// A reply to the open call, as it stands in the bytes of its frame.
+#[derive(Clone, Copy, Drop)]
+pub(crate) struct Heard<'b> {
     pub(crate) sender: u16,
     pub(crate) mode: Mode,
     pub(crate) number: Number,
-    pub(crate) answer: Answer<Global>,
+    /// The bytes of its answer.
+    pub(crate) text: &'b [u8],
 }
 
 /// The consequence of bytes.
@@ -31,10 +33,10 @@ pub(crate) enum Turned {
     Accept(Answer<Global>),
 }
 
-/// Counts the bytes as a reply to the open call, if they are one, and tells the consequence.
+/// Counts the bytes as a reply to the open call, if they are one, and tells the consequence. Only the answer that is
+/// accepted is decoded.
 pub(crate) fn weigh(
     ring: &mut Ring,
-    publics: &PublicKeys,
     alloc: Global,
     client: ClientId,
     faults: u8,
@@ -42,25 +44,18 @@ pub(crate) fn weigh(
     call: &mut Call,
     bytes: &[u8],
 ) -> Result<Turned, Stop>
-    requires keys { publics.now ≡ ring.old.seed }
     requires faults { faults ≡ ring.old.faults }
     requires few { faults ≤ 3 }
     ensures weighs { IfOk result (TurnsTo ring.old client timestamp call.old bytes.now call.new) }
     ensures same { ring.new ≡ ring.old }
 {
-    match hear_reply(ring, publics, alloc, client, timestamp, bytes)? {
+    match hear_reply(ring, client, timestamp, bytes) {
         None => Ok(Turned::Nothing),
         Some(heard) => {
-            let Heard {
-                sender,
-                mode,
-                number,
-                answer,
-            } = heard;
-            let ballot = ballot_of(alloc, number, &answer)?;
-            call.note(sender, mode, ballot)?;
-            match call.next(faults, mode, sender) {
-                Next::Accept => Ok(Turned::Accept(answer)),
+            let ballot = ballot_of(alloc, heard.number, heard.text)?;
+            call.note(heard.sender, heard.mode, ballot)?;
+            match call.next(faults, heard.mode, heard.sender) {
+                Next::Accept => Ok(Turned::Accept(answer_in(alloc, heard.text)?)),
                 Next::AskOrdered => Ok(Turned::Ask),
                 Next::Wait => Ok(Turned::Nothing),
             }
@@ -68,90 +63,87 @@ pub(crate) fn weigh(
     }
 }
 
-// The reply to the client's call of this timestamp that the bytes spell, if they do. The type is tested first: other
-// frames are not opened.
-fn hear_reply(
+// The reply to the client's call of this timestamp that the client hears from the bytes, if it hears one. They are
+// judged where they lie. A late reply to an earlier call is known by its timestamp, so no MAC of it is tested.
+fn hear_reply<'b>(
     ring: &mut Ring,
-    publics: &PublicKeys,
-    alloc: Global,
     client: ClientId,
     timestamp: Timestamp,
-    bytes: &[u8],
-) -> Result<Option<Heard>, Stop>
-    requires keys { publics.now ≡ ring.old.seed }
-    ensures hears { IfOk result (HearsReply ring.old client timestamp bytes.now) }
+    bytes: &'b [u8],
+) -> Option<Heard<'b>>
+    ensures hears { HearsReply ring.old client timestamp bytes.now result }
     ensures same { ring.new ≡ ring.old }
 {
-    if !has_reply_type(bytes) {
-        return Ok(None);
-    }
-    match hear_body(ring, publics, alloc, client, bytes)? {
-        None => Ok(None),
-        Some(body) => {
-            let Body { sender, message } = body;
-            match message {
-                Message::Reply(reply) => Ok(reply_to(client, timestamp, sender.number(), reply)),
-                _ => Ok(None),
-            }
-        }
-    }
-}
-
-// Whether the type at byte 4 is that of replies.
-fn has_reply_type(bytes: &[u8]) -> bool
-    ensures { result ≡ slice_index bytes.now 4 == 0x48 }
-{
-    match bytes {
-        [_, _, _, _, 0x48, ..] => true,
-        _ => false,
-    }
-}
-
-// The body that the client hears from the bytes, if any.
-fn hear_body(
-    ring: &mut Ring,
-    publics: &PublicKeys,
-    alloc: Global,
-    client: ClientId,
-    bytes: &[u8],
-) -> Result<Option<Body>, Stop>
-    requires keys { publics.now ≡ ring.old.seed }
-    ensures heard { IfOk result (HearsBody ring.old client bytes.now) }
-    ensures same { ring.new ≡ ring.old }
-{
-    match hear(alloc, ring, publics, bytes, Party::Client(client)) {
-        Ok(heard) => {
-            let HeardFrame { bytes: _, body } = heard;
-            Ok(Some(body))
-        }
-        Err(fault) => match fault {
-            HearFault::NoMemory => Err(Stop::NoMemory),
-            _ => Ok(None),
-        },
-    }
-}
-
-// The reply, if it answers the client's call of this timestamp.
-fn reply_to(client: ClientId, timestamp: Timestamp, sender: u16, reply: Reply) -> Option<Heard>
-    ensures { Answers (256 + client.number) timestamp.0 sender reply result }
-{
-    if reply.client.number != client.number || reply.timestamp.0 != timestamp.0 {
+    if !is_for(bytes, client, timestamp) {
         return None;
     }
-    Some(Heard {
-        sender,
-        mode: reply.kind,
-        number: reply.number,
-        answer: reply.answer,
-    })
+    let Ok(header) = judge(bytes) else {
+        return None;
+    };
+    let sender = header.sender.number();
+    let me = Party::Client(client);
+    if sender == me.number() {
+        return None;
+    }
+    if ring.refusal(&header, me).is_some() {
+        return None;
+    }
+    Some(reply_in(sender, header.text))
 }
 
-fn ballot_of(alloc: Global, number: Number, answer: &Answer<Global>) -> Result<Ballot, Stop>
-    ensures { IfOk result (IsBallotOf number answer.now) }
+// Whether the bytes have the type of replies, and this client and timestamp in the places of a reply's.
+fn is_for(bytes: &[u8], client: ClientId, timestamp: Timestamp) -> bool
+    ensures { result ≡ is_for (256 + client.number) timestamp.0 bytes.now }
 {
-    let mut text = Vec::new(alloc);
-    match encode_result(answer, &mut text) {
-        Ok(()) => Ok(Ballot::new(number, text)),
-        Err(_) => Err(Stop::NoMemory),
+    bytes.len() >= 17
+        && bytes[4] == 0x48
+        && BigEndian::read_u16(&bytes[7..]) == Party::Client(client).number()
+        && BigEndian::read_u64(&bytes[9..]) == timestamp.0
+}
+
+// The reply of the body in this text: its mode follows type, sender, client and timestamp, its number the mode, and
+// its answer the number.
+fn reply_in(sender: u16, text: &[u8]) -> Heard<'_>
+    requires { 22 ≤ length text.now }
+    ensures sender { result.sender ≡ sender }
+    ensures mode { result.mode ≡ mode_of (slice_index text.now 13) }
+    ensures number { result.number.0 ≡ big_number 8 (drop 14 text.now) }
+    ensures text { result.text.now ≡ drop 22 text.now }
+{
+    Heard {
+        sender,
+        mode: mode_of(text[13]),
+        number: Number(BigEndian::read_u64(&text[14..])),
+        text: &text[22..],
+    }
+}
+
+// The mode of a reply with this byte.
+fn mode_of(byte: u8) -> Mode
+    ensures { result ≡ mode_of byte }
+{
+    if byte == 1 {
+        Mode::ReadOnly
+    } else {
+        Mode::Ordered
+    }
+}
+
+fn ballot_of(alloc: Global, number: Number, text: &[u8]) -> Result<Ballot, Stop>
+    ensures { IfOk result (IsBallotOf number text.now) }
+{
+    let text = Vec::from_slice(alloc, text)?;
+    Ok(Ballot::new(number, text))
+}
+
+// The answer that the text spells.
+fn answer_in(alloc: Global, text: &[u8]) -> Result<Answer<Global>, Stop>
+    requires { SpellsAnswer text.now }
+    ensures { IfOk result (IsAnswerIn text.now) }
+{
+    match decode_result(alloc, text) {
+        Ok((answer, _)) => Ok(answer),
+        Err(Bad::NoMemory) => Err(Stop::NoMemory),
+        Err(Bad::Malformed) => unreachable!(),
     }
 }
