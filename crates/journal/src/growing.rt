@@ -10,7 +10,6 @@ use crate::front::Front;
 use crate::naming::Naming;
 use crate::tie::{Tie, tie_event};
 use events::Entry;
-use std::mem;
 use terms::{NoMemory, Party};
 
 /// Appends the entries, an event of the party, to the trace and to the party's history.
@@ -31,8 +30,7 @@ pub(crate) fn grow_both<N: Naming>(
     trace.reserve(entries.len())?;
     history.reserve(entries.len())?;
     add_shared(trace, entries.as_slice())?;
-    let (longer, front) = tie_event(mem::replace(tie, None), party, &entries);
-    *tie = longer;
+    let front = tie_event(tie, party, &entries);
     let _ = history.append(&mut entries);
     Ok(front)
 }

@@ -136,17 +136,20 @@ pub(crate) fn is_ordering_known<N: Naming>(
 
 /// Adds an event of the party, and gives all events. If that fails, nothing is tied any more.
 pub(crate) fn tie_event<N: Naming>(
-    tie: Option<Tie<N>>,
+    tie: &mut Option<Tie<N>>,
     party: Party,
     event: &Vec<Entry>,
-) -> (Option<Tie<N>>, Option<Front<N>>)
-    ensures { KeepsTies (party_number party) event.now.items tie result.0 result.1 }
+) -> Option<Front<N>>
+    ensures { KeepsTies (party_number party) event.now.items tie.old tie.new result }
 {
-    match tie {
-        Some(mut tie) => match tie.add(party, event) {
-            Some(front) => (Some(tie), Some(front)),
-            None => (None, None),
-        },
-        None => (None, None),
+    let Some(known) = tie else {
+        return None;
+    };
+    match known.add(party, event) {
+        Some(front) => Some(front),
+        None => {
+            *tie = None;
+            None
+        }
     }
 }
