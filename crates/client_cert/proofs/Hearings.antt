@@ -238,7 +238,7 @@ module _ (me t : ℕ) (bytes : List ℕ) (header : HeaderData) (has : HasHeader 
         let kind : h.mode ≡ r.kind = mode ∙ mode_is bytes frame has.1 r header.text text_of in
         let state : h.number.0 ≡ r.number = number ∙ number_is bytes frame has.1 r header.text text_of in
         let said : frame.body.message ≡ reply me t h.mode h.number.0 r.answer =
-            r.is ∙ same_reply r.client me r.timestamp t r.kind h.mode r.number h.number.0 r.answer is_mine.0 is_mine.1 (sym kind) (sym state) in
+        r.is ∙ same_reply r.client me r.timestamp t r.kind h.mode r.number h.number.0 r.answer is_mine.0 is_mine.1 (sym kind) (sym state) in
         record {
           answer = r.answer;
           heard_is = heard_by_header m me bytes header has (none_given refusal no_refusal ∙ value) frame has.1 other holds

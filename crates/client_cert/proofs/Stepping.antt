@@ -52,7 +52,7 @@ pub weigh_reply : (m : Membership) (me t faults : ℕ) (call more : CallState) (
 weigh_reply m me t faults call more bytes x ballot turn v size kept takes turned c history known h =
     let here : heard (members c) me bytes ≡ Some (body_of me t x v.answer) = ap (λ (k : Membership). heard k me bytes) known ∙ v.heard_is in
     let is : ballot ≡ ballot_of (record { mode = x.mode; number = x.number.0; answer = v.answer }) =
-        kept ∙ ap (λ text. let b : Ballot = record { number = x.number.0; text = text } in b) v.spelled.spelled in
+    kept ∙ ap (λ text. let b : Ballot = record { number = x.number.0; text = text } in b) v.spelled.spelled in
     let now : Holds c me (Got me bytes ∷ history) t (Some more) =
     holds_noted c me me t bytes history call more x.sender x.mode x.number.0 v.answer here (rw is at takes) h in (
       now,

@@ -16,9 +16,10 @@
 //!
 //! # The cost of a reply
 //!
-//! The client opens its frame once, and encodes its answer once, into the bytes that it keeps. It compares these with
-//! the latest reply of each replica if the numbers agree. A reply to an earlier call, or to another client, is opened
-//! and dropped.
+//! The client takes sender, mode, number and the bytes of the answer from the frame where it lies, and copies these
+//! bytes. It compares them with the latest reply of each replica if the numbers agree: each answer has one spelling.
+//! Only the answer that it accepts is decoded. A reply to an earlier call, or to another client, is dropped by the
+//! bytes that say so, and no MAC of it is tested.
 //!
 //! # Memory that strangers can take
 //!
