@@ -44,10 +44,10 @@ sender_of_notes_sync : IsSync (sender.the_row note.the_row heap.the_row ghosts)
 sender_of_notes_sync = sender_sync note.the_row heap.the_row ghosts note_send heap_send heap_sync heap_frees
 
 to_inbox_send : IsSend inbox.the_row
-to_inbox_send = declared_send inbox.the_type (sender_of_notes_send, (search (sendable, word_send), tt))
+to_inbox_send = declared_send inbox.the_type (sender_of_notes_send, (search (sendable, word_send), (search (sendable, word_send), tt)))
 
 to_inbox_sync : IsSync inbox.the_row
-to_inbox_sync = declared_sync inbox.the_type (sender_of_notes_sync, (search (sendable, word_sync), tt))
+to_inbox_sync = declared_sync inbox.the_type (sender_of_notes_sync, (search (sendable, word_sync), (search (sendable, word_sync), tt)))
 
 inboxes_send : IsSend inboxes.the_row
 inboxes_send = declared_send inboxes.the_type (to_inbox_send, (to_inbox_send, tt))

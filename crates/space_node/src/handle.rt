@@ -128,17 +128,20 @@ impl<N: Naming> ClientHandle<N> {
     {
         let request = self.seat.invoke(rt, alloc, &self.shared.journal, op)?;
         self.shared.send(rt, &request);
-        wait_answer(rt, alloc, &mut self.seat, &self.shared, &self.notes)
+        let since = request.first;
+        wait_answer(rt, alloc, &mut self.seat, &self.shared, &self.notes, since)
     }
 }
 
-// Takes the inbox until the open call is answered.
+// Takes the inbox until the open call, made at this position, is answered. The answer takes a quorum of later frames,
+// so the thread may sleep until they have come.
 fn wait_answer<N: Naming, R: Wait>(
     rt: &R,
     alloc: Global,
     seat: &mut ClientSeat<N>,
     shared: &Shared<N>,
     notes: &Receiver<Note>,
+    since: u64,
 ) -> Result<Answer<Global>, AppendFault>
     requires running { seat.old.stopped ≡ false }
     ensures ends { IfOk result (λ answer. Ends seat.old (outcome_of answer) seat.new) }
@@ -148,9 +151,15 @@ fn wait_answer<N: Naming, R: Wait>(
         seat.stop();
         return Err(AppendFault::NotInJournal);
     };
+    let mut awaited = shared.quorum();
     for _ in rt.forever() {
-        let input = match inbox.take(rt, notes) {
-            Some(Note::Frame(bytes, from)) => Input::Got(bytes, from),
+        let input = match inbox.take(rt, notes, awaited) {
+            Some(Note::Frame(bytes, from)) => {
+                if from > since {
+                    awaited = awaited.saturating_sub(1);
+                }
+                Input::Got(bytes, from)
+            }
             Some(Note::Pulse) => Input::Tick,
             Some(Note::End) | None => {
                 seat.stop();

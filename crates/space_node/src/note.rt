@@ -22,21 +22,50 @@ pub(crate) enum Note {
 #[derive(Drop)]
 pub(crate) struct Inbox {
     notes: Sender<Note>,
-    // 1 if the thread that takes the notes may sleep, and otherwise 0.
-    sleeps: AtomicU64,
+    // How many frames are to come before the thread that takes the notes is woken, and 0 while it doesn't sleep.
+    awaited: AtomicU64,
+    // How many more requests may come without waking it.
+    left: AtomicU64,
 }
 
 impl Inbox {
     pub(crate) fn new(notes: Sender<Note>) -> Inbox {
         Inbox {
             notes,
-            sleeps: AtomicU64::new(0),
+            awaited: AtomicU64::new(0),
+            left: AtomicU64::new(0),
         }
     }
 
-    /// Sends a note. If there is no memory for it, it is lost.
-    pub(crate) fn send<R: Wait>(&self, rt: &R, note: Note) {
-        let _ = self.notes.send(rt, note);
+    /// Sends a frame, and the position at which it was sent. If there is no memory for the note, it is lost.
+    pub(crate) fn send<R: Wait>(&self, rt: &R, bytes: SharedBytes, from: u64) {
+        let may_lie = is_request(bytes.as_slice()) && self.leaves_one();
+        let _ = self.notes.send(rt, Note::Frame(bytes, from));
+        if !may_lie {
+            self.count();
+        }
+    }
+
+    /// Lets so many requests, from now on, lie until another note comes.
+    pub(crate) fn leave_requests(&self, count: u64) {
+        if self.left.load(Ordering::SeqCst) != count {
+            self.left.store(count, Ordering::SeqCst);
+        }
+    }
+
+    // Whether a request may lie. Of several at once perhaps only one may.
+    fn leaves_one(&self) -> bool {
+        let left = self.left.load(Ordering::SeqCst);
+        left != 0
+            && self
+                .left
+                .compare_exchange(left, left - 1, Ordering::SeqCst, Ordering::SeqCst)
+                .is_ok()
+    }
+
+    /// Tells the thread that time went by, whatever it waits for. If there is no memory for the note, it is lost.
+    pub(crate) fn pulse<R: Wait>(&self, rt: &R) {
+        let _ = self.notes.send(rt, Note::Pulse);
         self.wake();
     }
 
@@ -52,15 +81,32 @@ impl Inbox {
         self.wake();
     }
 
-    // Of all threads that have sent a note, the one that finds the 1 wakes the thread.
-    fn wake(&self) {
-        if self.sleeps.load(Ordering::SeqCst) != 0 && self.sleeps.swap(0, Ordering::SeqCst) != 0 {
-            self.sleeps.wake_one();
+    // Counts a frame. Of all threads that have sent one, that of the last awaited frame wakes the thread. Threads that
+    // count at once may pass 0: then one of them has found the 1, and the woken thread sets the word again.
+    fn count(&self) {
+        if self.awaited.load(Ordering::SeqCst) != 0
+            && self.awaited.fetch_sub(1, Ordering::SeqCst) == 1
+        {
+            self.awaited.wake_one();
         }
     }
 
-    /// The next note, or None if no thread can send any more. The notes come out of the channel's other end.
-    pub(crate) fn take<R: Wait>(&self, rt: &R, notes: &Receiver<Note>) -> Option<Note> {
+    // Wakes the thread if it sleeps.
+    fn wake(&self) {
+        if self.awaited.load(Ordering::SeqCst) != 0 && self.awaited.swap(0, Ordering::SeqCst) != 0 {
+            self.awaited.wake_one();
+        }
+    }
+
+    /// The next note, or None if no thread can send any more. If there is none yet, the thread sleeps until `awaited`
+    /// frames have come, or another note; it may wake before. The notes come out of the channel's other end.
+    pub(crate) fn take<R: Wait>(
+        &self,
+        rt: &R,
+        notes: &Receiver<Note>,
+        awaited: u32,
+    ) -> Option<Note> {
+        let awaited = awaited.max(1);
         for _ in rt.forever() {
             match notes.try_recv(rt) {
                 Ok(note) => return Some(note),
@@ -68,12 +114,19 @@ impl Inbox {
                 Err(TryRecvError::Empty) => {}
             }
             // The word is set before the last look. So a thread that sends after the look finds it set.
-            self.sleeps.store(1, Ordering::SeqCst);
+            self.awaited.store(u64::from(awaited), Ordering::SeqCst);
             if notes.is_empty() {
-                self.sleeps.park(rt, 1);
+                self.awaited.park(rt, awaited);
             }
-            self.sleeps.store(0, Ordering::SeqCst);
+            self.awaited.store(0, Ordering::SeqCst);
         }
         unreachable!()
+    }
+}
+
+fn is_request(bytes: &[u8]) -> bool {
+    match bytes {
+        [_, _, _, _, 0x41, ..] => true,
+        _ => false,
     }
 }

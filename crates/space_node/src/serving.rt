@@ -2,10 +2,11 @@
 
 use crate::gate::Gate;
 use crate::input::{Given, Input};
-use crate::note::Note;
+use crate::note::{Inbox, Note};
 use crate::shared::{Node, Shared};
 use bumpalo::Bump;
 use crossbeam_channel::Receiver;
+use events::Output;
 use journal::{Journal, Naming};
 use std::alloc::Global;
 use std::sync::{Mutex, Wait};
@@ -26,7 +27,7 @@ pub(crate) fn serve_orders<N: Naming, G: Gate, R: Wait>(
     };
     let mut event_no = 0u64;
     for _ in rt.forever() {
-        let input = match inbox.take(rt, notes) {
+        let input = match inbox.take(rt, notes, 1) {
             Some(Note::Frame(bytes, from)) => Input::Got(bytes, from),
             Some(Note::Pulse) => Input::Tick,
             Some(Note::End) | None => break,
@@ -35,7 +36,23 @@ pub(crate) fn serve_orders<N: Naming, G: Gate, R: Wait>(
         let given = order_event(rt, alloc, node, journal, gate, replica, event_no, input);
         event_no = event_no.wrapping_add(1);
         if let Some(given) = given {
+            note_course(inbox, given.outputs.as_slice(), shared.clients.len() as u64);
             shared.send(rt, &given);
+        }
+    }
+}
+
+// Tells the inbox whether requests are to wake the thread. A replica that sends prepares follows a primary, whose
+// pre-prepares bring the requests. One that sends pre-prepares or new views leads, and one that sends a view change
+// follows nobody. Each client has one call at a time: of more requests than clients one is sent again.
+fn note_course(inbox: &Inbox, outputs: &[Output], clients: u64) {
+    for output in outputs {
+        if let Output::Send(_, frame) = output {
+            match frame.as_slice() {
+                [_, _, _, _, 0x43, ..] => inbox.leave_requests(clients),
+                [_, _, _, _, 0x42 | 0x46 | 0x47, ..] => inbox.leave_requests(0),
+                _ => {}
+            }
         }
     }
 }
@@ -75,7 +92,7 @@ pub(crate) fn serve_reads<N: Naming, R: Wait>(
     };
     let mut arena = Bump::new(alloc);
     for _ in rt.forever() {
-        let given = match inbox.take(rt, notes) {
+        let given = match inbox.take(rt, notes, 1) {
             Some(Note::Frame(bytes, from)) => {
                 let mut shelf = node.shelf.lock(rt);
                 shelf.read(rt, alloc, &mut arena, &shared.journal, bytes, from)

@@ -2,7 +2,7 @@
 
 use crate::desk_seat::DeskSeat;
 use crate::input::Given;
-use crate::note::{Inbox, Note};
+use crate::note::Inbox;
 use crate::order_seat::OrderSeat;
 use events::{Output, SharedBytes};
 use journal::{Journal, Naming};
@@ -51,7 +51,7 @@ impl<N: Naming> Shared<N> {
     /// Tells the party that time went by. Does nothing if no party has that number.
     pub(crate) fn pulse<R: Wait>(&self, rt: &R, party: Party) {
         if let Some(inbox) = self.inbox(party) {
-            inbox.send(rt, Note::Pulse);
+            inbox.pulse(rt);
         }
     }
 
@@ -94,9 +94,15 @@ impl<N: Naming> Shared<N> {
                 self.inbox(*receiver)
             };
             if let (Some(inbox), Ok(bytes)) = (inbox, frame.share()) {
-                inbox.send(rt, Note::Frame(bytes, at));
+                inbox.send(rt, bytes, at);
             }
         }
+    }
+
+    /// How many replicas are a quorum, 2f + 1 of 3f + 1.
+    pub(crate) fn quorum(&self) -> u32 {
+        let replicas = self.replicas.len();
+        u32::try_from(replicas - replicas / 3).unwrap_or(1)
     }
 
     /// The inbox of a party, of a replica that of its ordering thread.
