@@ -1,5 +1,5 @@
 -- Bytes that stand for themselves in a text literal are read all at once.
-use Rattle.std.proofs.Common.{◌≡◌, ℕ, zero, suc, ◌≤◌, ◌<◌, ◌==◌, Bool, true, false, not, ◌&&◌, ◌||◌, if◌then◌else◌, List, [], ◌∷◌, ◌++◌, length, take, drop, get_or, refl, ap, sym, ◌∙◌, append_assoc, append-nil, arith}
+use Rattle.std.proofs.Common.{◌≡◌, ℕ, zero, suc, ◌+◌, ◌≤◌, ◌<◌, ◌==◌, Bool, true, false, not, ◌&&◌, ◌||◌, if◌then◌else◌, List, [], ◌∷◌, ◌++◌, length, take, drop, get_or, get_or-take, refl, ap, sym, subst, ◌∙◌, append_assoc, append-nil, arith}
 use Rattle.tuple_text.specs.Literals.{is_between, is_plain, led, step, stepped, text_from, PassesPlain}
 use Rattle.tuple_text.specs.Read.{got, stop}
 use Rattle.tuple_text.specs.declared.reader.Stop.TheVariants.{BadByte}
@@ -27,3 +27,15 @@ read_plain (b ∷ bs) s (suc n) h p =
 
 pub passes_plain : (bs : List ℕ) (n : ℕ) → n ≤ length bs → ((k : ℕ) → k < n → is_plain (get_or bs k 0) ≡ true) → PassesPlain (take n bs) bs (drop n bs)
 passes_plain bs n h p = read_plain bs [] n h p
+
+-- what holds of the first n bytes, and of the m behind them
+pub further : (xs : List ℕ) (n m : ℕ) → ((k : ℕ) → k < n → is_plain (get_or xs k 0) ≡ true)
+    → ((k : ℕ) → k < m → is_plain (get_or (drop n xs) k 0) ≡ true) → (k : ℕ) → k < n + m → is_plain (get_or xs k 0) ≡ true
+further xs zero m p q k h = q k (omega arith)
+further [] (suc n) m p q k h = p 0 (omega arith)
+further (x ∷ xs) (suc n) m p q zero h = p 0 (omega arith)
+further (x ∷ xs) (suc n) m p q (suc k) h = further xs n m (λ j l. p (suc j) (omega arith)) q k (omega arith)
+
+pub in_front : (xs ys : List ℕ) (n m : ℕ) → ys ≡ take n xs → m ≤ n → ((k : ℕ) → k < m → is_plain (get_or ys k 0) ≡ true)
+    → (k : ℕ) → k < m → is_plain (get_or xs k 0) ≡ true
+in_front xs ys n m e l p k h = subst (λ b. is_plain b ≡ true) (ap (λ zs. get_or zs k 0) e ∙ get_or-take n xs k 0 (omega (arith, l, h))) (p k h)

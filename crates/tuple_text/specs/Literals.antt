@@ -82,6 +82,9 @@ unfoldable pub text_literal : Reading (List ℕ)
 text_literal [] = stop BadByte []
 text_literal (b ∷ bs) = if b == 34 then text_rest bs else stop BadByte (b ∷ bs)
 
+abbrev pub hex_of : ℕ → Option ℕ
+hex_of b = if is_hex b then Some (hex_value b) else None
+
 -- the digit at the front
 abbrev pub hex_front : List ℕ → Option (ℕ × List ℕ)
 hex_front [] = None

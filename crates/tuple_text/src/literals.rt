@@ -1,13 +1,16 @@
 //! The reader of text literals and byte string literals.
 
-ghost use Rattle.std.specs.Prelude.{◌≡◌, ◌+◌, ◌++◌, ◌∷◌, ◌<◌, ◌≤◌, ℕ, [], None, Some, true, length, slice_index, IfOk, IfErr, IfSome, IfNone, OnOk, string_bytes};
+ghost use Rattle.std.specs.Prelude.{◌≡◌, ◌+◌, ◌++◌, ◌∷◌, ◌<◌, ◌≤◌, ℕ, [], None, Some, true, length, slice_index, IfOk, IfErr, IfSome, IfNone, OnOk, IsTrue, string_bytes};
 ghost use Rattle.std.specs.Str.{IsUtf8};
-ghost use Rattle.tuple_text.specs.Literals.{is_hex, hex_value, led, step, is_plain, text_rest, PassesPlain, text_literal, PassesDigit, pairs, bytes_literal};
+ghost use Rattle.tuple_text.specs.Literals.{is_hex, hex_value, hex_of, led, step, is_plain, text_rest, PassesPlain, text_literal, PassesDigit, pairs, bytes_literal};
 ghost use Rattle.tuple_text.specs.Parts.{Reads};
 
 use crate::reader::{Reader, Stop};
 use std::alloc::Global;
 use std::string::String;
+
+// So many bytes of a text are tested together.
+const GROUP: usize = 16;
 
 /// The bytes that may stand next in a text literal. Within a character of several bytes these are the bytes that RFC
 /// 3629, section 4, allows next.
@@ -106,6 +109,18 @@ fn hex_value(digit: u8) -> u8
     }
 }
 
+// The value of a byte, if it is a lower case hexadecimal digit.
+fn hex_of(byte: u8) -> Option<u8>
+    ensures value { result ≡ hex_of byte }
+    ensures bound { IfSome result (λ h. h < 16) }
+{
+    match byte {
+        b'0'..=b'9' => Some(byte - b'0'),
+        b'a'..=b'f' => Some(byte - b'a' + 10),
+        _ => None,
+    }
+}
+
 fn push_byte(bytes: &mut Vec<u8>, byte: u8) -> Result<(), Stop>
     ensures ok { OnOk result (bytes.new.items ≡ bytes.old.items ++ byte ∷ []) }
     ensures err { IfErr result (λ s. s ≡ Stop.NoMemory) }
@@ -116,8 +131,31 @@ fn push_byte(bytes: &mut Vec<u8>, byte: u8) -> Result<(), Stop>
     }
 }
 
-// How many bytes at the front stand for themselves in a text literal.
+// So many bytes at the front stand for themselves in a text literal. Most texts are short, so the first are tested one
+// by one.
 fn plain_len(bytes: &[u8]) -> usize
+    ensures within { result ≤ length bytes.now }
+    ensures plain { (k : ℕ) → k < result → is_plain (slice_index bytes.now k) ≡ true }
+{
+    let (front, rest) = bytes.split_at(bytes.len().min(GROUP));
+    let plain = plain_front(front);
+    if plain < front.len() {
+        return plain;
+    }
+    plain + long_plain_len(rest)
+}
+
+fn long_plain_len(bytes: &[u8]) -> usize
+    ensures within { result ≤ length bytes.now }
+    ensures plain { (k : ℕ) → k < result → is_plain (slice_index bytes.now k) ≡ true }
+{
+    let groups = plain_groups(bytes);
+    let (_, rest) = bytes.split_at(groups);
+    groups + plain_front(rest)
+}
+
+// The same, byte by byte.
+fn plain_front(bytes: &[u8]) -> usize
     ensures within { result ≤ length bytes.now }
     ensures plain { (k : ℕ) → k < result → is_plain (slice_index bytes.now k) ≡ true }
 {
@@ -129,6 +167,36 @@ fn plain_len(bytes: &[u8]) -> usize
         Some(place) => place,
         None => bytes.len(),
     }
+}
+
+// The same, in groups of 16.
+fn plain_groups(bytes: &[u8]) -> usize
+    ensures within { result ≤ length bytes.now }
+    ensures plain { (k : ℕ) → k < result → is_plain (slice_index bytes.now k) ≡ true }
+{
+    let mut passed = 0;
+    while bytes.len() - passed >= GROUP {
+        let (_, rest) = bytes.split_at(passed);
+        let (group, _) = rest.split_at(GROUP);
+        if !are_plain(group) {
+            return passed;
+        }
+        passed += GROUP;
+    }
+    passed
+}
+
+// Whether each byte stands for itself. It looks at each, so that many are tested by one instruction.
+fn are_plain(bytes: &[u8]) -> bool
+    ensures { IsTrue result → (k : ℕ) → k < length bytes.now → is_plain (slice_index bytes.now k) ≡ true }
+{
+    let mut plain = true;
+    for byte in bytes {
+        if *byte < b' ' || *byte > 127 || *byte == b'"' || *byte == b'\\' {
+            plain = false;
+        }
+    }
+    plain
 }
 
 // A copy of these bytes.
@@ -188,10 +256,8 @@ impl<'a> Reader<'a> {
             [b'"', rest @ ..] => {
                 self.rest = rest;
                 let bytes = self.text_bytes(alloc)?;
-                match String::from_utf8(bytes) {
-                    Ok(text) => Ok(text),
-                    Err(_invalid) => Err(Stop::BadByte),
-                }
+                // That these bytes are UTF-8 is proved, so no one looks at them again.
+                Ok(unsafe { String::from_utf8_unchecked(bytes) })
             }
             _ => Err(Stop::BadByte),
         }
@@ -204,11 +270,12 @@ impl<'a> Reader<'a> {
         ensures bound { IfSome result (λ h. h < 16) }
     {
         match self.rest {
-            [digit @ (b'0'..=b'9' | b'a'..=b'f'), rest @ ..] => {
+            [] => None,
+            [first, rest @ ..] => {
+                let digit = hex_of(*first)?;
                 self.rest = rest;
-                Some(hex_value(*digit))
+                Some(digit)
             }
-            _ => None,
         }
     }
 

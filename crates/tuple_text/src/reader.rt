@@ -1,6 +1,6 @@
 //! The reader of lines, a method for each part of the grammar.
 
-ghost use Rattle.std.specs.Prelude.{◌≡◌, ◌+◌, ◌-◌, ◌≤◌, ◌<◌, ◌^◌, codes, true, length, pos, negsuc, ◌≤ℤ◌, IfOk, IfErr, OnOk, IsTrue, ◌↔◌, Option, option_map};
+ghost use Rattle.std.specs.Prelude.{◌≡◌, ◌+◌, ◌-◌, ◌/◌, ◌≤◌, ◌<◌, ◌^◌, codes, true, length, pos, negsuc, ◌≤ℤ◌, IfOk, IfErr, OnOk, IsTrue, ◌↔◌, Option, option_map};
 ghost use Rattle.tuple_tree.specs.Values.{truth as truth_datum};
 ghost use Rattle.tuple_tree.specs.AtomView.{datum_of};
 ghost use Rattle.tuple_tree.specs.TupleView.{value_of};
@@ -19,6 +19,9 @@ use tuple_tree::{Atom, Field, Kind, MAX_FIELDS, Refusal, Template, Tuple, Value}
 const MOST: u128 = 9223372036854775807;
 
 const MOST_WIDE: u128 = 170141183460469231731687303715884105727;
+
+// Ten times less than 2 to the power of 64.
+const SHORT: u128 = 1844674407370955161;
 
 // How many levels may lie below the outermost list.
 const BELOW: usize = 7;
@@ -177,7 +180,7 @@ impl<'a> Reader<'a> {
         let mut number = first;
         while let [byte @ b'0'..=b'9', rest @ ..] = self.rest {
             let digit = u128::from(*byte - b'0');
-            if number > (limit - digit) / 10 {
+            if is_beyond(number, digit, limit) {
                 return Err(Stop::BadByte);
             }
             number = number * 10 + digit;
@@ -747,6 +750,20 @@ impl<'a> Reader<'a> {
     {
         self.blanks(true);
         self.operation(alloc)
+    }
+}
+
+// Whether the number with this digit behind it is more than the limit. A product that surely fits is compared as it is,
+// since a division of 128 bits takes long.
+fn is_beyond(number: u128, digit: u128, limit: u128) -> bool
+    requires digit { digit ≤ 9 }
+    requires low { 9 ≤ limit }
+    ensures { IsTrue result ↔ ((limit - digit) / 10 < number) }
+{
+    if number < SHORT {
+        number * 10 + digit > limit
+    } else {
+        number > (limit - digit) / 10
     }
 }
 

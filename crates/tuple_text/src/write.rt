@@ -19,6 +19,8 @@ use terms::NoMemory;
 use tuple_codec::{Answer, Tuples};
 use tuple_tree::{Atom, Tuple, Value};
 
+const DIGITS: &[u8; 16] = b"0123456789abcdef";
+
 // So many bytes of a text are tested together.
 const GROUP: usize = 16;
 
@@ -314,9 +316,5 @@ fn hex_digit(digit: u8) -> u8
     requires { digit < 16 }
     ensures { result ≡ Texts.hex_digit digit }
 {
-    if digit < 10 {
-        b'0' + digit
-    } else {
-        b'a' + (digit - 10)
-    }
+    DIGITS[digit as usize]
 }
