@@ -6,7 +6,7 @@ ghost use Rattle.tuple_text.specs.Judged.{JudgesLine, ReadsEachLine, JudgesText,
 
 use crate::faults::{LineFault, MAX_LINE};
 use crate::reader::Reader;
-use std::alloc::Global;
+use std::alloc::Allocator;
 use tuple_codec::Op;
 use tuple_tree::Template;
 
@@ -29,7 +29,7 @@ fn is_skipped(line: &[u8]) -> bool
 ///
 /// The line is judged from left to right. The first byte that can't continue any valid line, or passes a limit of
 /// tuples and templates, decides. The byte 65,536 counts as one that can't continue any line.
-pub fn read_line(alloc: Global, line: &[u8]) -> Result<Option<Op<Global>>, LineFault>
+pub fn read_line<A: Allocator + Copy>(alloc: A, line: &[u8]) -> Result<Option<Op<A>>, LineFault>
     // The operation is that of the line, and the fault is the first one.
     ensures answer { JudgesLine line.now result }
 
@@ -59,7 +59,7 @@ pub fn read_line(alloc: Global, line: &[u8]) -> Result<Option<Op<Global>>, LineF
 ///
 /// As of the line `rdp TEXT`; offsets count from the text's first byte. The byte 65,532 counts as one that can't
 /// continue any text.
-pub fn read_template(alloc: Global, text: &[u8]) -> Result<Template<Global>, LineFault>
+pub fn read_template<A: Allocator + Copy>(alloc: A, text: &[u8]) -> Result<Template<A>, LineFault>
     ensures answer { JudgesText text.now result }
 
     // The text of a template is read as that template, unless memory runs out.

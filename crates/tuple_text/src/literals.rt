@@ -6,7 +6,7 @@ ghost use Rattle.tuple_text.specs.Literals.{is_hex, hex_value, hex_of, led, step
 ghost use Rattle.tuple_text.specs.Parts.{Reads};
 
 use crate::reader::{Reader, Stop};
-use std::alloc::Global;
+use std::alloc::Allocator;
 use std::string::String;
 
 // So many bytes of a text are tested together.
@@ -121,7 +121,7 @@ fn hex_of(byte: u8) -> Option<u8>
     }
 }
 
-fn push_byte(bytes: &mut Vec<u8>, byte: u8) -> Result<(), Stop>
+fn push_byte<A: Allocator>(bytes: &mut Vec<u8, A>, byte: u8) -> Result<(), Stop>
     ensures ok { OnOk result (bytes.new.items ≡ bytes.old.items ++ byte ∷ []) }
     ensures err { IfErr result (λ s. s ≡ Stop.NoMemory) }
 {
@@ -200,7 +200,7 @@ fn are_plain(bytes: &[u8]) -> bool
 }
 
 // A copy of these bytes.
-fn copy_of(alloc: Global, bytes: &[u8]) -> Result<Vec<u8>, Stop>
+fn copy_of<A: Allocator + Copy>(alloc: A, bytes: &[u8]) -> Result<Vec<u8, A>, Stop>
     ensures ok { IfOk result (λ v. v.items ≡ bytes.now) }
     ensures err { IfErr result (λ s. s ≡ Stop.NoMemory) }
 {
@@ -212,7 +212,7 @@ fn copy_of(alloc: Global, bytes: &[u8]) -> Result<Vec<u8>, Stop>
 
 impl<'a> Reader<'a> {
     // Passes the bytes at the front that stand for themselves, all at once, and gives them.
-    fn plain_bytes(&mut self, alloc: Global) -> Result<Vec<u8>, Stop>
+    fn plain_bytes<A: Allocator + Copy>(&mut self, alloc: A) -> Result<Vec<u8, A>, Stop>
         ensures ok { IfOk result (λ v. PassesPlain v.items self.old.rest.now self.new.rest.now) }
         ensures err { IfErr result (λ s. s ≡ Stop.NoMemory) }
     {
@@ -223,7 +223,7 @@ impl<'a> Reader<'a> {
     }
 
     // The rest of a text after its first quote.
-    fn text_bytes(&mut self, alloc: Global) -> Result<Vec<u8>, Stop>
+    fn text_bytes<A: Allocator + Copy>(&mut self, alloc: A) -> Result<Vec<u8, A>, Stop>
         ensures gives { Reads (λ v. v.items) result text_rest self.old self.new }
         ensures utf8 { IfOk result (λ v. IsUtf8 v.items) }
     {
@@ -249,7 +249,7 @@ impl<'a> Reader<'a> {
 
     /// Reads a text literal.
     #[tactic(auto, unfolding(crate::specs::Literals::text_literal))]
-    pub(crate) fn text_literal(&mut self, alloc: Global) -> Result<String<Global>, Stop>
+    pub(crate) fn text_literal<A: Allocator + Copy>(&mut self, alloc: A) -> Result<String<A>, Stop>
         ensures { Reads (λ s. string_bytes s) result text_literal self.old self.new }
     {
         match self.rest {
@@ -280,7 +280,7 @@ impl<'a> Reader<'a> {
     }
 
     // The rest of a byte string after its first letter.
-    fn pairs(&mut self, alloc: Global) -> Result<Vec<u8>, Stop>
+    fn pairs<A: Allocator + Copy>(&mut self, alloc: A) -> Result<Vec<u8, A>, Stop>
         ensures { Reads (λ v. v.items) result (pairs [] None) self.old self.new }
     {
         let mut bytes = Vec::new(alloc);
@@ -295,7 +295,10 @@ impl<'a> Reader<'a> {
 
     /// Reads a byte string literal.
     #[tactic(auto, unfolding(crate::specs::Literals::bytes_literal))]
-    pub(crate) fn bytes_literal(&mut self, alloc: Global) -> Result<Vec<u8>, Stop>
+    pub(crate) fn bytes_literal<A: Allocator + Copy>(
+        &mut self,
+        alloc: A,
+    ) -> Result<Vec<u8, A>, Stop>
         ensures { Reads (λ v. v.items) result bytes_literal self.old self.new }
     {
         match self.rest {

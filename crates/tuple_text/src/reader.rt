@@ -11,7 +11,7 @@ ghost use Rattle.tuple_text.specs.Reading.{fault_at, blanks, word, gap, finish, 
 ghost use Rattle.tuple_text.specs.Parts.{HasNoValueRoom, HasNoFieldRoom, plain_value, plain_slot, closed, value_at, field_at, value_follows, field_follows, values_at, fields_at, close_tuple, close_template, tuple_with, template_with, Reads};
 
 use crate::faults::LineFault;
-use std::alloc::Global;
+use std::alloc::Allocator;
 use tuple_codec::{Max, Op};
 use tuple_tree::{Atom, Field, Kind, MAX_FIELDS, Refusal, Template, Tuple, Value};
 
@@ -71,7 +71,7 @@ impl Verb {
     }
 
     // Its operation on the oldest match.
-    fn one_of(self, template: Template<Global>) -> Op<Global>
+    fn one_of<A: Allocator>(self, template: Template<A>) -> Op<A>
         ensures { operation_of result ≡ one_of self template }
     {
         match self {
@@ -81,7 +81,7 @@ impl Verb {
     }
 
     // Its operation on the oldest `max` matches.
-    fn all_of(self, max: Max, template: Template<Global>) -> Op<Global>
+    fn all_of<A: Allocator>(self, max: Max, template: Template<A>) -> Op<A>
         ensures { operation_of result ≡ all_of self max.count template }
     {
         match self {
@@ -233,7 +233,7 @@ impl<'a> Reader<'a> {
     }
 
     #[tactic(auto, unfolding(crate::specs::Reading::numeral))]
-    fn numeral(&mut self) -> Result<Atom<Global>, Stop>
+    fn numeral<A: Allocator>(&mut self) -> Result<Atom<A>, Stop>
         ensures { Reads datum_of result numeral self.old self.new }
     {
         let number = self.signed(MOST)?;
@@ -242,7 +242,7 @@ impl<'a> Reader<'a> {
 
     // A wide number, after its `w`.
     #[tactic(auto, unfolding(crate::specs::Reading::wide_numeral))]
-    fn wide_numeral(&mut self) -> Result<Atom<Global>, Stop>
+    fn wide_numeral<A: Allocator>(&mut self) -> Result<Atom<A>, Stop>
         ensures { Reads datum_of result wide_numeral self.old self.new }
     {
         self.word(b"w")?;
@@ -251,7 +251,7 @@ impl<'a> Reader<'a> {
     }
 
     // A word that stands for a truth value.
-    fn truth(&mut self, letters: &[u8], truth: bool) -> Result<Atom<Global>, Stop>
+    fn truth<A: Allocator>(&mut self, letters: &[u8], truth: bool) -> Result<Atom<A>, Stop>
         ensures { Reads datum_of result (named letters.now (truth_datum truth)) self.old self.new }
     {
         self.word(letters)?;
@@ -260,7 +260,7 @@ impl<'a> Reader<'a> {
 
     // A value that is no tuple.
     #[tactic(auto, unfolding(crate::specs::Reading::datum, crate::specs::Reading::quoted, crate::specs::Reading::byte_string))]
-    fn atom(&mut self, alloc: Global) -> Result<Atom<Global>, Stop>
+    fn atom<A: Allocator + Copy>(&mut self, alloc: A) -> Result<Atom<A>, Stop>
         ensures { Reads datum_of result datum self.old self.new }
     {
         match self.rest {
@@ -333,7 +333,7 @@ impl<'a> Reader<'a> {
 
     // A field that is no template.
     #[tactic(auto, unfolding(crate::specs::Reading::slot, crate::specs::Reading::formal_slot, crate::specs::Reading::actual_slot))]
-    fn plain_field(&mut self, alloc: Global) -> Result<Field<Global>, Stop>
+    fn plain_field<A: Allocator + Copy>(&mut self, alloc: A) -> Result<Field<A>, Stop>
         ensures { Reads field_of result slot_item self.old self.new }
     {
         match self.rest {
@@ -412,7 +412,7 @@ impl<'a> Reader<'a> {
     }
 
     // A value that is no tuple, which is never too long.
-    fn kept_atom(&mut self, alloc: Global) -> Result<Option<Value<Global>>, Stop>
+    fn kept_atom<A: Allocator + Copy>(&mut self, alloc: A) -> Result<Option<Value<A>>, Stop>
         ensures { Reads (option_map value_of) result plain_value self.old self.new }
     {
         let atom = self.atom(alloc)?;
@@ -420,7 +420,10 @@ impl<'a> Reader<'a> {
     }
 
     // Passes the closing parenthesis, and gives the tuple as a value.
-    fn closed_value(&mut self, tuple: Option<Tuple<Global>>) -> Result<Option<Value<Global>>, Stop>
+    fn closed_value<A: Allocator>(
+        &mut self,
+        tuple: Option<Tuple<A>>,
+    ) -> Result<Option<Value<A>>, Stop>
         ensures { Reads (option_map value_of) result (closed tuple) self.old self.new }
     {
         self.word(b")")?;
@@ -432,7 +435,11 @@ impl<'a> Reader<'a> {
 
     // A value with at most so many levels. `None` if its encoding is too long.
     #[cycle(value)]
-    fn value(&mut self, alloc: Global, levels: usize) -> Result<Option<Value<Global>>, Stop>
+    fn value<A: Allocator + Copy>(
+        &mut self,
+        alloc: A,
+        levels: usize,
+    ) -> Result<Option<Value<A>>, Stop>
         ensures { Reads (option_map value_of) result (value_at levels) self.old self.new }
     {
         if !self.opens() {
@@ -460,7 +467,11 @@ impl<'a> Reader<'a> {
     // The values up to the closing parenthesis, which is left. The values of a tuple that is too long are still
     // judged.
     #[cycle(value)]
-    fn values(&mut self, alloc: Global, levels: usize) -> Result<Option<Tuple<Global>>, Stop>
+    fn values<A: Allocator + Copy>(
+        &mut self,
+        alloc: A,
+        levels: usize,
+    ) -> Result<Option<Tuple<A>>, Stop>
         ensures { Reads (λ t. t) result (values_at levels) self.old self.new }
     {
         let mut tuple = Some(Tuple::new_in(alloc));
@@ -476,7 +487,7 @@ impl<'a> Reader<'a> {
     }
 
     #[tactic(auto, unfolding(crate::specs::Reading::close))]
-    fn close_tuple(&mut self, tuple: Option<Tuple<Global>>) -> Result<Tuple<Global>, Stop>
+    fn close_tuple<A: Allocator>(&mut self, tuple: Option<Tuple<A>>) -> Result<Tuple<A>, Stop>
         ensures { Reads (λ t. t) result (close_tuple tuple) self.old self.new }
     {
         match self.rest {
@@ -492,7 +503,7 @@ impl<'a> Reader<'a> {
     }
 
     #[tactic(auto, unfolding(crate::specs::Reading::whole))]
-    fn tuple(&mut self, alloc: Global) -> Result<Tuple<Global>, Stop>
+    fn tuple<A: Allocator + Copy>(&mut self, alloc: A) -> Result<Tuple<A>, Stop>
         ensures { Reads (λ t. t) result tuple self.old self.new }
     {
         self.word(b"(")?;
@@ -501,7 +512,7 @@ impl<'a> Reader<'a> {
     }
 
     // A field that is no template, which is never too long.
-    fn kept_field(&mut self, alloc: Global) -> Result<Option<Field<Global>>, Stop>
+    fn kept_field<A: Allocator + Copy>(&mut self, alloc: A) -> Result<Option<Field<A>>, Stop>
         ensures { Reads (option_map field_of) result plain_slot self.old self.new }
     {
         let field = self.plain_field(alloc)?;
@@ -509,10 +520,10 @@ impl<'a> Reader<'a> {
     }
 
     // Passes the closing parenthesis, and gives the template as a field.
-    fn closed_field(
+    fn closed_field<A: Allocator>(
         &mut self,
-        template: Option<Template<Global>>,
-    ) -> Result<Option<Field<Global>>, Stop>
+        template: Option<Template<A>>,
+    ) -> Result<Option<Field<A>>, Stop>
         ensures { Reads (option_map field_of) result (closed template) self.old self.new }
     {
         self.word(b")")?;
@@ -524,7 +535,11 @@ impl<'a> Reader<'a> {
 
     // A field with at most so many levels. `None` if its encoding is too long.
     #[cycle(field)]
-    fn field(&mut self, alloc: Global, levels: usize) -> Result<Option<Field<Global>>, Stop>
+    fn field<A: Allocator + Copy>(
+        &mut self,
+        alloc: A,
+        levels: usize,
+    ) -> Result<Option<Field<A>>, Stop>
         ensures { Reads (option_map field_of) result (field_at levels) self.old self.new }
     {
         if !self.opens() {
@@ -552,7 +567,11 @@ impl<'a> Reader<'a> {
     // The fields up to the closing parenthesis, which is left. The fields of a template that is too long are still
     // judged.
     #[cycle(field)]
-    fn fields(&mut self, alloc: Global, levels: usize) -> Result<Option<Template<Global>>, Stop>
+    fn fields<A: Allocator + Copy>(
+        &mut self,
+        alloc: A,
+        levels: usize,
+    ) -> Result<Option<Template<A>>, Stop>
         ensures { Reads (λ p. p) result (fields_at levels) self.old self.new }
     {
         let mut template = Some(Template::new_in(alloc));
@@ -568,10 +587,10 @@ impl<'a> Reader<'a> {
     }
 
     #[tactic(auto, unfolding(crate::specs::Reading::close))]
-    fn close_template(
+    fn close_template<A: Allocator>(
         &mut self,
-        template: Option<Template<Global>>,
-    ) -> Result<Template<Global>, Stop>
+        template: Option<Template<A>>,
+    ) -> Result<Template<A>, Stop>
         ensures { Reads (λ p. p) result (close_template template) self.old self.new }
     {
         match self.rest {
@@ -587,7 +606,7 @@ impl<'a> Reader<'a> {
     }
 
     #[tactic(auto, unfolding(crate::specs::Reading::whole))]
-    fn template(&mut self, alloc: Global) -> Result<Template<Global>, Stop>
+    fn template<A: Allocator + Copy>(&mut self, alloc: A) -> Result<Template<A>, Stop>
         ensures { Reads (λ p. p) result template self.old self.new }
     {
         self.word(b"(")?;
@@ -596,7 +615,7 @@ impl<'a> Reader<'a> {
     }
 
     #[tactic(auto, unfolding(crate::specs::Reading::argument))]
-    fn tuple_argument(&mut self, alloc: Global) -> Result<Tuple<Global>, Stop>
+    fn tuple_argument<A: Allocator + Copy>(&mut self, alloc: A) -> Result<Tuple<A>, Stop>
         ensures { Reads (λ t. t) result (argument tuple) self.old self.new }
     {
         self.gap()?;
@@ -604,7 +623,7 @@ impl<'a> Reader<'a> {
     }
 
     #[tactic(auto, unfolding(crate::specs::Reading::argument))]
-    fn template_argument(&mut self, alloc: Global) -> Result<Template<Global>, Stop>
+    fn template_argument<A: Allocator + Copy>(&mut self, alloc: A) -> Result<Template<A>, Stop>
         ensures { Reads (λ p. p) result (argument template) self.old self.new }
     {
         self.gap()?;
@@ -612,7 +631,7 @@ impl<'a> Reader<'a> {
     }
 
     // A gap, a tuple, and blanks alone up to the end.
-    fn last_tuple(&mut self, alloc: Global) -> Result<Tuple<Global>, Stop>
+    fn last_tuple<A: Allocator + Copy>(&mut self, alloc: A) -> Result<Tuple<A>, Stop>
         ensures { Reads (λ t. t) result (last (argument tuple)) self.old self.new }
     {
         let tuple = self.tuple_argument(alloc)?;
@@ -621,7 +640,7 @@ impl<'a> Reader<'a> {
     }
 
     // A template, and blanks alone up to the end.
-    fn closing_template(&mut self, alloc: Global) -> Result<Template<Global>, Stop>
+    fn closing_template<A: Allocator + Copy>(&mut self, alloc: A) -> Result<Template<A>, Stop>
         ensures { Reads (λ p. p) result (last template) self.old self.new }
     {
         let template = self.template(alloc)?;
@@ -631,7 +650,7 @@ impl<'a> Reader<'a> {
 
     // A gap, a template, and blanks alone up to the end.
     #[tactic(auto, unfolding(crate::specs::Reading::argument))]
-    fn last_template(&mut self, alloc: Global) -> Result<Template<Global>, Stop>
+    fn last_template<A: Allocator + Copy>(&mut self, alloc: A) -> Result<Template<A>, Stop>
         ensures { Reads (λ p. p) result (last (argument template)) self.old self.new }
     {
         self.gap()?;
@@ -660,7 +679,7 @@ impl<'a> Reader<'a> {
     }
 
     #[tactic(auto, unfolding(crate::specs::Reading::out_line, crate::specs::Reading::ended))]
-    fn out_line(&mut self, alloc: Global) -> Result<Op<Global>, Stop>
+    fn out_line<A: Allocator + Copy>(&mut self, alloc: A) -> Result<Op<A>, Stop>
         ensures { Reads operation_of result out_line self.old self.new }
     {
         self.word(b"out")?;
@@ -669,7 +688,7 @@ impl<'a> Reader<'a> {
     }
 
     #[tactic(auto, unfolding(crate::specs::Reading::cas_line, crate::specs::Reading::ended))]
-    fn cas_line(&mut self, alloc: Global) -> Result<Op<Global>, Stop>
+    fn cas_line<A: Allocator + Copy>(&mut self, alloc: A) -> Result<Op<A>, Stop>
         ensures { Reads operation_of result cas_line self.old self.new }
     {
         self.word(b"cas")?;
@@ -679,7 +698,7 @@ impl<'a> Reader<'a> {
     }
 
     #[tactic(auto, unfolding(crate::specs::Reading::upgrade_line, crate::specs::Reading::ended))]
-    fn upgrade_line(&mut self) -> Result<Op<Global>, Stop>
+    fn upgrade_line<A: Allocator>(&mut self) -> Result<Op<A>, Stop>
         ensures { Reads operation_of result upgrade_line self.old self.new }
     {
         self.word(b"upgrade")?;
@@ -689,7 +708,7 @@ impl<'a> Reader<'a> {
 
     // The rest of an `rdp` or `inp` line, after its first two letters.
     #[tactic(auto, unfolding(crate::specs::Reading::one_line, crate::specs::Reading::ended))]
-    fn one_line(&mut self, alloc: Global, verb: Verb) -> Result<Op<Global>, Stop>
+    fn one_line<A: Allocator + Copy>(&mut self, alloc: A, verb: Verb) -> Result<Op<A>, Stop>
         ensures { Reads operation_of result (one_line verb) self.old self.new }
     {
         self.word(b"p")?;
@@ -699,7 +718,7 @@ impl<'a> Reader<'a> {
 
     // The rest of an `rdAll` or `inAll` line, after its first two letters.
     #[tactic(auto, unfolding(crate::specs::Reading::all_line, crate::specs::Reading::ended))]
-    fn all_line(&mut self, alloc: Global, verb: Verb) -> Result<Op<Global>, Stop>
+    fn all_line<A: Allocator + Copy>(&mut self, alloc: A, verb: Verb) -> Result<Op<A>, Stop>
         ensures { Reads operation_of result (all_line verb) self.old self.new }
     {
         self.word(b"All")?;
@@ -709,7 +728,7 @@ impl<'a> Reader<'a> {
     }
 
     #[tactic(auto, unfolding(crate::specs::Reading::verb_line))]
-    fn verb_line(&mut self, alloc: Global, verb: Verb) -> Result<Op<Global>, Stop>
+    fn verb_line<A: Allocator + Copy>(&mut self, alloc: A, verb: Verb) -> Result<Op<A>, Stop>
         ensures { Reads operation_of result (verb_line verb) self.old self.new }
     {
         self.word(verb.letters())?;
@@ -721,7 +740,7 @@ impl<'a> Reader<'a> {
     }
 
     #[tactic(auto, unfolding(crate::specs::Reading::operation))]
-    fn operation(&mut self, alloc: Global) -> Result<Op<Global>, Stop>
+    fn operation<A: Allocator + Copy>(&mut self, alloc: A) -> Result<Op<A>, Stop>
         ensures { Reads operation_of result operation self.old self.new }
     {
         match self.rest {
@@ -736,7 +755,10 @@ impl<'a> Reader<'a> {
 
     /// A template that stands alone, with blanks at both ends.
     #[tactic(auto, unfolding(crate::specs::Reading::lone_template))]
-    pub(crate) fn lone_template(&mut self, alloc: Global) -> Result<Template<Global>, Stop>
+    pub(crate) fn lone_template<A: Allocator + Copy>(
+        &mut self,
+        alloc: A,
+    ) -> Result<Template<A>, Stop>
         ensures { Reads (λ p. p) result lone_template self.old self.new }
     {
         self.blanks(true);
@@ -745,7 +767,7 @@ impl<'a> Reader<'a> {
 
     /// The operation of the line.
     #[tactic(auto, unfolding(crate::specs::Reading::line))]
-    pub(crate) fn line(&mut self, alloc: Global) -> Result<Op<Global>, Stop>
+    pub(crate) fn line<A: Allocator + Copy>(&mut self, alloc: A) -> Result<Op<A>, Stop>
         ensures { Reads operation_of result line self.old self.new }
     {
         self.blanks(true);
@@ -769,10 +791,10 @@ fn is_beyond(number: u128, digit: u128, limit: u128) -> bool
 
 // The tuple with the value at its end. `None` if the tuple, the value or the whole is too long. The reader keeps the
 // other limits itself.
-fn with_value(
-    tuple: Option<Tuple<Global>>,
-    value: Option<Value<Global>>,
-) -> Result<Option<Tuple<Global>>, Stop>
+fn with_value<A: Allocator>(
+    tuple: Option<Tuple<A>>,
+    value: Option<Value<A>>,
+) -> Result<Option<Tuple<A>>, Stop>
     ensures ok { IfOk result (λ t. t ≡ tuple_with tuple (option_map value_of value)) }
     ensures err { IfErr result (λ s. s ≡ Stop.NoMemory) }
 {
@@ -789,10 +811,10 @@ fn with_value(
 }
 
 // The template with the field at its end. `None` if the template, the field or the whole is too long.
-fn with_field(
-    template: Option<Template<Global>>,
-    field: Option<Field<Global>>,
-) -> Result<Option<Template<Global>>, Stop>
+fn with_field<A: Allocator>(
+    template: Option<Template<A>>,
+    field: Option<Field<A>>,
+) -> Result<Option<Template<A>>, Stop>
     ensures ok { IfOk result (λ p. p ≡ template_with template (option_map field_of field)) }
     ensures err { IfErr result (λ s. s ≡ Stop.NoMemory) }
 {

@@ -5,14 +5,14 @@ use Rattle.tuple_text.proofs.Steps.{SoFar}
 use Rattle.tuple_text.proofs.reader.Reader.+value.Given as goal
 
 abbrev pub decreases-value : goal.decreases-value
-decreases-value l = 2 * l.levels
+decreases-value g l = 2 * l.levels
 
 abbrev pub decreases-values : goal.decreases-values
-decreases-values l = 2 * l.levels + 1
+decreases-values g l = 2 * l.levels + 1
 
 abbrev pub invariant-values-loop-tuple : goal.invariant-values-loop-tuple
-invariant-values-loop-tuple l =
+invariant-values-loop-tuple g l =
     SoFar (no_room begins_datum l.levels) (kept_with datum_length) (item_at datum_length begins_datum datum l.levels) l.count l.free l.tuple l.self.rest.now (items_at datum_length begins_datum datum l.levels l.initial.self.rest.now)
 
 abbrev pub decreases-values-loop-tuple : goal.decreases-values-loop-tuple
-decreases-values-loop-tuple l = 33 - l.count
+decreases-values-loop-tuple g l = 33 - l.count

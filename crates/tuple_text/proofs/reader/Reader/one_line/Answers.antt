@@ -6,11 +6,11 @@ use Rattle.tuple_text.proofs.Closing.{one_as}
 use Rattle.tuple_text.proofs.reader.Reader.one_line.Goals as goal
 
 pub returns-in_err-template : goal.returns-in_err-template
-returns-in_err-template c =
+returns-in_err-template g c =
     let p = err_from_is_err_and c.from_residual-in_err-template.result c.from_residual-in_err-template.ensures.1 in
     rw (p.1, p.2) (stops_as _ _ _ _ (one_as c.args.verb c.args.self.now.rest.now c.word.new.self.rest.now c.in_ok-word.ensures) (stops_through _ _ (λ x after. got (one_of c.args.verb x) after) _ c.in_err-template.ensures))
 
 pub returns : goal.returns
-returns c =
+returns g c =
     one_as c.args.verb c.args.self.now.rest.now c.word.new.self.rest.now c.in_ok-word.ensures ∙ ap (λ y. y >>= λ x after. got (one_of c.args.verb x) after) c.in_ok-template.ensures
     ∙ sym (ap (λ o. got o c.last_template.new.self.rest.now) c.one_of.ensures)
