@@ -212,13 +212,13 @@ part_refused_known None known left before mid full limit d taken other = tt
 part_refused_known (Some xs) known left before mid full limit d taken other = part_refused xs before mid full known left limit d taken other
 
 -- the result for such a line, by its end l
-abbrev pub EndJudged : Result NextLine NoLine → List ℕ → Type 0
+abbrev pub EndJudged : {A : Type 0} → Result (NextLine A) NoLine → List ℕ → Type 0
 EndJudged r l = (p : List ℕ) → AreBlanks p → 65537 ≤ length p → MatchResult r (λ given. IsJudged given (p ++ l)) (λ failed. IsRefused failed (p ++ l))
 
-abbrev pub Answers : Option (List ℕ) → Result NextLine NoLine → List ℕ → Type 0
+abbrev pub Answers : {A : Type 0} → Option (List ℕ) → Result (NextLine A) NoLine → List ℕ → Type 0
 Answers left r xs = MatchResult r (λ given. GivesLine given xs left) (λ failed. Fails failed xs)
 
-end_at : (xs before mid full : List ℕ) (known left : Option (List ℕ)) (limit : ℕ) (r : Result NextLine NoLine)
+end_at : {A : Type 0} (xs before mid full : List ℕ) (known left : Option (List ℕ)) (limit : ℕ) (r : Result (NextLine A) NoLine)
     → Drops xs known before mid → IfSome known (λ ys. TakesPiece (Some LineFeed) limit ys left mid full) → EndJudged r (strip_carriage_return full)
     → (p : List ℕ) → AreBlanks p → 65537 ≤ length p → NoLineFeed before → Answers left r (p ++ (before ++ xs))
 end_at xs before mid full known left limit r d taken judged p blank many clean =
@@ -238,12 +238,12 @@ end_at xs before mid full known left limit r d taken judged p blank many clean =
     })
     (judged q are (omega (arith, many, length-append p d.blanks)))
 
-pub end_at_known : (start known left : Option (List ℕ)) (before mid full : List ℕ) (limit : ℕ) (r : Result NextLine NoLine) → IfSome start (λ xs. Drops xs known before mid)
+pub end_at_known : {A : Type 0} (start known left : Option (List ℕ)) (before mid full : List ℕ) (limit : ℕ) (r : Result (NextLine A) NoLine) → IfSome start (λ xs. Drops xs known before mid)
     → IfSome known (λ ys. TakesPiece (Some LineFeed) limit ys left mid full) → EndJudged r (strip_carriage_return full) → OfBlanks start before (Answers left r)
 end_at_known None known left before mid full limit r d taken judged = tt
 end_at_known (Some xs) known left before mid full limit r d taken judged = end_at xs before mid full known left limit r d taken judged
 
-end_last : (xs before mid full : List ℕ) (known left : Option (List ℕ)) (limit : ℕ) (r : Result NextLine NoLine)
+end_last : {A : Type 0} (xs before mid full : List ℕ) (known left : Option (List ℕ)) (limit : ℕ) (r : Result (NextLine A) NoLine)
     → Drops xs known before mid → IfSome known (λ ys. TakesPiece (Some InputEnd) limit ys left mid full) → EndJudged r full
     → (p : List ℕ) → AreBlanks p → 65537 ≤ length p → NoLineFeed before → Answers left r (p ++ (before ++ xs))
 end_last xs before mid full known left limit r d taken judged p blank many clean =
@@ -263,7 +263,7 @@ end_last xs before mid full known left limit r d taken judged p blank many clean
     })
     (judged q are (omega (arith, many, length-append p d.blanks)))
 
-pub end_last_known : (start known left : Option (List ℕ)) (before mid full : List ℕ) (limit : ℕ) (r : Result NextLine NoLine) → IfSome start (λ xs. Drops xs known before mid)
+pub end_last_known : {A : Type 0} (start known left : Option (List ℕ)) (before mid full : List ℕ) (limit : ℕ) (r : Result (NextLine A) NoLine) → IfSome start (λ xs. Drops xs known before mid)
     → IfSome known (λ ys. TakesPiece (Some InputEnd) limit ys left mid full) → EndJudged r full → OfBlanks start before (Answers left r)
 end_last_known None known left before mid full limit r d taken judged = tt
 end_last_known (Some xs) known left before mid full limit r d taken judged = end_last xs before mid full known left limit r d taken judged
@@ -274,13 +274,13 @@ comment_first [] (suc n) h = absurd h
 comment_first (x ∷ l) (suc n) h = h
 
 -- Too long a line that begins with other bytes is not read.
-judged_none : (line : List ℕ) (given : NextLine) → 65538 ≤ length line → (AreBlanks (take 65537 line) → ⊥) → (get_or line 0 0 ≡ 35 → ⊥) → IsJudged given (take 65537 line) → ⊥
+judged_none : {A : Type 0} (line : List ℕ) (given : NextLine A) → 65538 ≤ length line → (AreBlanks (take 65537 line) → ⊥) → (get_or line 0 0 ≡ 35 → ⊥) → IsJudged given (take 65537 line) → ⊥
 judged_none line next.End long other hash judged = judged
 judged_none line next.Skipped long other hash (inl blank) = other blank
 judged_none line next.Skipped long other hash (inr comment) = hash (comment_first line 65537 comment)
 judged_none line (next.Operation op) long other hash judged = omega (arith, long, judged.size, length-take-le 65537 line (omega (arith, long)))
 
-pub judged_long : (start left : Option (List ℕ)) (line : List ℕ) (r : Result NextLine NoLine) → 65538 ≤ length line → (AreBlanks (take 65537 line) → ⊥) → (get_or line 0 0 ≡ 35 → ⊥)
+pub judged_long : {A : Type 0} (start left : Option (List ℕ)) (line : List ℕ) (r : Result (NextLine A) NoLine) → 65538 ≤ length line → (AreBlanks (take 65537 line) → ⊥) → (get_or line 0 0 ≡ 35 → ⊥)
     → MatchResult r (λ given. IsJudged given (take 65537 line)) (λ failed. IsRefused failed (take 65537 line)) → IfSome start (λ ys. NoLineFeed line → Answers left r (line ++ ys))
 judged_long None left line r long other hash judged = tt
 judged_long (Some ys) left line (Ok given) long other hash judged = absurd (judged_none line given long other hash judged)
@@ -306,7 +306,7 @@ refused_first None line long blank other = tt
 refused_first (Some ys) line long blank other = refused_front 65537 line ys (omega arith) (omega (arith, long)) blank other
 
 -- Such a line goes on after its first blanks.
-pub goes_on : (start left : Option (List ℕ)) (line after : List ℕ) (r : Result NextLine NoLine) → 65538 ≤ length line → AreBlanks (take (length line - 1) line)
+pub goes_on : {A : Type 0} (start left : Option (List ℕ)) (line after : List ℕ) (r : Result (NextLine A) NoLine) → 65538 ≤ length line → AreBlanks (take (length line - 1) line)
     → after ≡ drop (length line - 1) line → OfBlanks start after (Answers left r) → IfSome start (λ ys. NoLineFeed line → Answers left r (line ++ ys))
 goes_on None left line after r long blank kept told = tt
 goes_on (Some ys) left line after r long blank kept told = λ clean.

@@ -43,7 +43,7 @@ module _ (limit : ℕ) (xs : List ℕ) (left : Option (List ℕ)) (line : List �
       empty (x ∷ l) e = absurd (omega arith)
 
 module _ (l xs : List ℕ) where
-  pub given_of : (left : Option (List ℕ)) (given : NextLine) → IsNextLine l xs left → IsJudged given l → GivesLine given xs left
+  pub given_of : {A : Type 0} (left : Option (List ℕ)) (given : NextLine A) → IsNextLine l xs left → IsJudged given l → GivesLine given xs left
   given_of left next.End first judged = absurd judged
   given_of left next.Skipped first judged = (l, first, judged)
   given_of left (next.Operation op) first judged = (l, first, judged)
@@ -53,20 +53,20 @@ module _ (l xs : List ℕ) where
   failed_of others no.NoMemory split refused = tt
   failed_of others (no.Read error) split refused = absurd refused
 
-  pub judged_of : (left : Option (List ℕ)) (r : Result NextLine NoLine) → IsNextLine l xs left
+  pub judged_of : {A : Type 0} (left : Option (List ℕ)) (r : Result (NextLine A) NoLine) → IsNextLine l xs left
       → MatchResult r (λ given. IsJudged given l) (λ failed. IsRefused failed l)
       → MatchResult r (λ given. GivesLine given xs left) (λ failed. Fails failed xs)
   judged_of left (Ok given) first judged = given_of left given first judged
   judged_of left (Err failed) first judged = failed_of (lines first.rest) failed first.split judged
 
-pub judged_at : (start left : Option (List ℕ)) (limit : ℕ) (line : List ℕ) (r : Result NextLine NoLine)
+pub judged_at : {A : Type 0} (start left : Option (List ℕ)) (limit : ℕ) (line : List ℕ) (r : Result (NextLine A) NoLine)
     → IfSome start (λ xs. TakesPiece (Some LineFeed) limit xs left [] line)
     → MatchResult r (λ given. IsJudged given (strip_carriage_return line)) (λ failed. IsRefused failed (strip_carriage_return line))
     → IfSome start (λ xs. MatchResult r (λ given. GivesLine given xs left) (λ failed. Fails failed xs))
 judged_at None left limit line r taken judged = tt
 judged_at (Some xs) left limit line r taken judged = judged_of (strip_carriage_return line) xs left r (begins_at limit xs left line taken) judged
 
-pub judged_last : (start left : Option (List ℕ)) (limit : ℕ) (line : List ℕ) (r : Result NextLine NoLine) → 0 < length line
+pub judged_last : {A : Type 0} (start left : Option (List ℕ)) (limit : ℕ) (line : List ℕ) (r : Result (NextLine A) NoLine) → 0 < length line
     → IfSome start (λ xs. TakesPiece (Some InputEnd) limit xs left [] line)
     → MatchResult r (λ given. IsJudged given line) (λ failed. IsRefused failed line)
     → IfSome start (λ xs. MatchResult r (λ given. GivesLine given xs left) (λ failed. Fails failed xs))

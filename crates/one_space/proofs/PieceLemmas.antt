@@ -1,13 +1,14 @@
 -- Parts of a line, one after the other.
-use Rattle.std.proofs.Common.{◌≡◌, ℕ, ◌+◌, ◌<◌, ◌≤◌, ◌==◌, Bool, true, false, List, [], ◌∷◌, ◌++◌, Option, None, Some, IfSome, OnSome, Result, Ok, nat_lt, length, take, get_or, refl, sym, ap, subst, ◌∙◌, arith, append_assoc, append-nil, length-take-le, ne_eqb, take-take, ltb-true, ltb-false, add-zero}
+use Rattle.std.proofs.Common.{◌≡◌, ℕ, ◌+◌, ◌<◌, ◌≤◌, ◌==◌, Bool, true, false, List, [], ◌∷◌, ◌++◌, Option, None, Some, IfSome, OnSome, Result, Ok, if◌then◌else◌, nat_lt, length, take, drop, get_or, refl, sym, ap, subst, ◌∙◌, arith, append_assoc, append-nil, length-take-le, ne_eqb, take-take, ltb-true, ltb-false, add-zero}
 use Rattle.std.proofs.lemmas.List.Elements.{All-nil, All-append}
-use Rattle.std.proofs.lemmas.List.{take_more, get_or-take, get_or_default}
-use Rattle.std.specs.Io.KnownBytes.{Consumes, IsAtEnd}
+use Rattle.std.proofs.lemmas.List.{take_more, take-append-drop, take-append-le, get_or-take, get_or_default}
+use Rattle.std.specs.Io.KnownBytes.{Consumes, IsAtEnd, prepend_known}
+use Rattle.std.specs.Io.BufRead.{DropsConsumable}
 use Rattle.std.specs.Int.{from_bool}
 pub use Rattle.one_space.specs.Pieces.{NoLineFeed}
 use Rattle.one_space.specs.Pieces.{TakesPiece, end_bytes, piece_end_of}
 use Rattle.one_space.specs.declared.pieces.PieceEnd.{PieceEnd}
-use Rattle.one_space.specs.declared.pieces.PieceEnd.TheVariants.{Full}
+use Rattle.one_space.specs.declared.pieces.PieceEnd.TheVariants.{Full, LineFeed}
 
 -- nothing is taken
 pub takes_nothing : (limit : ℕ) (xs before : List ℕ) (left : Option (List ℕ)) → left ≡ Some xs → TakesPiece None limit xs left before before
@@ -152,3 +153,24 @@ full_of true a f e = cc
 full_of false true f e = cc
 full_of false false true e = refl
 full_of false false false e = cc
+
+-- The line up to the first line feed of the bytes that are read ahead, which is passed.
+pub at_hand : (no_room : Bool) (buffer : List ℕ) (inner left : Option (List ℕ)) (limit place : ℕ) → place < length buffer → ((k : ℕ) → k < place → get_or buffer k 0 ≡ 10 → ⊥) → get_or buffer place 0 ≡ 10
+    → DropsConsumable (if no_room then None else prepend_known buffer inner) left (Some (length buffer)) (place + 1)
+    → IfSome (if no_room then None else prepend_known buffer inner) (λ xs. TakesPiece (Some LineFeed) limit xs left [] (take place buffer))
+at_hand true buffer inner left limit place within before found drops = tt
+at_hand false buffer None left limit place within before found drops = tt
+at_hand false buffer (Some ys) left limit place within before found drops =
+    let front : take (place + 1) (buffer ++ ys) ≡ take place buffer ++ 10 ∷ [] =
+    take-append-le (place + 1) buffer ys (omega arith) ∙ take_more buffer place 0 within ∙ ap (λ x. take place buffer ++ x ∷ []) found in
+    record {
+      part = take place buffer;
+      rest = drop (place + 1) (buffer ++ ys);
+      kept = refl;
+      one_line = no_line_feed_before buffer place (omega arith) before;
+      taken =
+          sym (take-append-drop (place + 1) (buffer ++ ys)) ∙ ap (λ l. l ++ drop (place + 1) (buffer ++ ys)) front
+          ∙ append_assoc (take place buffer) (10 ∷ []) (drop (place + 1) (buffer ++ ys));
+      left_is = drops (omega arith);
+      ending = tt;
+    }

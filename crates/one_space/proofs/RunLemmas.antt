@@ -7,7 +7,7 @@ use Rattle.std.specs.declared.io.buffered.BufReader.{BufReader}
 use Rattle.std.proofs.KnownBytes.{Appends-nil, Appends-trans}
 use Rattle.tuple_codec.specs.Operations.{Operation}
 use Rattle.tuple_codec.specs.OperationView.{operation_of}
-use Rattle.tuple_text.specs.Lines.{IsLine}
+use Rattle.tuple_text.specs.Lines.{IsLine, IsSkipped}
 use Rattle.tuple_text.specs.declared.faults.LineFault.TheVariants.{TooLong}
 use Rattle.space.specs.Applying.{Contents, outcome, tuples_after}
 use Rattle.space.specs.Births.{SpaceState, tuples_of, state_after}
@@ -23,7 +23,6 @@ use Rattle.one_space.specs.declared.input.NextLine.{NextLine}
 use Rattle.one_space.specs.declared.session.LocalFault.{LocalFault}
 use Rattle.one_space.specs.declared.session.LocalFault.TheVariants as local
 use Rattle.tuple_codec.specs.declared.operations.Op.{Op}
-use Rattle.std.specs.declared.alloc.Global.{Global}
 use Rattle.space.proofs.Batches.{next_after}
 use Rattle.space.proofs.Keeping.{tuples_of-state_after}
 
@@ -51,7 +50,7 @@ module _ (initial : Contents) (bytes : List ℕ) (known old new : Option (List �
   failed no.NoMemory below f = cut
   failed (no.Read error) below f = cut
 
-  pub past_skipped : (left : Option (List ℕ)) → n < 2 ^ 48 → GivesLine next.Skipped along.rest left → Along initial bytes left old new (n + 1) ts pending
+  pub past_skipped : (left : Option (List ℕ)) → n < 2 ^ 48 → (l : List ℕ) × IsNextLine l along.rest left × IsSkipped l → Along initial bytes left old new (n + 1) ts pending
   past_skipped left below given = record {
     rest = given.1.rest;
     done = along.done;
@@ -118,28 +117,28 @@ pub state_after_next : (s : SpaceState) (o : Operation) → (state_after s 0 o).
 state_after_next s o = omega (arith, next_after s 0 o)
 
 -- The bytes left, after the next line was read.
-module _ (initial : Contents) (bytes : List ℕ) (known old new : Option (List ℕ)) (n : ℕ) (ts : Contents) (pending : List ℕ) (along : Along initial bytes known old new n ts pending)
-    (left : Option (List ℕ)) (result : Result NextLine NoLine) (read : IfSome known (λ xs. MatchResult result (λ x. GivesLine x xs left) (λ why. Fails why xs))) where
+module _ {A : Type 0} (initial : Contents) (bytes : List ℕ) (known old new : Option (List ℕ)) (n : ℕ) (ts : Contents) (pending : List ℕ) (along : Along initial bytes known old new n ts pending)
+    (left : Option (List ℕ)) (result : Result (NextLine A) NoLine) (read : IfSome known (λ xs. MatchResult result (λ x. GivesLine x xs left) (λ why. Fails why xs))) where
   told : MatchResult result (λ x. GivesLine x along.rest left) (λ why. Fails why along.rest)
   told = known_of (λ xs. MatchResult result (λ x. GivesLine x xs left) (λ why. Fails why xs)) initial bytes known old new n ts pending along read
 
-  gives : (field x : NextLine) → result ≡ Ok field → field ≡ x → GivesLine x along.rest left
+  gives : (field x : NextLine A) → result ≡ Ok field → field ≡ x → GivesLine x along.rest left
   gives field x e f =
       subst (λ y. GivesLine y along.rest left) f (subst (λ r. MatchResult r (λ y. GivesLine y along.rest left) (λ why. Fails why along.rest)) e told)
 
   fails : (why : NoLine) → result ≡ Err why → Fails why along.rest
   fails why e = subst (λ r. MatchResult r (λ y. GivesLine y along.rest left) (λ why. Fails why along.rest)) e told
 
-  pub ends : (field : NextLine) → result ≡ Ok field → field ≡ next.End → AddsResults initial bytes complete old new pending
+  pub ends : (field : NextLine A) → result ≡ Ok field → field ≡ next.End → AddsResults initial bytes complete old new pending
   ends field e f = at_last initial bytes known old new n ts pending along (gives field next.End e f)
 
-  pub skips_on : (field : NextLine) → n < 2 ^ 48 → result ≡ Ok field → field ≡ next.Skipped → Along initial bytes left old new (n + 1) ts pending
+  pub skips_on : (field : NextLine A) → n < 2 ^ 48 → result ≡ Ok field → field ≡ next.Skipped → Along initial bytes left old new (n + 1) ts pending
   skips_on field below e f = past_skipped initial bytes known old new n ts pending along left below (gives field next.Skipped e f)
 
   pub fails_so : (why : NoLine) → n < 2 ^ 48 → result ≡ Err why → StopsBy (fault_at n why) initial bytes old new pending
   fails_so why below e = failed initial bytes known old new n ts pending along why below (fails why e)
 
-  pub runs_on : (field : NextLine) (op : Op Global) (after before : SpaceState) (more_pending : List ℕ) → n < 2 ^ 48
+  pub runs_on : (field : NextLine A) (op : Op A) (after before : SpaceState) (more_pending : List ℕ) → n < 2 ^ 48
       → result ≡ Ok field → field ≡ next.Operation op → ts ≡ tuples_of before
       → after ≡ state_after before 0 (operation_of op)
       → more_pending ≡ pending ++ result_line (outcome ts 0 (operation_of op))

@@ -47,7 +47,7 @@ module _ (most : ℕ) (xs : List (Op Global)) (op : Op Global) (all : List Opera
 
 -- The bytes left, after the next line was read.
 module _ (most : ℕ) (bytes : List ℕ) (known : Option (List ℕ)) (n : ℕ) (old : Vec (Op Global) Global) (before : KeptSoFar most bytes known n old)
-    (left : Option (List ℕ)) (result : Result NextLine NoLine)
+    (left : Option (List ℕ)) (result : Result (NextLine Global) NoLine)
     (read : IfSome known (λ xs. MatchResult result (λ x. GivesLine x xs left) (λ why. Fails why xs))) where
   so_far : ReadSoFar bytes known n before.all
   so_far = before.so_far
@@ -55,7 +55,7 @@ module _ (most : ℕ) (bytes : List ℕ) (known : Option (List ℕ)) (n : ℕ) (
   told : MatchResult result (λ x. GivesLine x so_far.rest left) (λ why. Fails why so_far.rest)
   told = subst (λ o. IfSome o (λ xs. MatchResult result (λ x. GivesLine x xs left) (λ why. Fails why xs))) so_far.known_is read
 
-  gives : (field x : NextLine) → result ≡ Ok field → field ≡ x → GivesLine x so_far.rest left
+  gives : (field x : NextLine Global) → result ≡ Ok field → field ≡ x → GivesLine x so_far.rest left
   gives field x e f =
       subst (λ y. GivesLine y so_far.rest left) f (subst (λ r. MatchResult r (λ y. GivesLine y so_far.rest left) (λ why. Fails why so_far.rest)) e told)
 
@@ -65,7 +65,7 @@ module _ (most : ℕ) (bytes : List ℕ) (known : Option (List ℕ)) (n : ℕ) (
   ends_so : (ending : Ending) → Says n (lines so_far.rest) [] ending → Says 1 (lines bytes) before.all ending
   ends_so ending r = subst (λ os. Says 1 (lines bytes) os ending) (append-nil before.all) (so_far.leads [] ending r)
 
-  pub ends : (new : Vec (Op Global) Global) (field : NextLine) → result ≡ Ok field → field ≡ next.End → new ≡ old → AreFirst most bytes new
+  pub ends : (new : Vec (Op Global) Global) (field : NextLine Global) → result ≡ Ok field → field ≡ next.End → new ≡ old → AreFirst most bytes new
   ends new field e f same =
       rw same (record {
         all = before.all;
@@ -73,7 +73,7 @@ module _ (most : ℕ) (bytes : List ℕ) (known : Option (List ℕ)) (n : ℕ) (
         first = before.first;
       })
 
-  pub skips_on : (new : Vec (Op Global) Global) (field : NextLine) → n < 2 ^ 48 → result ≡ Ok field → field ≡ next.Skipped → new ≡ old
+  pub skips_on : (new : Vec (Op Global) Global) (field : NextLine Global) → n < 2 ^ 48 → result ≡ Ok field → field ≡ next.Skipped → new ≡ old
       → KeptSoFar most bytes left (n + 1) new
   skips_on new field below e f same =
       let given = gives field next.Skipped e f in
@@ -87,7 +87,7 @@ module _ (most : ℕ) (bytes : List ℕ) (known : Option (List ℕ)) (n : ℕ) (
         first = before.first;
       })
 
-  pub calls_on : (new : Vec (Op Global) Global) (field : NextLine) (op : Op Global) → n < 2 ^ 48 → result ≡ Ok field → field ≡ next.Operation op
+  pub calls_on : (new : Vec (Op Global) Global) (field : NextLine Global) (op : Op Global) → n < 2 ^ 48 → result ≡ Ok field → field ≡ next.Operation op
       → KeepsFirst most old op new
       → KeptSoFar most bytes left (n + 1) new
   calls_on new field op below e f keeps =

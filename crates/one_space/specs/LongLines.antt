@@ -7,18 +7,18 @@ use Rattle.one_space.specs.declared.input.NextLine.{NextLine}
 use Rattle.one_space.specs.declared.input.NoLine.{NoLine}
 
 -- The line that begins with this piece is read on, if the bytes left are known.
-abbrev pub ReadsOn : Result NextLine NoLine → List ℕ → Option (List ℕ) → Option (List ℕ) → Type 0
+abbrev pub ReadsOn : {A : Type 0} → Result (NextLine A) NoLine → List ℕ → Option (List ℕ) → Option (List ℕ) → Type 0
 ReadsOn result piece known left = IfSome known (λ ys. NoLineFeed piece → ReadsLine result (piece ++ ys) left)
 
 -- The same, after more blanks than a line may have.
-abbrev pub ReadsBlanks : Result NextLine NoLine → List ℕ → Option (List ℕ) → Option (List ℕ) → Type 0
+abbrev pub ReadsBlanks : {A : Type 0} → Result (NextLine A) NoLine → List ℕ → Option (List ℕ) → Option (List ℕ) → Type 0
 ReadsBlanks result piece known left =
     IfSome known (λ ys.
     (blanks : List ℕ) → AreBlanks blanks → 65537 ≤ length blanks → NoLineFeed piece
     → ReadsLine result (blanks ++ (piece ++ ys)) left)
 
 -- A whole line is judged: l after more blanks than a line may have.
-abbrev pub JudgesBlanks : Result NextLine NoLine → List ℕ → Type 0
+abbrev pub JudgesBlanks : {A : Type 0} → Result (NextLine A) NoLine → List ℕ → Type 0
 JudgesBlanks result l =
     (blanks : List ℕ) → AreBlanks blanks → 65537 ≤ length blanks → Judges result (blanks ++ l)
 

@@ -25,7 +25,7 @@ pub record BeginsWith (P : List ℕ → Type 0) (xs : List ℕ) : Type 0 where
   pub split : lines xs ≡ first ∷ others
   pub holds : P first
 
-abbrev pub GivesLine : NextLine → List ℕ → Option (List ℕ) → Type 0
+abbrev pub GivesLine : {A : Type 0} → NextLine A → List ℕ → Option (List ℕ) → Type 0
 GivesLine next.End xs left = lines xs ≡ []
 GivesLine next.Skipped xs left = (l : List ℕ) × IsNextLine l xs left × IsSkipped l
 GivesLine (next.Operation op) xs left = (l : List ℕ) × IsNextLine l xs left × IsLine (operation_of op) l
@@ -36,11 +36,11 @@ Fails no.NoMemory xs = Unit {0}
 Fails (no.Read error) xs = Unit {0}
 
 -- The first line of the bytes xs is read, or the fault says why not.
-abbrev pub ReadsLine : Result NextLine NoLine → List ℕ → Option (List ℕ) → Type 0
+abbrev pub ReadsLine : {A : Type 0} → Result (NextLine A) NoLine → List ℕ → Option (List ℕ) → Type 0
 ReadsLine result xs left = MatchResult result (λ next. GivesLine next xs left) (λ no. Fails no xs)
 
 -- the same of the bytes that are left, if they are known
-abbrev pub ReadsNext : Result NextLine NoLine → Option (List ℕ) → Option (List ℕ) → Type 0
+abbrev pub ReadsNext : {A : Type 0} → Result (NextLine A) NoLine → Option (List ℕ) → Option (List ℕ) → Type 0
 ReadsNext result known left = IfSome known (λ xs. ReadsLine result xs left)
 
 -- whether the bytes xs have a line
@@ -52,7 +52,7 @@ no_line_of read.NoMemory = no.NoMemory
 no_line_of (read.Read error) = no.Read error
 
 -- the judgement of one line
-abbrev pub IsJudged : NextLine → List ℕ → Type 0
+abbrev pub IsJudged : {A : Type 0} → NextLine A → List ℕ → Type 0
 IsJudged next.End l = ⊥
 IsJudged next.Skipped l = IsSkipped l
 IsJudged (next.Operation op) l = IsLine (operation_of op) l
@@ -62,5 +62,5 @@ IsRefused (no.Refused fault) l = (fault ≢ NoMemory) × Refuses fault l
 IsRefused no.NoMemory l = Unit {0}
 IsRefused (no.Read error) l = ⊥
 
-abbrev pub Judges : Result NextLine NoLine → List ℕ → Type 0
+abbrev pub Judges : {A : Type 0} → Result (NextLine A) NoLine → List ℕ → Type 0
 Judges result l = MatchResult result (λ next. IsJudged next l) (λ no. IsRefused no l)

@@ -1,13 +1,17 @@
 //! Lines of a script, read with memory for one line.
 
-ghost use Rattle.std.specs.Prelude.{◌≡◌, ◌<◌, ◌≤◌, IfOk, IfSome, vec_len};
+ghost use Rattle.std.specs.Prelude.{◌≡◌, ◌<◌, ◌≤◌, Some, IfOk, IfSome, vec_len};
+ghost use Rattle.std.specs.Io.Buffered.{reader_buffer, reader_remaining};
+ghost use Rattle.memchr.specs.Find.{IsFirstByte, is_byte};
 ghost use Rattle.tuple_text.specs.declared.faults.LineFault.TheVariants.{BadByte};
 ghost use Rattle.one_space.specs.NextLines.{ReadsNext, TellsLine, Judges};
 ghost use Rattle.one_space.specs.LongLines.{ReadsOn, ReadsBlanks, JudgesBlanks, DropsBlanks};
 
-use crate::pieces::{PieceEnd, ReadFault, drop_return, is_blank, keep_last, read_piece};
-use std::alloc::Global;
-use std::io::{self, BufRead, ErrorKind};
+use crate::pieces::{
+    PieceEnd, ReadFault, drop_return, is_blank, keep_last, read_piece, without_return,
+};
+use std::alloc::Allocator;
+use std::io::{self, BufRead, BufReader, ErrorKind, Read};
 use tuple_codec::Op;
 use tuple_text::{LineFault, MAX_LINE, read_line};
 
@@ -19,11 +23,11 @@ const PIECE: usize = MAX_LINE + 2;
 
 /// The next line.
 #[derive(Drop)]
-pub enum NextLine {
+pub enum NextLine<A: Allocator> {
     /// There is no further line.
     End,
     Skipped,
-    Operation(Op<Global>),
+    Operation(Op<A>),
 }
 
 /// Why no line was read.
@@ -47,12 +51,27 @@ impl From<ReadFault> for NoLine {
     }
 }
 
+/// Reads the line whose line feed is at this place of the bytes at hand, and judges it where it lies.
+pub fn line_at_hand<A: Allocator + Copy, R: Read>(
+    alloc: A,
+    reader: &mut BufReader<R>,
+    place: usize,
+) -> Result<NextLine<A>, NoLine>
+    requires { IsFirstByte (is_byte 10) (reader_buffer reader.old) (Some place) }
+    ensures { ReadsNext result (reader_remaining R.remaining reader.old) (reader_remaining R.remaining reader.new) }
+{
+    let (line, _) = reader.buffer().split_at(place);
+    let next = judge(alloc, without_return(line));
+    reader.consume(place + 1);
+    next
+}
+
 /// Reads a line with its end, and judges it. A line of more than 65,536 bytes is read in parts, one at a time.
-pub fn next_line<B: BufRead>(
-    alloc: Global,
+pub fn next_line<A: Allocator + Copy, B: BufRead>(
+    alloc: A,
     reader: &mut B,
     line: &mut Vec<u8>,
-) -> Result<NextLine, NoLine>
+) -> Result<NextLine<A>, NoLine>
     ensures { ReadsNext result (B.remaining reader.old) (B.remaining reader.new) }
 {
     line.clear();
@@ -83,7 +102,7 @@ pub fn has_line<B: BufRead>(reader: &mut B, line: &mut Vec<u8>) -> Result<bool, 
     }
 }
 
-fn judge(alloc: Global, line: &[u8]) -> Result<NextLine, NoLine>
+fn judge<A: Allocator + Copy>(alloc: A, line: &[u8]) -> Result<NextLine<A>, NoLine>
     ensures { Judges result line.now }
 {
     match read_line(alloc, line) {
@@ -95,11 +114,11 @@ fn judge(alloc: Global, line: &[u8]) -> Result<NextLine, NoLine>
 }
 
 // The line is too long, unless it is skipped: its first bytes decide, if they aren't all blanks.
-fn long_line<B: BufRead>(
-    alloc: Global,
+fn long_line<A: Allocator + Copy, B: BufRead>(
+    alloc: A,
     reader: &mut B,
     line: &mut Vec<u8>,
-) -> Result<NextLine, NoLine>
+) -> Result<NextLine<A>, NoLine>
     requires { 65538 ≤ vec_len line.old }
     ensures { ReadsOn result line.old.items (B.remaining reader.old) (B.remaining reader.new) }
 {
@@ -120,7 +139,10 @@ fn long_line<B: BufRead>(
 }
 
 // The rest of a line that begins with more blanks than a line may have: it is skipped if no other byte follows.
-fn blanks_line<B: BufRead>(reader: &mut B, line: &mut Vec<u8>) -> Result<NextLine, NoLine>
+fn blanks_line<A: Allocator, B: BufRead>(
+    reader: &mut B,
+    line: &mut Vec<u8>,
+) -> Result<NextLine<A>, NoLine>
     requires { 0 < vec_len line.old }
     ensures { ReadsBlanks result line.old.items (B.remaining reader.old) (B.remaining reader.new) }
 {
@@ -141,7 +163,7 @@ fn blanks_line<B: BufRead>(reader: &mut B, line: &mut Vec<u8>) -> Result<NextLin
     Err(NoLine::Read(io::Error::from(ErrorKind::Interrupted)))
 }
 
-fn blanks_end(line: &[u8]) -> Result<NextLine, NoLine>
+fn blanks_end<A: Allocator>(line: &[u8]) -> Result<NextLine<A>, NoLine>
     ensures { JudgesBlanks result line.now }
 {
     if is_blank(line) {

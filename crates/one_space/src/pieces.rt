@@ -111,6 +111,16 @@ pub fn is_blank(bytes: &[u8]) -> bool
     bytes.iter().all(|byte| *byte == b' ')
 }
 
+/// The line without a carriage return at its end.
+pub fn without_return(line: &[u8]) -> &[u8]
+    ensures { result.now ≡ strip_carriage_return line.now }
+{
+    match line {
+        [front @ .., b'\r'] => front,
+        _ => line,
+    }
+}
+
 /// Drops a carriage return at the end.
 pub fn drop_return(line: &mut Vec<u8>)
     ensures { line.new.items ≡ strip_carriage_return line.old.items }

@@ -2,17 +2,20 @@
 
 ghost use Rattle.std.specs.Prelude.{◌≡◌, ◌^◌, ◌<◌, ◌≤◌, ◌+◌, ◌*◌, ℕ, List, [], Option, OnOk, OnErr, IfErr};
 ghost use Rattle.std.specs.Io.Buffered.{reader_buffer, reader_remaining};
+ghost use Rattle.memchr.specs.Find.{IsFirstByte, is_byte};
 ghost use Rattle.tuple_codec.specs.OperationView.{operation_of};
 ghost use Rattle.space.specs.Applying.{nothing_in};
 ghost use Rattle.space.specs.Births.{Follows, TuplesFollow, empty_in, tuples_of};
 ghost use Rattle.one_space.specs.Endings.{EndsKnown, HeldForLine, IsWriteFault, fault_at, read_fault_of};
+ghost use Rattle.one_space.specs.NextLines.{ReadsNext};
 ghost use Rattle.one_space.specs.Moments.{moment_of, RunsLine, EndsLines, AddsResult, WritesDue, WritesAll};
 
-use crate::input::{NextLine, NoLine, has_line, next_line};
+use crate::input::{NextLine, NoLine, has_line, line_at_hand, next_line};
 use crate::pieces::ReadFault;
+use bumpalo::Bump;
 use memchr::memchr;
 use space::{Space, Version};
-use std::alloc::Global;
+use std::alloc::{Allocator, Global};
 use std::io::{self, BufReader, Read, Write};
 use terms::NoMemory;
 use thiserror::Error;
@@ -71,7 +74,8 @@ pub fn local<R: Read + Drop, W: Write>(
         line: Vec::new(alloc),
         results: Vec::new(alloc),
     };
-    match session.run_lines(alloc, &mut input, writer) {
+    let mut arena = Bump::new(alloc);
+    match session.run_lines(alloc, &mut input, writer, &mut arena) {
         Ok(()) => write_out(&mut session.results, writer),
         Err(LocalFault::Write(error)) => Err(LocalFault::Write(error)),
         Err(fault) => match write_out(&mut session.results, writer) {
@@ -105,6 +109,7 @@ impl Session {
         alloc: Global,
         reader: &mut BufReader<R>,
         writer: &mut W,
+        arena: &mut Bump,
     ) -> Result<(), LocalFault>
         requires no_births { self.old.space.next ≡ 0 }
         requires no_results { self.old.results.items ≡ [] }
@@ -112,7 +117,7 @@ impl Session {
             (reader_remaining R.remaining reader.old) writer.old writer.new self.new.results.items }
     {
         for number in 1..LINES_END {
-            match self.run_line(alloc, number, reader, writer) {
+            match self.run_line(alloc, number, reader, writer, arena) {
                 Ok(true) => {}
                 Ok(false) => return Ok(()),
                 Err(fault) => return Err(fault),
@@ -128,6 +133,7 @@ impl Session {
         number: u64,
         reader: &mut BufReader<R>,
         writer: &mut W,
+        arena: &mut Bump,
     ) -> Result<bool, LocalFault>
         requires early { number < 2 ^ 48 }
         requires births { self.old.space.next < 2 ^ 62 }
@@ -136,19 +142,25 @@ impl Session {
             (moment_of (reader_remaining R.remaining reader.old) (W.contents writer.old) self.old)
             (moment_of (reader_remaining R.remaining reader.new) (W.contents writer.new) self.new) }
     {
-        match write_due(&mut self.results, reader.buffer(), writer) {
-            Ok(()) => self.answer_line(alloc, number, reader),
-            Err(fault) => Err(fault),
+        let place = memchr(b'\n', reader.buffer());
+        if let Err(fault) = write_due(&mut self.results, reader.buffer(), place, writer) {
+            return Err(fault);
         }
+        let answered = self.answer_line(number, reader, place, arena);
+        free(alloc, arena);
+        answered
     }
 
-    // Reads the next line and adds its result, and gives whether there was one.
+    // Reads the next line into the arena and adds its result, and gives whether there was one. `place` is the line
+    // feed's, if the line is whole at hand.
     fn answer_line<R: Read>(
         &mut self,
-        alloc: Global,
         number: u64,
         reader: &mut BufReader<R>,
+        place: Option<usize>,
+        arena: &Bump,
     ) -> Result<bool, LocalFault>
+        requires place { IsFirstByte (is_byte 10) (reader_buffer reader.old) place }
         requires early { number < 2 ^ 48 }
         requires births { self.old.space.next < 2 ^ 62 }
         requires none_waits { HeldForLine (reader_buffer reader.old) self.old.results.items }
@@ -157,7 +169,7 @@ impl Session {
             (moment_of (reader_remaining R.remaining reader.old) written self.old)
             (moment_of (reader_remaining R.remaining reader.new) written self.new) }
     {
-        match next_line(alloc, reader, &mut self.line) {
+        match next(arena, reader, place, &mut self.line) {
             Ok(NextLine::End) => Ok(false),
             Ok(NextLine::Skipped) => Ok(true),
             Ok(NextLine::Operation(op)) => match answer(&mut self.space, &op, &mut self.results) {
@@ -178,7 +190,8 @@ impl Session {
             (moment_of (reader_remaining R.remaining reader.old) (W.contents writer.old) self.old)
             (moment_of (reader_remaining R.remaining reader.new) (W.contents writer.new) self.new) }
     {
-        if let Err(fault) = write_due(&mut self.results, reader.buffer(), writer) {
+        let place = memchr(b'\n', reader.buffer());
+        if let Err(fault) = write_due(&mut self.results, reader.buffer(), place, writer) {
             return Err(fault);
         }
         match has_line(reader, &mut self.line) {
@@ -213,8 +226,35 @@ pub fn read_fault(fault: ReadFault) -> LocalFault
     }
 }
 
+// Frees the memory of a line's operation, which is gone. If something is left in the arena, a new one replaces it.
+fn free(alloc: Global, arena: &mut Bump) {
+    if arena.reset().is_err() {
+        *arena = Bump::new(alloc);
+    }
+}
+
+// Reads the next line, where it lies if it is whole at hand.
+fn next<A: Allocator + Copy, R: Read>(
+    alloc: A,
+    reader: &mut BufReader<R>,
+    place: Option<usize>,
+    line: &mut Vec<u8>,
+) -> Result<NextLine<A>, NoLine>
+    requires { IsFirstByte (is_byte 10) (reader_buffer reader.old) place }
+    ensures { ReadsNext result (reader_remaining R.remaining reader.old) (reader_remaining R.remaining reader.new) }
+{
+    match place {
+        Some(place) => line_at_hand(alloc, reader, place),
+        None => next_line(alloc, reader, line),
+    }
+}
+
 // Applies the operation as client 0's and adds the result line. An error leaves the results as they were.
-fn answer(space: &mut Space, op: &Op<Global>, results: &mut Vec<u8>) -> Result<(), NoMemory>
+fn answer<A: Allocator>(
+    space: &mut Space,
+    op: &Op<A>,
+    results: &mut Vec<u8>,
+) -> Result<(), NoMemory>
     requires { space.old.next < 2 ^ 62 }
     ensures state { OnOk result (Follows space.old space.new 0 (operation_of op.now)) }
     ensures tuples { OnOk result (TuplesFollow space.old space.new 0 (operation_of op.now)) }
@@ -236,8 +276,10 @@ fn answer(space: &mut Space, op: &Op<Global>, results: &mut Vec<u8>) -> Result<(
 fn write_due<W: Write>(
     results: &mut Vec<u8>,
     at_hand: &[u8],
+    place: Option<usize>,
     writer: &mut W,
 ) -> Result<(), LocalFault>
+    requires { IsFirstByte (is_byte 10) at_hand.now place }
     ensures held { OnOk result (HeldForLine at_hand.now results.new.items) }
     ensures results { WritesDue W.contents result writer.old writer.new results.old results.new }
     ensures err { IfErr result IsWriteFault }
@@ -245,7 +287,7 @@ fn write_due<W: Write>(
     if results.is_empty() {
         return Ok(());
     }
-    if results.len() < HELD && memchr(b'\n', at_hand).is_some() {
+    if results.len() < HELD && place.is_some() {
         return Ok(());
     }
     write_out(results, writer)
