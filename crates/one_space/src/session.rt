@@ -1,12 +1,15 @@
 //! A script on a space of its own.
 
-ghost use Rattle.std.specs.Prelude.{◌≡◌, ◌^◌, ◌<◌, ◌≤◌, ◌+◌, ◌*◌, ℕ, List, [], Option, OnOk, OnErr, IfErr};
+ghost use Rattle.std.specs.Prelude.{◌≡◌, ◌++◌, ◌^◌, ◌<◌, ◌≤◌, ◌+◌, ◌*◌, ℕ, List, [], Option, OnOk, OnErr, IfErr};
 ghost use Rattle.std.specs.Io.Buffered.{reader_buffer, reader_remaining};
 ghost use Rattle.memchr.specs.Find.{IsFirstByte, is_byte};
 ghost use Rattle.tuple_codec.specs.OperationView.{operation_of};
 ghost use Rattle.space.specs.Applying.{nothing_in};
 ghost use Rattle.space.specs.Births.{Follows, TuplesFollow, empty_in, tuples_of};
 ghost use Rattle.one_space.specs.Endings.{EndsKnown, HeldForLine, IsWriteFault, fault_at, read_fault_of};
+ghost use Rattle.tuple_codec.specs.Operations.{found, absent};
+ghost use Rattle.tuple_text.specs.Written.{Appends};
+ghost use Rattle.one_space.specs.Run.{result_line};
 ghost use Rattle.one_space.specs.NextLines.{ReadsNext};
 ghost use Rattle.one_space.specs.Moments.{moment_of, RunsLine, EndsLines, AddsResult, WritesDue, WritesAll};
 
@@ -14,13 +17,14 @@ use crate::input::{NextLine, NoLine, has_line, line_at_hand, next_line};
 use crate::pieces::ReadFault;
 use bumpalo::Bump;
 use memchr::memchr;
-use space::{Space, Version};
+use space::{Seen, Space, Version};
 use std::alloc::{Allocator, Global};
 use std::io::{self, BufReader, Read, Write};
 use terms::NoMemory;
 use thiserror::Error;
 use tuple_codec::Op;
-use tuple_text::{LineFault, write_answer};
+use tuple_text::{LineFault, write_answer, write_tuple};
+use tuple_tree::Tuple;
 
 /// The number of the first line that is one too many.
 pub const LINES_END: u64 = 1 << 48;
@@ -261,6 +265,14 @@ fn answer<A: Allocator>(
     ensures ok { OnOk result (AddsResult op.now space.old results.old results.new) }
     ensures err { OnErr result (results.new.items ≡ results.old.items) }
 {
+    // What a read of one tuple finds is written where it lies, without a copy.
+    if let Op::Rdp(_) = op {
+        match space.look(op) {
+            Ok(Seen::Found(tuple)) => return add_found(tuple, results),
+            Ok(Seen::Absent) => return add_absent(results),
+            _ => {}
+        }
+    }
     let old_len = results.len();
     let given = space.apply(0, op)?;
     write_answer(&given, results)?;
@@ -269,6 +281,37 @@ fn answer<A: Allocator>(
         return Err(NoMemory);
     }
     Ok(())
+}
+
+// Adds the result line of a tuple that was found. An error leaves the results as they were.
+fn add_found(tuple: &Tuple<Global>, results: &mut Vec<u8>) -> Result<(), NoMemory>
+    ensures ok { OnOk result (results.new.items
+        ≡ results.old.items ++ result_line (found tuple.now)) }
+    ensures err { OnErr result (results.new.items ≡ results.old.items) }
+{
+    let old_len = results.len();
+    match put_found(tuple, results) {
+        Ok(()) => Ok(()),
+        Err(error) => {
+            results.truncate(old_len);
+            Err(error)
+        }
+    }
+}
+
+fn add_absent(results: &mut Vec<u8>) -> Result<(), NoMemory>
+    ensures ok { OnOk result (results.new.items ≡ results.old.items ++ result_line absent) }
+    ensures err { OnErr result (results.new.items ≡ results.old.items) }
+{
+    Ok(results.extend_from_slice(b"absent\n")?)
+}
+
+fn put_found(tuple: &Tuple<Global>, results: &mut Vec<u8>) -> Result<(), NoMemory>
+    ensures { Appends result results.old.items (result_line (found tuple.now)) results.new.items }
+{
+    results.extend_from_slice(b"found ")?;
+    write_tuple(tuple, results)?;
+    Ok(results.extend_from_slice(b"\n")?)
 }
 
 // Writes the held results if there are many, or if the next line isn't whole at hand. The reader may then wait for
