@@ -94,9 +94,9 @@ module _ (clients : ℕ) (frame : List ℕ) (it : RequestBytes) (holds : HoldsRe
     holds_call few ordered = record {
       op = holds.op;
       call = in_request (Some (record { client = client.number; timestamp = it.timestamp.0; op = holds.op })) (λ c k.
-        ap (λ (m : Mode). call_in c (record { sender = party_number it.sender; message = request it.timestamp.0 m holds.op })) ordered
-        ∙ ap (λ (s : ℕ). call_in c (record { sender = s; message = request it.timestamp.0 modes.Ordered holds.op })) from
-        ∙ found c k few);
+          ap (λ (m : Mode). call_in c (record { sender = party_number it.sender; message = request it.timestamp.0 m holds.op })) ordered
+          ∙ ap (λ (s : ℕ). call_in c (record { sender = s; message = request it.timestamp.0 modes.Ordered holds.op })) from
+          ∙ found c k few);
       spelled = holds.spelled;
       known = few;
     }

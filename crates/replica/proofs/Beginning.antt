@@ -24,9 +24,7 @@ use Rattle.wire.specs.declared.messages.Message.TheVariants as messages
 use Rattle.wire.specs.Marks.{has_type_of_requests}
 use Rattle.wire.specs.Spelling.{message_type}
 use Rattle.wire.specs.Views.{message_data}
-use Rattle.terms.specs.declared.order.Mode.{Mode}
-use Rattle.tuple_codec.specs.OperationView.{operation_of}
-use Rattle.wire.specs.Messages.{BodyData as Body, NewViewData, request as Request, pre_prepare as PrePrepare, prepare as Prepare, commit as Commit}
+use Rattle.wire.specs.Messages.{BodyData as Body, NewViewData, pre_prepare as PrePrepare, prepare as Prepare, commit as Commit}
 use Rattle.signing.specs.Heard.{heard}
 use Rattle.signing.proofs.Heard.{heard_was_opened}
 use Rattle.signing.proofs.Requests.{heard_is_marked}

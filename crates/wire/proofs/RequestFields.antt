@@ -84,9 +84,10 @@ module _ (bytes text : List ℕ) (frame : IsFrame bytes) (front : IsFrontPiece b
     holds_request = record {
       op = is.2;
       body = (
-        frame.0, frame.1,
+        frame.0,
+        frame.1,
         body_is frame.0.body (party_number it.sender) (request it.timestamp.0 it.mode is.2) sender_is
-        (is.3 ∙ ap (λ t. request t is.1 is.2) timestamp_is ∙ ap (λ m. request it.timestamp.0 m is.2) mode_is),
+            (is.3 ∙ ap (λ t. request t is.1 is.2) timestamp_is ∙ ap (λ m. request it.timestamp.0 m is.2) mode_is),
       );
       spelled = record { valid = valid.1; spelled = op ∙ ap (drop 12) text_is };
     }

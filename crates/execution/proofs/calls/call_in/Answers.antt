@@ -1,4 +1,4 @@
-use Rattle.std.proofs.Common.{◌≡◌, ◌-◌, ◌<◌, ◌≤◌, ◌∙◌, arith, sym}
+use Rattle.std.proofs.Common.{◌-◌, ◌∙◌, arith, sym}
 use Rattle.execution.proofs.Calling.{holds_call, no_call_of_others, no_call_of_reads, no_call_of_replicas, no_call_of_strangers}
 use Rattle.execution.proofs.calls.call_in.Goals as goal
 

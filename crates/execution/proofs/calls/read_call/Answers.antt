@@ -1,4 +1,4 @@
-use Rattle.std.proofs.Common.{◌≡◌, [], Some, ap, refl, ◌∙◌}
+use Rattle.std.proofs.Common.{[], Some, ap, refl, ◌∙◌}
 use Rattle.tuple_codec.specs.Operations.{Operation, IsOperation}
 use Rattle.tuple_codec.specs.OperationView.{operation_of}
 use Rattle.tuple_codec.specs.Reading.{operation_at}

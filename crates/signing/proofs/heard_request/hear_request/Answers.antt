@@ -24,7 +24,7 @@ returns-clause-some c =
     record {
       op = request.ensures.op;
       hears = hears c.args.ring.now c.args.me.0 c.args.bytes.now (header_data c.in-Ok.header) c.in-Ok.ensures.found
-      c.refusal.result c.refusal.ensures.value (sym c.is_some.ensures ∙ c.if-is_some.false) request.result request.ensures
-      (λ e. c.if-number.false (c.number.ensures ∙ e ∙ sym c.number-2.ensures)) c.in-Client.client.number (ap party_number c.in-Client.is);
+          c.refusal.result c.refusal.ensures.value (sym c.is_some.ensures ∙ c.if-is_some.false) request.result request.ensures
+          (λ e. c.if-number.false (c.number.ensures ∙ e ∙ sym c.number-2.ensures)) c.in-Client.client.number (ap party_number c.in-Client.is);
       spelled = request.ensures.spelled;
     }

@@ -1,7 +1,6 @@
-use Rattle.std.proofs.Common.{◌≡◌, List, [], Some, None, arith, subst, sym, ◌∙◌}
+use Rattle.std.proofs.Common.{◌≡◌, [], Some, None, subst, sym, ◌∙◌}
 use Rattle.tuple_codec.specs.Gives.{Fails}
 use Rattle.tuple_codec.specs.Operations.{IsOperation}
-use Rattle.tuple_codec.specs.OperationView.{operation_of}
 use Rattle.tuple_codec.specs.Reading.{operation_at}
 use Rattle.tuple_codec.specs.Spelling.{SpellsOperation, operation_spelling}
 use Rattle.tuple_codec.proofs.Grammar.{all_read}

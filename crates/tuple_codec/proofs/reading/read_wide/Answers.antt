@@ -1,4 +1,4 @@
-use Rattle.std.proofs.Common.{◌≡◌, Some, ap, arith}
+use Rattle.std.proofs.Common.{Some, ap, arith}
 use Rattle.std.specs.Int.{w128, cast_signed}
 use Rattle.tuple_tree.specs.Values.{wide}
 use Rattle.tuple_codec.specs.Reading.{◌>>=◌}

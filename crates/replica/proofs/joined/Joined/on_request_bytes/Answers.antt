@@ -1,6 +1,5 @@
-use Rattle.std.proofs.Common.{◌≡◌, ◌+◌, ℕ, None, Some, ap, refl, ◌∙◌}
+use Rattle.std.proofs.Common.{◌+◌, ℕ, Some, ap, refl, ◌∙◌}
 use Rattle.terms.specs.declared.order.Mode.{Mode}
-use Rattle.terms.specs.declared.order.Mode.TheVariants as modes
 use Rattle.wire.specs.Messages.{request}
 use Rattle.signing.specs.Heard.{heard}
 use Rattle.replica.specs.JoinedView.{joined_data}
