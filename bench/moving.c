@@ -4,6 +4,8 @@
 #include <stdio.h>
 #include <stdlib.h>
 #include <sys/auxv.h>
+#include <sys/syscall.h>
+#include <unistd.h>
 
 #define ROWS 65536
 
@@ -52,7 +54,7 @@ void *memset(void *to, int byte, size_t length) {
     return __memset_chk(to, byte, length, -1);
 }
 
-__attribute__((destructor)) static void tell(void) {
+static void tell(void) {
     const char *name = getenv("MOVES");
     least = -1;
     FILE *file = name ? fopen(name, "w") : NULL;
@@ -63,4 +65,11 @@ __attribute__((destructor)) static void tell(void) {
         if (rows[at].place)
             fprintf(file, "%zu %zu %zu\n", rows[at].place, rows[at].times, rows[at].bytes);
     fclose(file);
+}
+
+/* The toolchain's programs end by this call, after which no destructor runs. */
+void _exit(int status) {
+    tell();
+    for (;;)
+        syscall(SYS_exit_group, status);
 }
