@@ -16,6 +16,7 @@
 //! pages whatever is set later, and gives a tree again.
 #![tactic(auto)]
 
+mod children;
 mod digests;
 mod page;
 mod part;

@@ -4,7 +4,8 @@ ghost use Rattle.std.specs.Prelude.{◌≡◌, ◌<◌, [], IfOk, OnOk, OnErr, m
 ghost use Rattle.sha2.specs.Sha256.{sha256};
 ghost use Rattle.partition_tree.specs.Parts.{part_digest};
 
-use crate::digests::{CHILDREN, digest, digest_of_children};
+use crate::children::Children;
+use crate::digests::{CHILDREN, digest};
 use crate::text::Text;
 use std::alloc::{AllocError, Global};
 use std::marker::Model;
@@ -15,7 +16,7 @@ use terms::{Digest, NoMemory};
 #[derive(Drop)]
 pub struct Part {
     texts: Vec<Arc<Text>>,
-    digests: [Digest; CHILDREN],
+    digests: Children,
 }
 
 impl Model for Part {
@@ -39,7 +40,7 @@ impl Part {
         for _page in 0..CHILDREN {
             texts.push(text.clone()?)?;
         }
-        let digests = [digest(&[]); CHILDREN];
+        let digests = Children::alike(alloc, digest(&[]))?;
         Ok(Part { texts, digests })
     }
 
@@ -55,14 +56,14 @@ impl Part {
     pub fn digests(&self) -> &[Digest; CHILDREN]
         ensures { result.now ≡ map sha256 self.now }
     {
-        &self.digests
+        self.digests.as_array()
     }
 
     /// The digest of the part.
     pub fn digest(&self) -> Digest
         ensures { result ≡ part_digest self.now }
     {
-        digest_of_children(&self.digests)
+        self.digests.digest()
     }
 
     /// Replaces the text of a page, and hashes it, or only what the page's text doesn't begin it with. An error leaves
@@ -75,7 +76,7 @@ impl Part {
         let text = Text::after(&self.texts[child], text);
         let digest = text.digest();
         self.texts[child] = Arc::new(*self.texts.allocator(), text)?;
-        self.digests[child] = digest;
+        self.digests.set(child, digest);
         Ok(())
     }
 }
@@ -86,9 +87,7 @@ impl Clone for Part {
 
     fn clone(&self) -> Result<Part, AllocError> {
         let texts = self.texts.clone()?;
-        Ok(Part {
-            texts,
-            digests: self.digests,
-        })
+        let digests = self.digests.clone()?;
+        Ok(Part { texts, digests })
     }
 }

@@ -5,11 +5,12 @@ ghost use Rattle.partition_tree.specs.Changes.{AreKnown};
 ghost use Rattle.partition_tree.specs.Owners.{SetsText, KeepsPart, SetsPages, KeepsOthers};
 ghost use Rattle.partition_tree.specs.Parts.{AreFull, parts_of, part_digest};
 
+use crate::children::Children;
 use crate::digests::CHILDREN;
 use crate::page::Page;
 use crate::part::Part;
 use std::sync::Arc;
-use terms::{Digest, NoMemory};
+use terms::NoMemory;
 
 /// Replaces the text of a page, in a copy of the part if others share it.
 pub fn put(part: &mut Arc<Part>, child: usize, text: Vec<u8>) -> Result<(), NoMemory>
@@ -57,21 +58,16 @@ pub fn change_all(
     Ok(changed)
 }
 
-/// The digests of the parts. Those of changed parts are hashed, the others are known.
-pub fn renewed(
-    known: &[Digest; CHILDREN],
-    parts: &[Arc<Part>],
-    changed: &[bool; CHILDREN],
-) -> [Digest; CHILDREN]
+/// Renews the digests of the parts where they lie. Those of changed parts are hashed, the others are known.
+pub fn renew(digests: &mut Children, parts: &[Arc<Part>], changed: &[bool; CHILDREN])
+    requires whole { length digests.old ≡ CHILDREN }
     requires count { length parts.now ≡ CHILDREN }
-    requires known { AreKnown changed.now known.now (parts_of parts.now) }
-    ensures { result ≡ map part_digest (parts_of parts.now) }
+    requires known { AreKnown changed.now digests.old (parts_of parts.now) }
+    ensures { digests.new ≡ map part_digest (parts_of parts.now) }
 {
-    let mut inner = *known;
     for part in 0..CHILDREN {
         if changed[part] {
-            inner[part] = parts[part].digest();
+            digests.set(part, parts[part].digest());
         }
     }
-    inner
 }

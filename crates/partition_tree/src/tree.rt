@@ -5,10 +5,11 @@ ghost use Rattle.partition_tree.specs.Digests.{root_of, empty_pages};
 ghost use Rattle.partition_tree.specs.Levels.{parts_at, children_of};
 ghost use Rattle.partition_tree.specs.Changes.{pages_with};
 
-use crate::digests::{CHILDREN, digest_of_children};
+use crate::children::Children;
+use crate::digests::CHILDREN;
 use crate::page::Page;
 use crate::part::Part;
-use crate::parts::{change_all, put, renewed};
+use crate::parts::{change_all, put, renew};
 use std::alloc::Global;
 use std::marker::Model;
 use std::sync::Arc;
@@ -22,7 +23,7 @@ pub const PAGES: usize = 1024;
 #[derive(Drop)]
 pub struct Tree {
     parts: Vec<Arc<Part>>,
-    inner: [Digest; CHILDREN],
+    inner: Children,
     root: Digest,
 }
 
@@ -49,8 +50,8 @@ impl Tree {
         for _part in 0..CHILDREN {
             parts.push(part.clone()?)?;
         }
-        let inner = [part.digest(); CHILDREN];
-        let root = digest_of_children(&inner);
+        let inner = Children::alike(alloc, part.digest())?;
+        let root = inner.digest();
         Ok(Tree { parts, inner, root })
     }
 
@@ -70,7 +71,7 @@ impl Tree {
         ensures { result.now ≡ children_of self.now level index }
     {
         match level {
-            Level::Root => &self.inner,
+            Level::Root => self.inner.as_array(),
             Level::Inner => self.parts[index].digests(),
             Level::Page => unreachable!(),
         }
@@ -98,8 +99,8 @@ impl Tree {
         let text = Vec::from_slice(*self.parts.allocator(), text)?;
         let part = i / CHILDREN;
         put(&mut self.parts[part], i % CHILDREN, text)?;
-        self.inner[part] = self.parts[part].digest();
-        self.root = digest_of_children(&self.inner);
+        self.inner.set(part, self.parts[part].digest());
+        self.root = self.inner.digest();
         Ok(())
     }
 
@@ -112,9 +113,8 @@ impl Tree {
     {
         let mut parts = self.parts.clone()?;
         let changed = change_all(&mut parts, pages)?;
-        let inner = renewed(&self.inner, parts.as_slice(), &changed);
-        self.root = digest_of_children(&inner);
-        self.inner = inner;
+        renew(&mut self.inner, parts.as_slice(), &changed);
+        self.root = self.inner.digest();
         self.parts = parts;
         Ok(())
     }
@@ -133,9 +133,10 @@ impl Tree {
         ensures { IfOk result (λ t. t ≡ self.now) }
     {
         let parts = self.parts.clone()?;
+        let inner = self.inner.clone()?;
         Ok(Tree {
             parts,
-            inner: self.inner,
+            inner,
             root: self.root,
         })
     }

@@ -12,7 +12,8 @@ invariant_of-self c =
     let text = c.args.text.items in
     let holds = c.in_ok-self-inside.ensures.ok ∙ c.after-text.ensures in (
       rw length-set c.self.invariant.0,
-      ap (λ ds. set ds c.args.child c.digest-digest.result) c.self.invariant.1
+      c.set.ensures
+          ∙ ap (λ ds. set ds c.args.child c.digest-digest.result) c.self.invariant.1
           ∙ ap (set (map sha256 (texts_of texts)) c.args.child) (c.digest-digest.ensures ∙ ap sha256 c.after-text.ensures)
           ∙ sym (map-set sha256 (texts_of texts) c.args.child text)
           ∙ ap (map sha256) (sym (held-set arc_value texts c.args.child c.in_ok-self-inside.field-0 text holds)),

@@ -7,7 +7,7 @@ use Rattle.partition_tree.proofs.part.PartClone.clone.Goals as goal
 pub invariant_of-result : goal.invariant_of-result
 invariant_of-result c =
     let same = held_by_clones arc_value c.self.inside.texts.items c.in_ok-texts.texts.items c.in_ok-texts.ensures.cases.0 in
-    (same_count arc_value _ _ same ∙ c.self.invariant.0, c.self.invariant.1 ∙ ap (map sha256) (sym same))
+    (same_count arc_value _ _ same ∙ c.self.invariant.0, c.in_ok-digests.ensures.cases ∙ c.self.invariant.1 ∙ ap (map sha256) (sym same))
 
 pub returns : goal.returns
 returns c =

@@ -10,7 +10,8 @@ use Rattle.partition_tree.proofs.tree.Tree.children.Goals as goal
 pub returns-in-Root : goal.returns-in-Root
 returns-in-Root c =
     rw c.in-Root.is
-    (c.self.invariant.2
+    (c.as_array.ensures
+    ∙ c.self.invariant.2
     ∙ inner_of_parts _ c.self.invariant.1 (length-map c.self.inside.parts.items arc_value ∙ c.self.invariant.0)
     ∙ ap inner_digests c.self.view_is)
 

@@ -15,10 +15,10 @@ invariant_of-result c =
     let full : AreFull (replicate 32 empty) = All-replicate (λ (part : List (List ℕ)). length part ≡ 32) 32 empty (length-replicate {A = List ℕ} 32 []) in (
       count_alike arc_value owners 32 empty same,
       subst AreFull (sym same) full,
-      ap (replicate 32) (c.digest-inner.ensures ∙ ap part_digest (c.deref.ensures ∙ (c.in_ok-part.ensures.ok ∙ c.in_ok-empty.ensures)))
+      c.in_ok-inner.ensures ∙ ap (replicate 32) (c.digest.ensures ∙ ap part_digest (c.deref.ensures ∙ (c.in_ok-part.ensures.ok ∙ c.in_ok-empty.ensures)))
           ∙ sym (map-replicate part_digest 32 empty)
           ∙ ap (map part_digest) (sym same),
-      c.digest_of_children-root.ensures,
+      c.digest-root.ensures,
     )
 
 pub returns : goal.returns

@@ -62,8 +62,8 @@ invariant_of-self-2 c =
     let digest = c.digest.ensures ∙ ap part_digest c.deref.ensures in (
       rw length-set all,
       full_written owners c.args.i _ _ c.args.text.now all c.self.invariant.1 c.requires was is,
-      digests_written owners (c.args.i / 32) _ _ inner _ (omega arith) c.self.invariant.2 c.index.ensures digest,
-      c.digest_of_children-self-inside.ensures,
+      c.set.ensures ∙ digests_written owners (c.args.i / 32) _ _ inner _ (omega arith) c.self.invariant.2 c.index.ensures digest,
+      c.digest-self-inside.ensures,
     )
 
 pub returns-clause-ok : goal.returns-clause-ok

@@ -10,8 +10,15 @@ pub change_all-requires-clause-full : goal.change_all-requires-clause-full
 change_all-requires-clause-full c =
     subst AreFull (sym (held_by_clones arc_value c.self.inside.parts.items c.in_ok-parts.parts.items c.in_ok-parts.ensures.cases.0)) c.self.invariant.1
 
-pub renewed-inner-requires-clause-known : goal.renewed-inner-requires-clause-known
-renewed-inner-requires-clause-known c j h told =
+pub renew-requires-clause-whole : goal.renew-requires-clause-whole
+renew-requires-clause-whole c =
+    ap length c.self.invariant.2
+    ∙ length-map (parts_of c.self.inside.parts.items) part_digest
+    ∙ length-map c.self.inside.parts.items arc_value
+    ∙ c.self.invariant.0
+
+pub renew-requires-clause-known : goal.renew-requires-clause-known
+renew-requires-clause-known c j h told =
     let same = held_by_clones arc_value c.self.inside.parts.items c.in_ok-parts.parts.items c.in_ok-parts.ensures.cases.0 in
     let owners = c.self.inside.parts.items in
     let all : length owners ≡ 32 = c.self.invariant.0 in

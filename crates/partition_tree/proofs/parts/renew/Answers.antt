@@ -4,8 +4,8 @@ use Rattle.std.specs.Arc.{arc_value}
 use Rattle.partition_tree.specs.Parts.{parts_of, part_digest}
 use Rattle.partition_tree.proofs.Standing.{read}
 use Rattle.partition_tree.proofs.Renewing.{set_more, set_above, keep_more}
-use Rattle.partition_tree.proofs.parts.renewed.Goals as goal
-use Rattle.partition_tree.proofs.parts.renewed.Goals.{then-changed-part, else-changed-part}
+use Rattle.partition_tree.proofs.parts.renew.Goals as goal
+use Rattle.partition_tree.proofs.parts.renew.Goals.{then-changed-part, else-changed-part}
 
 pub loop-part-preserved : goal.loop-part-preserved
 loop-part-preserved c =
@@ -16,16 +16,16 @@ loop-part-preserved c =
           let d : w.digest.result ≡ f c.loop-part.part =
           w.digest.ensures ∙ ap part_digest (w.deref.ensures ∙ read c.args.parts.now c.loop-part.part _ (omega arith) w.index-parts-part.is) in
           record {
-            count = ap length w.inner-is ∙ rw length-set was.count;
-            done = set_more f _ _ c.loop-part.part w.digest.result [] w.inner-is (omega arith) d was.done;
-            left = set_above f _ _ c.loop-part.part w.digest.result [] c.args.known.now w.inner-is was.left;
+            count = ap length (w.digests-is ∙ w.set.ensures) ∙ rw length-set was.count;
+            done = set_more f _ _ c.loop-part.part w.digest.result [] (w.digests-is ∙ w.set.ensures) (omega arith) d was.done;
+            left = set_above f _ _ c.loop-part.part w.digest.result [] c.args.digests.now (w.digests-is ∙ w.set.ensures) was.left;
           }
       | else-changed-part w ↦
           let d = was.left c.loop-part.part (omega arith) ∙ c.requires.known c.loop-part.part c.loop-part-test.true w.if-changed-part.false in
           record {
-            count = ap length w.inner-is ∙ was.count;
-            done = keep_more f _ _ c.loop-part.part [] [] w.inner-is d was.done;
-            left = λ k h. ap (λ ds. get_or ds k []) w.inner-is ∙ was.left k (omega arith);
+            count = ap length w.digests-is ∙ was.count;
+            done = keep_more f _ _ c.loop-part.part [] [] w.digests-is d was.done;
+            left = λ k h. ap (λ ds. get_or ds k []) w.digests-is ∙ was.left k (omega arith);
           }
     ]
 
