@@ -1,11 +1,14 @@
 -- The tables and the index follow the tuples.
-use Rattle.std.proofs.Common.{◌≡◌, ℕ, suc, ◌+◌, ◌-◌, ◌%◌, ◌≤◌, ◌<◌, Bool, true, false, cond, List, [], ◌∷◌, ◌++◌, length, map, take, drop, get_or, set, Some, refl, sym, ap, subst, ◌∙◌, arith, inl, inr}
+use Rattle.std.proofs.Common.{◌≡◌, ℕ, suc, ◌+◌, ◌-◌, ◌%◌, ◌≤◌, ◌<◌, Bool, true, false, cond, List, [], ◌∷◌, ◌++◌, length, map, take, drop, get_or, set, Some, refl, sym, ap, subst, ◌∙◌, arith, inl, inr, append-nil}
 use Rattle.std.specs.Prelude.{◌==◌, All, AllPairs, filter, find, remove, nat_lt}
 use Rattle.std.specs.Ordering.{nat_cmp, is_eq}
 use Rattle.std.specs.Map.{lookup, remove_entry}
 use Rattle.std.specs.BTreeMap.{is_at, insert_entry}
 use Rattle.std.proofs.lemmas.Bool.{cases_eq}
-use Rattle.std.proofs.lemmas.List.{length-map, drop-map}
+use Rattle.std.proofs.Math.Seq.{get_or-append_seam}
+use Rattle.std.proofs.lemmas.List.{length-map, length_push, drop-map}
+use Rattle.std.proofs.lemmas.List.Edits.{remove-append_right}
+use Rattle.std.proofs.lemmas.List.Quantifiers.{all_pairs_push}
 use Rattle.std.proofs.lemmas.List.Elements.{All-weaker, All-filter, All-drop}
 use Rattle.tuple_tree.specs.Values.{TupleTree, TemplateTree, IsTuple}
 use Rattle.template_match.specs.Tests.{is_match}
@@ -161,6 +164,23 @@ module _ (version : Version) (es : List Entry) (next : ℕ) (counts : List ℕ) 
         counts = IsCounted-push version es next counts h.counts b t items long valid room is last;
         indexed = subst (IsIndexOf new) (sym last) (moved es h.indexed);
       }
+
+  -- the index stays that of the entries if the tuple is added to it and taken again
+  pub IsIndexed-undone : (t : TupleTree) (more new : Index) → ((fs : List Entry) → IsIndexOf index fs → IsIndexOf more (fs ++ (b, t) ∷ []))
+      → ((fs : List Entry) (i : ℕ) → AllPairs (λ e f. e.0 < f.0) fs → i < length fs → (b, t) ≡ get_or fs i (b, t) → IsIndexOf more fs → IsIndexOf new (remove fs i))
+      → IsIndexed version es next counts new
+  IsIndexed-undone t more new added taken =
+      let e : Entry = (b, t) in
+      let rising = all_pairs_push (λ (e f : Entry). e.0 < f.0) es e h.counts.state.rising (λ k d l. all_older k d l) in
+      let within : length es < length (es ++ e ∷ []) = omega (arith, length_push es e) in
+      let left : remove (es ++ e ∷ []) (length es) ≡ es = remove-append_right es (e ∷ []) (length es) (length es) refl (omega arith) ∙ ap (λ n. es ++ remove (e ∷ []) n) zero_left ∙ append-nil es in
+      record {
+        counts = h.counts;
+        indexed = subst (IsIndexOf new) left (taken (es ++ e ∷ []) (length es) rising within (sym (get_or-append_seam es e [] e)) (added es h.indexed));
+      }
+    where
+      zero_left : length es - length es ≡ 0
+      zero_left = omega arith
 
   pub added_state : (t : TupleTree) (items : List Entry) → b ≡ first_passing (λ birth. nat_lt (get_or counts (birth % 256) 0) 64) 256 next → items ≡ insert_entry nat_cmp es b t
       → record { version = version; entries = items; next = b + 1 } ≡ with_birth (record { version = version; entries = es; next = next }) t

@@ -7,7 +7,7 @@ use Rattle.tuple_tree.specs.Values.{TemplateTree, IsTuple}
 use Rattle.space.specs.Ages.{without, AreRising, ListedBirths}
 use Rattle.space.specs.Births.{Entry}
 use Rattle.space.specs.Candidates.{is_candidate}
-use Rattle.space.specs.KeyBirths.{births_of, room_of}
+use Rattle.space.specs.KeyBirths.{births_of}
 use Rattle.space.specs.Keys.{tuple_key}
 use Rattle.space.specs.declared.key_births.KeyBirths.{KeyBirths}
 use Rattle.space.specs.declared.birth_table.BirthTable.{BirthTable}
@@ -18,17 +18,13 @@ abbrev pub births_or_none : Option KeyBirths → List ℕ
 births_or_none None = []
 births_or_none (Some births) = births_of births
 
+-- the list of a key
+abbrev pub list_at : Lists → List ℕ → Option KeyBirths
+list_at l key = get_by (λ k. bytes_eq key k.items) l.lists
+
 -- the births that are listed under a key
 abbrev pub births_at : Lists → List ℕ → List ℕ
-births_at l key = births_or_none (get_by (λ k. bytes_eq key k.items) l.lists)
-
-abbrev pub room_or_none : Option KeyBirths → ℕ
-room_or_none None = 0
-room_or_none (Some births) = room_of births
-
--- how many more births fit under a key
-abbrev pub room_at : Lists → List ℕ → ℕ
-room_at l key = room_or_none (get_by (λ k. bytes_eq key k.items) l.lists)
+births_at l key = births_or_none (list_at l key)
 
 -- the list of a number that a table doesn't reach
 abbrev pub no_list : ListedBirths
@@ -83,9 +79,9 @@ TakesBirth key birth old new =
 abbrev pub KeepsBirths : Lists → Lists → Type 0
 KeepsBirths old new = (q : List ℕ) → births_at new q ≡ births_at old q
 
--- a key that has no births has no room
-abbrev pub LetsGo : List ℕ → Lists → Lists → Type 0
-LetsGo key old new = births_at old key ≡ [] → room_at new key ≡ 0
+-- a key that has no births has no list
+abbrev pub LetsGo : List ℕ → Lists → Type 0
+LetsGo key l = births_at l key ≡ [] → list_at l key ≡ None
 
 -- the same in a table, by a number
 abbrev pub AddsInTable : ℕ → ℕ → BirthTable → BirthTable → Type 0
@@ -99,12 +95,6 @@ TakesFromTable number birth old new =
 
 abbrev pub KeepsTable : BirthTable → BirthTable → Type 0
 KeepsTable old new = (n : ℕ) → births_in new n ≡ births_in old n
-
--- one more birth fits under each number and key of an entry
-abbrev pub HasRoom : Entry → Index → Type 0
-HasRoom e index =
-    (0 < room_in index.pages (page_number e)) × (0 < room_in index.lengths (value_count e))
-    × (0 < room_at index.firsts (first_key e))
 
 -- an index of entries becomes that of these and a newest one
 abbrev pub Files : Entry → Index → Index → Type 0

@@ -1,15 +1,15 @@
 //! Finds the births of a page, of a number of fields, and of a first value.
 
-ghost use Rattle.std.specs.Prelude.{◌≡◌, ◌+◌, ◌/◌, ◌<◌, ◌≤◌, ◌%◌, [], List, OnOk, IfOk};
+ghost use Rattle.std.specs.Prelude.{◌≡◌, ◌+◌, ◌/◌, ◌<◌, ◌≤◌, ◌%◌, [], List, OnOk, OnErr, IfOk};
 ghost use Rattle.tuple_tree.specs.Items.{whole_length};
 ghost use Rattle.tuple_tree.specs.Values.{slot_length};
 ghost use Rattle.space.specs.Births.{Entry};
-ghost use Rattle.space.specs.Filing.{births_on, IsIndexOf, HasRoom, LetsGo, Files, FilesNothing, Unfiles, FindsCandidates};
+ghost use Rattle.space.specs.Filing.{births_on, IsIndexOf, AddsBirth, TakesBirth, KeepsBirths, Files, FilesNothing, Unfiles, FindsCandidates};
 ghost use Rattle.space.specs.Keys.{tuple_key};
 
 use crate::birth_table::BirthTable;
 use crate::births::PAGES;
-use crate::keys::{Key, SHORT_TEMPLATE, ShortKey, put_template_key, put_tuple_key};
+use crate::keys::{Key, SHORT, ShortKey, put_template_key, put_tuple_key};
 use crate::lists::Lists;
 use arrayvec::ArrayVec;
 use std::alloc::{Allocator, Global};
@@ -43,59 +43,33 @@ impl Index {
     {
         let mut index = Index::new(alloc);
         for (birth, tuple) in tuples {
-            let mut first = ArrayVec::new();
-            put_tuple_key(tuple, &mut first);
-            index.reserve(*birth, tuple, &first)?;
-            index.add(*birth, tuple, &first);
+            index.insert(*birth, tuple)?;
         }
         Ok(index)
     }
 
-    /// Makes room for a tuple; `first` is its key. The listed births stay, also at an `Err`.
-    pub fn reserve<A: Allocator>(
-        &mut self,
-        birth: u64,
-        tuple: &Tuple<A>,
-        first: &Key,
-    ) -> Result<(), NoMemory>
-        requires { first.now.items ≡ tuple_key tuple.now }
-        ensures ok { OnOk result (HasRoom (birth, tuple.now) self.new) }
-        ensures kept { FilesNothing self.old self.new }
+    /// Adds the newest tuple. The listed births stay at an `Err`.
+    pub fn insert<A: Allocator>(&mut self, birth: u64, tuple: &Tuple<A>) -> Result<(), NoMemory>
+        ensures ok { OnOk result (Files (birth, tuple.now) self.old self.new) }
+        ensures err { OnErr result (FilesNothing self.old self.new) }
     {
         self.pages.reserve(page_of(birth))?;
         self.lengths.reserve(tuple.len())?;
         // Last, since there are endless first values: an `Err` must leave no list at a new key.
-        self.firsts.reserve(first.as_slice())
-    }
-
-    /// Adds the newest tuple, into room that was reserved; `first` is its key.
-    pub fn add<A: Allocator>(&mut self, birth: u64, tuple: &Tuple<A>, first: &Key)
-        requires key { first.now.items ≡ tuple_key tuple.now }
-        requires room { HasRoom (birth, tuple.now) self.old }
-        ensures { Files (birth, tuple.now) self.old self.new }
-    {
+        add_first(&mut self.firsts, birth, tuple)?;
         self.pages.add(page_of(birth), birth);
         self.lengths.add(tuple.len(), birth);
-        self.firsts.add(first.as_slice(), birth);
+        Ok(())
     }
 
-    /// Frees the list of a first value, by its key, if no tuple has it. The 256 pages and 33 lengths keep their lists.
-    pub fn prune(&mut self, first: &Key)
-        ensures kept { FilesNothing self.old self.new }
-        ensures gone { LetsGo first.now.items self.old.firsts self.new.firsts }
-    {
-        self.firsts.prune(first.as_slice());
-    }
-
-    /// Takes a tuple.
-    pub fn remove(&mut self, birth: u64, tuple: &Tuple<Global>)
+    /// Takes a tuple. The list of its first value goes with the last birth, while the 256 pages and 33 lengths keep
+    /// theirs.
+    pub fn remove<A: Allocator>(&mut self, birth: u64, tuple: &Tuple<A>)
         ensures { Unfiles (birth, tuple.now) self.old self.new }
     {
         self.pages.remove(page_of(birth), birth);
         self.lengths.remove(tuple.len(), birth);
-        let mut first = ArrayVec::new();
-        put_tuple_key(tuple, &mut first);
-        self.firsts.remove(first.as_slice(), birth);
+        remove_first(&mut self.firsts, birth, tuple);
     }
 
     /// The births of a page, 0 to 255.
@@ -110,7 +84,7 @@ impl Index {
     pub fn candidates<A: Allocator>(&self, template: &Template<A>) -> &[u64]
         ensures { FindsCandidates template.now self.now result.now }
     {
-        if template.encoded_len() <= SHORT_TEMPLATE {
+        if template.encoded_len() <= SHORT {
             let mut key: ShortKey = ArrayVec::new();
             return self.candidates_by(template, &mut key);
         }
@@ -140,4 +114,33 @@ fn page_of(birth: u64) -> usize
     ensures { result ≡ birth % 256 }
 {
     (birth % PAGES as u64) as usize
+}
+
+// Adds the newest tuple to those of its first value. The listed births stay at an `Err`.
+fn add_first<A: Allocator>(firsts: &mut Lists, birth: u64, tuple: &Tuple<A>) -> Result<(), NoMemory>
+    ensures ok { OnOk result (AddsBirth (tuple_key tuple.now) birth firsts.old firsts.new) }
+    ensures err { OnErr result (KeepsBirths firsts.old firsts.new) }
+{
+    if tuple.encoded_len() <= SHORT {
+        let mut key: ShortKey = ArrayVec::new();
+        put_tuple_key(tuple, &mut key);
+        return firsts.add(key.as_slice(), birth);
+    }
+    let mut key: Key = ArrayVec::new();
+    put_tuple_key(tuple, &mut key);
+    firsts.add(key.as_slice(), birth)
+}
+
+// Takes a tuple from those of its first value.
+fn remove_first<A: Allocator>(firsts: &mut Lists, birth: u64, tuple: &Tuple<A>)
+    ensures { TakesBirth (tuple_key tuple.now) birth firsts.old firsts.new }
+{
+    if tuple.encoded_len() <= SHORT {
+        let mut key: ShortKey = ArrayVec::new();
+        put_tuple_key(tuple, &mut key);
+        return firsts.remove(key.as_slice(), birth);
+    }
+    let mut key: Key = ArrayVec::new();
+    put_tuple_key(tuple, &mut key);
+    firsts.remove(key.as_slice(), birth)
 }

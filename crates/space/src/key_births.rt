@@ -1,8 +1,8 @@
 //! The births of a key.
 
-ghost use Rattle.std.specs.Prelude.{◌≡◌, ◌<◌, ◌++◌, ◌∷◌, [], IfOk, OnOk};
+ghost use Rattle.std.specs.Prelude.{◌≡◌, ◌++◌, ◌∷◌, [], IfOk, OnOk, OnErr};
 ghost use Rattle.space.specs.Ages.{without, AreRising};
-ghost use Rattle.space.specs.KeyBirths.{births_of, room_of};
+ghost use Rattle.space.specs.KeyBirths.{births_of};
 
 use crate::birth_list::BirthList;
 use std::alloc::Global;
@@ -12,7 +12,7 @@ use terms::NoMemory;
 /// Births, the oldest first. Most keys have one, which takes no memory of its own.
 #[derive(Drop)]
 pub enum KeyBirths {
-    /// No birth, and room for one.
+    /// No birth.
     Empty,
     One(u64),
     Many(BirthList),
@@ -30,32 +30,20 @@ impl KeyBirths {
         }
     }
 
-    /// Makes room for one more birth.
-    pub fn reserve(&mut self, alloc: Global) -> Result<(), NoMemory>
-        ensures births { births_of self.new ≡ births_of self.old }
-        ensures ok { OnOk result (0 < room_of self.new) }
-    {
-        match self {
-            KeyBirths::Empty => Ok(()),
-            KeyBirths::One(birth) => {
-                let births = list_of(alloc, *birth)?;
-                *self = KeyBirths::Many(births);
-                Ok(())
-            }
-            KeyBirths::Many(births) => births.reserve(),
-        }
-    }
-
-    /// Adds a birth at the end, into room that was reserved.
-    pub fn push(&mut self, birth: u64)
-        requires { 0 < room_of self.old }
-        ensures { births_of self.new ≡ births_of self.old ++ birth ∷ [] }
+    /// Adds a birth at the end. The births stay at an `Err`.
+    pub fn add(&mut self, alloc: Global, birth: u64) -> Result<(), NoMemory>
+        ensures ok { OnOk result (births_of self.new ≡ births_of self.old ++ birth ∷ []) }
+        ensures err { OnErr result (births_of self.new ≡ births_of self.old) }
     {
         match self {
             KeyBirths::Empty => *self = KeyBirths::One(birth),
-            KeyBirths::One(_) => unreachable!(),
-            KeyBirths::Many(births) => births.push(birth),
+            KeyBirths::One(first) => *self = KeyBirths::Many(list_of(alloc, *first, birth)?),
+            KeyBirths::Many(births) => {
+                births.reserve()?;
+                births.push(birth);
+            }
         }
+        Ok(())
     }
 
     /// Takes a birth, if it is there.
@@ -74,13 +62,13 @@ impl KeyBirths {
     }
 }
 
-// The list of one birth, with room for one more.
-fn list_of(alloc: Global, birth: u64) -> Result<BirthList, NoMemory>
-    ensures births { IfOk result (λ list. list.births ≡ birth ∷ []) }
-    ensures room { IfOk result (λ list. 0 < list.room) }
+// The list of two births.
+fn list_of(alloc: Global, first: u64, second: u64) -> Result<BirthList, NoMemory>
+    ensures { IfOk result (λ list. list.births ≡ first ∷ second ∷ []) }
 {
     let mut births = BirthList::with_room(alloc)?;
-    births.push(birth);
+    births.push(first);
     births.reserve()?;
+    births.push(second);
     Ok(births)
 }

@@ -19,15 +19,16 @@ pub const KEY_LEN: usize = 130;
 /// Eight bytes in one number are hashed and compared at once.
 pub type Key = ArrayVec<u64, KEY_LEN>;
 
-/// The key of a template of at most [`SHORT_TEMPLATE`] bytes, which is cheaper to clear.
+/// The key of a tuple or a template of at most [`SHORT`] bytes, which is cheaper to clear.
 pub type ShortKey = ArrayVec<u64, 10>;
 
-/// A template of at most so many bytes is short.
-pub const SHORT_TEMPLATE: usize = 64;
+/// A tuple or a template of at most so many bytes is short.
+pub const SHORT: usize = 64;
 
 /// Fills in the key of a tuple. It is filled in place, since a return would copy it.
-pub fn put_tuple_key<A: Allocator>(tuple: &Tuple<A>, key: &mut Key)
-    requires { key.old.items ≡ [] }
+pub fn put_tuple_key<A: Allocator, const N: usize>(tuple: &Tuple<A>, key: &mut ArrayVec<u64, N>)
+    requires empty { key.old.items ≡ [] }
+    requires room { whole_length datum_length tuple.now / 8 + 2 ≤ N }
     ensures { key.new.items ≡ tuple_key tuple.now }
 {
     match tuple.values().first() {

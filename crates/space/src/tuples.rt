@@ -21,7 +21,6 @@ ghost use Rattle.space.specs.Births.{IsState, Follows, TuplesFollow, WantsMemory
 
 use crate::births::{PAGES, empty_pages, next_birth};
 use crate::index::Index;
-use crate::keys::put_tuple_key;
 use crate::matching::{births_of_matches, copies_of_matches, oldest_match, seen_matches};
 use crate::pages::{HEADER_LEN, header_of, text_behind};
 use crate::reading::{read_header, read_page};
@@ -283,14 +282,11 @@ impl Space {
         note_tuple(tuple);
         let copy = tuple.copy_in(self.alloc)?;
         let birth = next_birth(&self.page_counts, self.next);
-        let mut first = ArrayVec::new();
-        put_tuple_key(tuple, &mut first);
-        self.index.reserve(birth, tuple, &first)?;
+        self.index.insert(birth, tuple)?;
         if let Err(_) = self.tuples.insert(birth, copy) {
-            self.index.prune(&first);
+            self.index.remove(birth, tuple);
             return Err(NoMemory);
         }
-        self.index.add(birth, tuple, &first);
         self.page_counts[(birth % PAGES as u64) as usize] += 1;
         self.next = birth + 1;
         Ok(())

@@ -7,8 +7,8 @@ use Rattle.space.proofs.index.Index.of.Goals as goal
 
 pub loop-birth-preserved : goal.loop-birth-preserved
 loop-birth-preserved c =
-    subst (IsIndexOf c.add.new.self) (sym (map-append deref_pair c.loop-birth.yielded ((c.in-Some.birth, c.in-Some.tuple) ∷ [])))
-    (c.add.ensures (map deref_pair c.loop-birth.yielded) (c.reserve.ensures.kept (map deref_pair c.loop-birth.yielded) c.loop-birth.invariant))
+    subst (IsIndexOf c.insert.new.self) (sym (map-append deref_pair c.loop-birth.yielded ((c.in-Some.birth, c.in-Some.tuple) ∷ [])))
+    ((c.in_ok-insert.ensures {u = tt}).ok (map deref_pair c.loop-birth.yielded) c.loop-birth.invariant)
 
 pub returns : goal.returns
 returns c =
