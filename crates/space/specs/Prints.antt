@@ -1,12 +1,17 @@
--- Prints of tuples, by which most tuples that don't match are told.
+-- Labels of tuples, by which most tuples that don't match are told.
 use Rattle.std.specs.Prelude.{◌≡◌, ◌≢◌, ℕ, true, List, length, slice_get, unsigned_abs, Option, Some, None}
 use Rattle.std.specs.Ordering.{nat_cmp}
 use Rattle.std.specs.Map.{lookup}
 use Rattle.std.specs.BTreeMap.{is_at}
 use Rattle.tuple_tree.specs.Items.{Item, leaf, inner, as_list}
-use Rattle.tuple_tree.specs.Values.{Datum, number, text, bytes, truth, wide, TupleTree, TemplateTree}
+use Rattle.tuple_tree.specs.Values.{Datum, number, text, bytes, truth, wide, kind_of, TupleTree, TemplateTree}
+use Rattle.tuple_tree.specs.declared.atoms.Kind.{Kind}
+use Rattle.tuple_tree.specs.declared.atoms.Kind.TheVariants as kinds
 use Rattle.template_match.specs.Tests.{is_match}
 use Rattle.space.specs.Births.{Entry}
+use Rattle.space.specs.declared.prints.Label.{Label}
+use Rattle.space.specs.declared.prints.Wanted.{Wanted}
+use Rattle.space.specs.declared.prints.Wanted.TheVariants.{Anything, First, Second}
 
 -- a number without its sign, or how many bytes there are
 abbrev pub datum_print : Datum → ℕ
@@ -25,18 +30,29 @@ value_print (Some (inner t)) = 0
 abbrev pub tuple_print : TupleTree → ℕ
 tuple_print t = value_print (slice_get (as_list t) 1)
 
-abbrev pub entry_print : Entry → ℕ
-entry_print e = tuple_print e.1
+-- the kind of the first value
+abbrev pub kind_first : Option (Item Datum) → Kind
+kind_first None = kinds.Tuple
+kind_first (Some v) = kind_of v
 
--- A print is another one than the wanted one, if one is wanted.
-abbrev pub IsUnlike : Option ℕ → ℕ → Type 0
-IsUnlike None print = ⊥
-IsUnlike (Some wanted) print = print ≢ wanted
+abbrev pub first_kind : TupleTree → Kind
+first_kind t = kind_first (slice_get (as_list t) 0)
 
--- No tuple that the template matches has another print.
-abbrev pub TellsMatches : TemplateTree → Option ℕ → Type 0
-TellsMatches p wanted = (t : TupleTree) → is_match p t ≡ true → IsUnlike wanted (tuple_print t) → ⊥
+-- what is told of an entry without a look at its tuple
+abbrev pub entry_label : Entry → Label
+entry_label e = record { birth = e.0; second = tuple_print e.1; first = first_kind e.1 }
 
--- A birth has no tuple, or one with another print than the wanted one.
-abbrev pub HasOtherPrint : Option ℕ → ℕ → List Entry → Type 0
-HasOtherPrint wanted birth es = (t : TupleTree) → lookup (is_at (nat_cmp birth)) es ≡ Some t → IsUnlike wanted (tuple_print t)
+-- A label tells something else than what is wanted.
+abbrev pub IsUnlike : Wanted → Label → Type 0
+IsUnlike Anything label = ⊥
+IsUnlike (First wanted) label = label.first ≢ wanted
+IsUnlike (Second wanted) label = label.second ≢ wanted
+
+-- No tuple that the template matches has a label that tells something else.
+abbrev pub TellsMatches : TemplateTree → Wanted → Type 0
+TellsMatches p wanted = (e : Entry) → is_match p e.1 ≡ true → IsUnlike wanted (entry_label e) → ⊥
+
+-- A birth has no tuple, or one whose label tells something else than what is wanted.
+abbrev pub HasOtherLabel : Wanted → ℕ → List Entry → Type 0
+HasOtherLabel wanted birth es =
+    (t : TupleTree) → lookup (is_at (nat_cmp birth)) es ≡ Some t → IsUnlike wanted (entry_label (birth, t))

@@ -8,7 +8,8 @@ use Rattle.std.specs.BTreeMap.{insert_entry}
 use Rattle.tuple_tree.specs.Items.{none}
 use Rattle.tuple_tree.specs.ValuesCode.{tuple_code}
 use Rattle.space.specs.Births.{Entry}
-use Rattle.space.specs.Prints.{entry_print}
+use Rattle.space.specs.Prints.{entry_label}
+use Rattle.space.specs.declared.prints.Label.{Label}
 
 -- the entries in the order of births; of two with one birth the first counts
 abbrev pub in_order : List Entry → List Entry
@@ -37,7 +38,7 @@ LeadsTo None birth es = lookup (λ k. birth == k) es ≡ None
 abbrev pub AreApart : List Entry → Type 0
 AreApart es = IsDistinct ◌==◌ (keys_of es)
 
--- No birth has two entries, and each entry's print is kept.
-pub record ArePrinted (es : List Entry) (prints : List ℕ) : Type 0 where
+-- No birth has two entries, and each entry's label is kept.
+pub record AreLabelled (es : List Entry) (labels : List Label) : Type 0 where
   pub apart : AreApart es
-  pub kept : prints ≡ map entry_print es
+  pub kept : labels ≡ map entry_label es

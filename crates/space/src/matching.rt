@@ -5,7 +5,7 @@ ghost use Rattle.space.specs.Births.{oldest_births};
 ghost use Rattle.space.specs.Prints.{TellsMatches};
 ghost use Rattle.space.specs.Found.{IsMatchAt, IsOldestAt, AreOldestAt, AreOldestSeen, matches_at, entries_at};
 
-use crate::prints::print_of_template;
+use crate::prints::{Wanted, wanted_by};
 use crate::stored::Stored;
 use arrayvec::ArrayVec;
 use std::alloc::{Allocator, Global};
@@ -15,14 +15,14 @@ use tuple_codec::{MAX_ANSWERS, Max, Tuples};
 use tuple_tree::{Template, Tuple};
 
 // The tuple of this birth, if it matches. It is looked for at `near` first, which then is the place behind it. Most
-// others are passed by their prints.
+// others are passed by their labels.
 #[inline(always)]
 fn match_at<'a, A: Allocator>(
     tuples: &'a Stored,
     birth: u64,
     near: &mut usize,
     template: &Template<A>,
-    wanted: Option<u64>,
+    wanted: Wanted,
 ) -> Option<&'a Tuple<Global>>
     requires { TellsMatches template.now wanted }
     ensures { IsMatchAt template.now tuples.now.entries birth result }
@@ -32,21 +32,27 @@ fn match_at<'a, A: Allocator>(
     }
     // The place is lent as a copy, so that the walk keeps its own in a register.
     let mut place = *near;
-    let found = match_found(tuples, birth, &mut place, template);
+    let found = match_found(tuples, birth, &mut place, template, wanted);
     *near = place;
     found
 }
 
-// The same, by a look at the tuple.
+// The same, also if the tuple lies elsewhere or its label tells nothing.
 #[inline(never)]
 fn match_found<'a, A: Allocator>(
     tuples: &'a Stored,
     birth: u64,
     near: &mut usize,
     template: &Template<A>,
+    wanted: Wanted,
 ) -> Option<&'a Tuple<Global>>
+    requires { TellsMatches template.now wanted }
     ensures { IsMatchAt template.now tuples.now.entries birth result }
 {
+    tuples.turn_to(birth, near);
+    if tuples.passes(birth, near, wanted) {
+        return None;
+    }
     match tuples.get_near(birth, near) {
         Some(tuple) => {
             if matches(template, tuple) {
@@ -67,7 +73,7 @@ pub fn oldest_match<'a, A: Allocator>(
 ) -> Option<(u64, &'a Tuple<Global>)>
     ensures { IsOldestAt template.now tuples.now.entries births.now result }
 {
-    let wanted = print_of_template(template);
+    let wanted = wanted_by(template);
     let mut near = 0;
     for birth in births {
         if let Some(tuple) = match_at(tuples, *birth, &mut near, template, wanted) {
@@ -89,7 +95,7 @@ pub fn copies_of_matches<A: Allocator>(
     ensures memory { OnErr result (matches_at template.now tuples.now.entries births.now ≢ []) }
 {
     let mut copies = Tuples::new_in(alloc);
-    let wanted = print_of_template(template);
+    let wanted = wanted_by(template);
     let mut near = 0;
     for birth in births {
         if copies.len() >= max.count as usize {
@@ -115,7 +121,7 @@ pub fn seen_matches<'a, A: Allocator>(
     ensures memory { OnErr result (matches_at template.now tuples.now.entries births.now ≢ []) }
 {
     let mut seen = Vec::new(alloc);
-    let wanted = print_of_template(template);
+    let wanted = wanted_by(template);
     let mut near = 0;
     for birth in births {
         if seen.len() >= max.count as usize {
@@ -141,7 +147,7 @@ pub fn births_of_matches<A: Allocator>(
         ≡ oldest_births max.count template.now (entries_at tuples.now.entries births.now) }
 {
     let mut matched = ArrayVec::new();
-    let wanted = print_of_template(template);
+    let wanted = wanted_by(template);
     let mut near = 0;
     for birth in births {
         if matched.len() >= max.count as usize {

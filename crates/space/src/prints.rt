@@ -1,14 +1,83 @@
-//! Prints of tuples: a number by which most tuples that don't match are told without a look at them.
+//! Labels of tuples, by which most tuples that don't match are told without a look at them.
 
-ghost use Rattle.std.specs.Prelude.{◌≡◌};
+ghost use Rattle.std.specs.Prelude.{◌≡◌, IsTrue};
 ghost use Rattle.tuple_tree.specs.AtomView.{datum_of};
-ghost use Rattle.space.specs.Prints.{datum_print, tuple_print, TellsMatches};
+ghost use Rattle.space.specs.Prints.{datum_print, entry_label, first_kind, tuple_print, IsUnlike, TellsMatches};
 
 use std::alloc::Allocator;
-use tuple_tree::{Atom, Field, Template, Tuple, Value};
+use tuple_tree::{Atom, Field, Kind, Template, Tuple, Value};
 
-/// The print of a tuple: what its second value tells. The index goes by the first one.
-pub fn print_of_tuple<A: Allocator>(tuple: &Tuple<A>) -> u64
+/// What is told of a tuple without a look at it.
+#[derive(Clone, Copy)]
+pub struct Label {
+    birth: u64,
+    // What the second value tells. The index goes by the first one.
+    second: u64,
+    first: Kind,
+}
+
+/// What a label has to tell if a template matches the tuple.
+#[derive(Clone, Copy)]
+pub enum Wanted {
+    Anything,
+    First(Kind),
+    Second(u64),
+}
+
+/// The label of a tuple.
+pub fn label_of<A: Allocator>(birth: u64, tuple: &Tuple<A>) -> Label
+    ensures { result ≡ entry_label (birth, tuple.now) }
+{
+    Label {
+        birth,
+        second: print_of_tuple(tuple),
+        first: first_kind(tuple),
+    }
+}
+
+/// Whether this is the label of a birth, and tells something else than what is wanted.
+pub fn is_of_other(label: &Label, birth: u64, wanted: Wanted) -> bool
+    ensures birth { IsTrue result → label.now.birth ≡ birth }
+    ensures other { IsTrue result → IsUnlike wanted label.now }
+{
+    label.birth == birth && is_unlike(label, wanted)
+}
+
+/// Whether this is the label of a birth.
+pub fn is_of(label: &Label, birth: u64) -> bool {
+    label.birth == birth
+}
+
+/// What the labels of the tuples that a template matches tell.
+pub fn wanted_by<A: Allocator>(template: &Template<A>) -> Wanted
+    ensures { TellsMatches template.now result }
+{
+    match template.get(1) {
+        Some(Field::Actual(atom)) => Wanted::Second(print_of(atom)),
+        _ => wanted_first(template),
+    }
+}
+
+fn wanted_first<A: Allocator>(template: &Template<A>) -> Wanted
+    ensures { TellsMatches template.now result }
+{
+    match template.get(0) {
+        Some(Field::Formal(kind)) => Wanted::First(*kind),
+        _ => Wanted::Anything,
+    }
+}
+
+fn is_unlike(label: &Label, wanted: Wanted) -> bool
+    ensures { IsTrue result → IsUnlike wanted label.now }
+{
+    match wanted {
+        Wanted::Anything => false,
+        Wanted::First(kind) => label.first != kind,
+        Wanted::Second(number) => label.second != number,
+    }
+}
+
+fn print_of_tuple<A: Allocator>(tuple: &Tuple<A>) -> u64
     ensures { result ≡ tuple_print tuple.now }
 {
     match tuple.get(1) {
@@ -17,13 +86,13 @@ pub fn print_of_tuple<A: Allocator>(tuple: &Tuple<A>) -> u64
     }
 }
 
-/// The print of the tuples that a template matches, if all have the same one.
-pub fn print_of_template<A: Allocator>(template: &Template<A>) -> Option<u64>
-    ensures { TellsMatches template.now result }
+// No template with a first field matches the tuple that has no values.
+fn first_kind<A: Allocator>(tuple: &Tuple<A>) -> Kind
+    ensures { result ≡ first_kind tuple.now }
 {
-    match template.get(1) {
-        Some(Field::Actual(atom)) => Some(print_of(atom)),
-        _ => None,
+    match tuple.get(0) {
+        Some(value) => value.kind(),
+        None => Kind::Tuple,
     }
 }
 

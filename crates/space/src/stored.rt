@@ -5,11 +5,11 @@ ghost use Rattle.std.specs.Option.{option_copied};
 ghost use Rattle.std.specs.Ordering.{nat_cmp};
 ghost use Rattle.std.specs.Map.{lookup, remove_entry};
 ghost use Rattle.std.specs.BTreeMap.{is_at, insert_entry};
-ghost use Rattle.space.specs.Prints.{IsUnlike, HasOtherPrint};
+ghost use Rattle.space.specs.Prints.{HasOtherLabel};
 ghost use Rattle.space.specs.Stored.{LiesAt, LeadsTo};
 
 use crate::place_table::PlaceTable;
-use crate::prints::print_of_tuple;
+use crate::prints::{Label, Wanted, is_of, is_of_other, label_of};
 use std::alloc::Global;
 use std::collections::BTreeMap;
 use std::marker::Model;
@@ -22,14 +22,14 @@ use tuple_tree::Tuple;
 pub struct Stored {
     // In the order in which they were put in, but for the last one, which takes the place of one that is taken.
     entries: Vec<(u64, Tuple<Global>)>,
-    // The print of each tuple. Most that don't match are told by it, and not looked at.
-    prints: Vec<u64>,
+    // The label of each tuple. Most that don't match are told by it, and not looked at.
+    labels: Vec<Label>,
     // Where the tuple of a birth lies. Each place is looked at before it is believed.
     places: PlaceTable,
 }
 
 impl Model for Stored {
-    ghost use Rattle.space.specs.Stored.{StoredTuples, stored_code, in_order, ArePrinted};
+    ghost use Rattle.space.specs.Stored.{StoredTuples, stored_code, in_order, AreLabelled};
 
     ghost Value = { StoredTuples };
 
@@ -37,7 +37,7 @@ impl Model for Stored {
 
     ghost view = { λ a. record { entries = in_order a.entries.items } };
 
-    ghost invariant = { λ a. ArePrinted a.entries.items a.prints.items };
+    ghost invariant = { λ a. AreLabelled a.entries.items a.labels.items };
 }
 
 impl Stored {
@@ -47,7 +47,7 @@ impl Stored {
     {
         Stored {
             entries: Vec::new(alloc),
-            prints: Vec::new(alloc),
+            labels: Vec::new(alloc),
             places: PlaceTable::new(alloc),
         }
     }
@@ -93,20 +93,30 @@ impl Stored {
         }
     }
 
-    /// Passes the tuple of a birth if it lies at the place `near`, a print is wanted, and the tuple has another one.
-    /// Then `near` is the place behind it.
-    pub fn passes(&self, birth: u64, near: &mut usize, wanted: Option<u64>) -> bool
-        ensures { IsTrue result → HasOtherPrint wanted birth self.now.entries }
+    /// Turns to the place that was noted for a birth, unless its tuple lies at the place `near`.
+    pub fn turn_to(&self, birth: u64, near: &mut usize) {
+        match self.labels.get(*near) {
+            Some(label) if is_of(label, birth) => {}
+            _ => *near = self.places.near(birth),
+        }
+    }
+
+    /// Passes the tuple of a birth if it lies at the place `near`, and its label tells something else than what is
+    /// wanted. Then `near` is the place behind it.
+    pub fn passes(&self, birth: u64, near: &mut usize, wanted: Wanted) -> bool
+        ensures { IsTrue result → HasOtherLabel wanted birth self.now.entries }
     {
         let place = *near;
-        if !lies_at(self.entries.as_slice(), birth, place) {
-            return false;
+        match self.labels.get(place) {
+            Some(label) => {
+                if !is_of_other(label, birth, wanted) {
+                    return false;
+                }
+                *near = place.saturating_add(1);
+                true
+            }
+            None => false,
         }
-        if !is_unlike(self.prints[place], wanted) {
-            return false;
-        }
-        *near = place.saturating_add(1);
-        true
     }
 
     /// Puts a tuple in at a birth above all others. An `Err` changes nothing.
@@ -116,9 +126,9 @@ impl Stored {
             (self.new.entries ≡ insert_entry nat_cmp self.old.entries birth tuple) }
         ensures err { OnErr result (self.new ≡ self.old) }
     {
-        make_room(&mut self.entries, &mut self.prints)?;
+        make_room(&mut self.entries, &mut self.labels)?;
         let place = self.entries.len();
-        self.prints.push_reserved(print_of_tuple(&tuple));
+        self.labels.push_reserved(label_of(birth, &tuple));
         self.entries.push_reserved((birth, tuple));
         self.places.note(birth, place, self.entries.as_slice());
         Ok(())
@@ -133,7 +143,7 @@ impl Stored {
         match place_of(self.entries.as_slice(), &self.places, birth, 0) {
             Some(place) => {
                 let (_, tuple) = self.entries.swap_remove(place);
-                self.prints.swap_remove(place);
+                self.labels.swap_remove(place);
                 move_place(&mut self.places, birth, self.entries.as_slice(), place);
                 Some(tuple)
             }
@@ -142,25 +152,18 @@ impl Stored {
     }
 }
 
-// Makes room for one more entry and its print.
-fn make_room(entries: &mut Vec<(u64, Tuple<Global>)>, prints: &mut Vec<u64>) -> Result<(), NoMemory>
+// Makes room for one more entry and its label.
+fn make_room(
+    entries: &mut Vec<(u64, Tuple<Global>)>,
+    labels: &mut Vec<Label>,
+) -> Result<(), NoMemory>
     ensures entries { entries.new.items ≡ entries.old.items }
-    ensures prints { prints.new.items ≡ prints.old.items }
+    ensures labels { labels.new.items ≡ labels.old.items }
     ensures room { OnOk result (vec_len entries.new < vec_capacity entries.new) }
-    ensures prints_room { OnOk result (vec_len prints.new < vec_capacity prints.new) }
+    ensures labels_room { OnOk result (vec_len labels.new < vec_capacity labels.new) }
 {
     entries.reserve(1)?;
-    Ok(prints.reserve(1)?)
-}
-
-// Whether a print is wanted, and this is another one.
-fn is_unlike(print: u64, wanted: Option<u64>) -> bool
-    ensures { IsTrue result → IsUnlike wanted print }
-{
-    match wanted {
-        Some(wanted) => print != wanted,
-        None => false,
-    }
+    Ok(labels.reserve(1)?)
 }
 
 // Forgets a birth, and notes which entry lies at its place now.

@@ -16,7 +16,9 @@ use Rattle.reply_cache.specs.contracts.cache.ReplyCache as cache
 use Rattle.reply_cache.specs.contracts.cache.ReplyCache.TheInside as in_cache
 use Rattle.space.proofs.index.Index.TheSendSync.{the_send as index_send}
 use Rattle.space.proofs.place_table.PlaceTable.TheSendSync.{the_send as places_send}
+use Rattle.space.proofs.prints.Label.TheSendSync.{the_send as label_send}
 use Rattle.space.proofs.version.Version.TheSendSync.{the_send as version_send}
+use Rattle.space.specs.contracts.prints.Label as label
 use Rattle.space.specs.contracts.stored.Stored as stored
 use Rattle.space.specs.contracts.stored.Stored.TheInside as in_stored
 use Rattle.space.specs.contracts.tuples.Space as space
@@ -64,7 +66,7 @@ in_stored_send : IsSend in_stored.the_row
 in_stored_send = declared_send in_stored.the_type (
   vec_field (Tuple entry_parts) entry_send,
   (
-    vec_field u64 (search sendable),
+    vec_field label.the_row (search (sendable, label_send)),
     (
       search (sendable, places_send),
       tt,

@@ -3,21 +3,21 @@ use Rattle.std.specs.Prelude.{All, ◌==◌}
 use Rattle.std.specs.Map.{lookup}
 use Rattle.std.specs.Ordering.{nat_cmp}
 use Rattle.std.specs.BTreeMap.{insert_entry}
-use Rattle.space.specs.Prints.{entry_print}
+use Rattle.space.specs.Prints.{entry_label}
 use Rattle.space.specs.Stored.{AreApart}
 use Rattle.space.proofs.InOrder.{Puts, inserted_in_order}
 use Rattle.space.proofs.Places.{newest_is_new, put_last, distinct_more}
-use Rattle.space.proofs.Printed.{prints_more, printed_same}
+use Rattle.space.proofs.Printed.{labels_more, labelled_same}
 use Rattle.space.proofs.stored.Stored.insert.Goals as goal
 
 pub invariant_of-self : goal.invariant_of-self
-invariant_of-self c = printed_same _ _ _ _ c.make_room.ensures.entries c.make_room.ensures.prints c.self.invariant
+invariant_of-self c = labelled_same _ _ _ _ c.make_room.ensures.entries c.make_room.ensures.labels c.self.invariant
 
 pub same-tuple : goal.same-tuple
 same-tuple c = refl
 
 pub push_reserved-requires : goal.push_reserved-requires
-push_reserved-requires c = (c.in_ok-make_room.ensures {u = tt}).prints_room
+push_reserved-requires c = (c.in_ok-make_room.ensures {u = tt}).labels_room
 
 pub push_reserved-requires-2 : goal.push_reserved-requires-2
 push_reserved-requires-2 c = (c.in_ok-make_room.ensures {u = tt}).room
@@ -32,9 +32,9 @@ invariant_of-self-2 c =
     record {
       apart = subst AreApart (sym pushed) (distinct_more es new c.args.tuple c.self.invariant.apart none_there);
       kept =
-          c.push_reserved.ensures.items ∙ ap (λ ps. ps ++ c.print_of_tuple.result ∷ []) c.make_room.ensures.prints
-          ∙ ap (λ n. c.self.inside.prints.items ++ n ∷ []) c.print_of_tuple.ensures
-          ∙ prints_more es c.self.inside.prints.items (new, c.args.tuple) c.self.invariant.kept ∙ ap (map entry_print) (sym pushed);
+          c.push_reserved.ensures.items ∙ ap (λ ps. ps ++ c.label_of.result ∷ []) c.make_room.ensures.labels
+          ∙ ap (λ n. c.self.inside.labels.items ++ n ∷ []) c.label_of.ensures
+          ∙ labels_more es c.self.inside.labels.items (new, c.args.tuple) c.self.invariant.kept ∙ ap (map entry_label) (sym pushed);
     }
 
 pub returns-clause-entries : goal.returns-clause-entries

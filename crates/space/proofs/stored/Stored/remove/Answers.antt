@@ -3,10 +3,10 @@ use Rattle.std.specs.Prelude.{◌==◌}
 use Rattle.std.specs.Ordering.{nat_cmp}
 use Rattle.std.specs.Map.{lookup, remove_entry}
 use Rattle.std.specs.BTreeMap.{is_at}
-use Rattle.space.specs.Prints.{entry_print}
+use Rattle.space.specs.Prints.{entry_label}
 use Rattle.space.specs.Stored.{LiesAt, AreApart}
 use Rattle.space.proofs.InOrder.{Puts, lookup-in_order, removed_in_order}
-use Rattle.space.proofs.Printed.{as_many, prints_left}
+use Rattle.space.proofs.Printed.{as_many, labels_left}
 use Rattle.space.proofs.Places.{there, found_there, taken_out, distinct_left, nothing_out}
 use Rattle.space.proofs.stored.Stored.remove.Goals as goal
 
@@ -14,7 +14,7 @@ pub swap_remove-requires : goal.swap_remove-requires
 swap_remove-requires c =
     let es = c.self.inside.entries.items in
     let here : LiesAt es c.args.birth c.in-Some.place = subst (λ xs. LiesAt xs c.args.birth c.in-Some.place) c.as_slice.ensures.value c.in-Some.ensures in
-    let many = as_many es c.self.inside.prints.items c.self.invariant.kept in
+    let many = as_many es c.self.inside.labels.items c.self.invariant.kept in
     let within = here.within in
     omega arith
 
@@ -27,8 +27,8 @@ invariant_of-self c =
           subst AreApart (sym c.swap_remove-tuple.ensures.items)
           (distinct_left es c.in-Some.place c.swap_remove-tuple.result c.self.invariant.apart here.within c.swap_remove-tuple.ensures.value);
       kept =
-          c.swap_remove.ensures.items ∙ prints_left es c.self.inside.prints.items c.in-Some.place c.swap_remove-tuple.result c.swap_remove.result c.self.invariant.kept here.within
-          ∙ ap (map entry_print) (sym c.swap_remove-tuple.ensures.items);
+          c.swap_remove.ensures.items ∙ labels_left es c.self.inside.labels.items c.in-Some.place c.swap_remove-tuple.result c.swap_remove.result c.self.invariant.kept here.within
+          ∙ ap (map entry_label) (sym c.swap_remove-tuple.ensures.items);
     }
 
 pub returns-in-Some-clause-value : goal.returns-in-Some-clause-value

@@ -1,7 +1,0 @@
-use Rattle.std.proofs.Common.{sym, ◌∙◌}
-use Rattle.tuple_tree.specs.AtomView.{datum_of}
-use Rattle.space.proofs.Printed.{print_matches}
-use Rattle.space.proofs.prints.print_of_template.Goals as goal
-
-pub returns-in-Some-Actual : goal.returns-in-Some-Actual
-returns-in-Some-Actual g c = λ t h unlike. unlike (print_matches c.args.template.now t (datum_of c.in-Some-Actual.atom) (sym (rw c.in-Some-Actual.field-0-is at c.in-Some-Actual.ensures)) h ∙ sym c.print_of.ensures)
