@@ -22,9 +22,9 @@ fn match_at<'a, A: Allocator>(
     birth: u64,
     near: &mut usize,
     template: &Template<A>,
-    wanted: Wanted,
+    wanted: &Wanted,
 ) -> Option<&'a Tuple<Global>>
-    requires { TellsMatches template.now wanted }
+    requires { TellsMatches template.now wanted.now }
     ensures { IsMatchAt template.now tuples.now.entries birth result }
 {
     if tuples.passes(birth, near, wanted) {
@@ -44,9 +44,9 @@ fn match_found<'a, A: Allocator>(
     birth: u64,
     near: &mut usize,
     template: &Template<A>,
-    wanted: Wanted,
+    wanted: &Wanted,
 ) -> Option<&'a Tuple<Global>>
-    requires { TellsMatches template.now wanted }
+    requires { TellsMatches template.now wanted.now }
     ensures { IsMatchAt template.now tuples.now.entries birth result }
 {
     tuples.turn_to(birth, near);
@@ -76,7 +76,7 @@ pub fn oldest_match<'a, A: Allocator>(
     let wanted = wanted_by(template);
     let mut near = 0;
     for birth in births {
-        if let Some(tuple) = match_at(tuples, *birth, &mut near, template, wanted) {
+        if let Some(tuple) = match_at(tuples, *birth, &mut near, template, &wanted) {
             return Some((*birth, tuple));
         }
     }
@@ -101,7 +101,7 @@ pub fn copies_of_matches<A: Allocator>(
         if copies.len() >= max.count as usize {
             return Ok(copies);
         }
-        if let Some(tuple) = match_at(tuples, *birth, &mut near, template, wanted) {
+        if let Some(tuple) = match_at(tuples, *birth, &mut near, template, &wanted) {
             let copy = tuple.copy_in(alloc)?;
             copies.push(copy)?;
         }
@@ -127,7 +127,7 @@ pub fn seen_matches<'a, A: Allocator>(
         if seen.len() >= max.count as usize {
             return Ok(seen);
         }
-        if let Some(tuple) = match_at(tuples, *birth, &mut near, template, wanted) {
+        if let Some(tuple) = match_at(tuples, *birth, &mut near, template, &wanted) {
             // The first one takes the room of all.
             seen.reserve(max.count as usize - seen.len())?;
             seen.push_reserved(tuple);
@@ -153,7 +153,7 @@ pub fn births_of_matches<A: Allocator>(
         if matched.len() >= max.count as usize {
             return matched;
         }
-        if let Some(_tuple) = match_at(tuples, *birth, &mut near, template, wanted) {
+        if let Some(_tuple) = match_at(tuples, *birth, &mut near, template, &wanted) {
             matched.push(*birth);
         }
     }

@@ -36,9 +36,9 @@ pub fn label_of<A: Allocator>(birth: u64, tuple: &Tuple<A>) -> Label
 }
 
 /// Whether this is the label of a birth, and tells something else than what is wanted.
-pub fn is_of_other(label: &Label, birth: u64, wanted: Wanted) -> bool
+pub fn is_of_other(label: &Label, birth: u64, wanted: &Wanted) -> bool
     ensures birth { IsTrue result → label.now.birth ≡ birth }
-    ensures other { IsTrue result → IsUnlike wanted label.now }
+    ensures other { IsTrue result → IsUnlike wanted.now label.now }
 {
     label.birth == birth && is_unlike(label, wanted)
 }
@@ -67,13 +67,13 @@ fn wanted_first<A: Allocator>(template: &Template<A>) -> Wanted
     }
 }
 
-fn is_unlike(label: &Label, wanted: Wanted) -> bool
-    ensures { IsTrue result → IsUnlike wanted label.now }
+fn is_unlike(label: &Label, wanted: &Wanted) -> bool
+    ensures { IsTrue result → IsUnlike wanted.now label.now }
 {
     match wanted {
         Wanted::Anything => false,
-        Wanted::First(kind) => label.first != kind,
-        Wanted::Second(number) => label.second != number,
+        Wanted::First(kind) => label.first != *kind,
+        Wanted::Second(number) => label.second != *number,
     }
 }
 

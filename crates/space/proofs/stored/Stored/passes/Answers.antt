@@ -14,6 +14,6 @@ returns-else-not-is_of_other c = λ _ t h.
     let there = c.in-Some.ensures.lookup.3 in
     let low : place < length labels = subst (λ ls. place < length ls) is there.0 in
     let at : label ≡ get_or labels place label = there.1 label ∙ ap (λ ls. get_or ls place label) is in
-    unlike_there c.self.inside.entries.items labels place c.args.birth c.args.wanted label c.self.invariant.apart c.self.invariant.kept low at
+    unlike_there c.self.inside.entries.items labels place c.args.birth c.args.wanted.now label c.self.invariant.apart c.self.invariant.kept low at
     (c.is_of_other.ensures.birth c.if-not-is_of_other.false) (c.is_of_other.ensures.other c.if-not-is_of_other.false) t
     (ap (λ s. lookup (is_at (nat_cmp c.args.birth)) s.entries) c.self.view_is ∙ h)
