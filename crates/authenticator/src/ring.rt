@@ -1,6 +1,6 @@
 //! The keys of all parties, derived from one seed.
 
-ghost use Rattle.std.specs.Prelude.{◌≡◌, ◌∷◌, ◌++◌, ◌<◌};
+ghost use Rattle.std.specs.Prelude.{◌≡◌, ◌∷◌, ◌++◌, ◌<◌, IfSome};
 ghost use Rattle.std.specs.Int.{w16, to_be_bytes};
 ghost use Rattle.authenticator.specs.Mac.{block_key};
 ghost use Rattle.authenticator.specs.Keys.{key_between, mac_between, signing_seed};
@@ -16,27 +16,39 @@ use std::marker::Model;
 use terms::{FIRST_CLIENT, Party};
 use wire::{Body, Message};
 
-/// The keys between the parties of one configuration. The ring derives each when it first needs it, and keeps it.
+/// A text with its authentication code.
+#[derive(Drop)]
+pub struct CodedText {
+    text: Vec<u8>,
+    code: [u8; 32],
+}
+
+/// The keys between the parties of one configuration. The ring derives each when it first needs it, and keeps it. It
+/// also keeps the last genuine request of each client, since a replica hears most requests twice: from the client, and
+/// in the batch that orders them.
 #[derive(Drop)]
 pub struct Ring {
+    alloc: Global,
     seed: [u8; 32],
     faults: u8,
     clients: u16,
     source: Key,
     kept: HashMap<(u16, u16), Key>,
+    requests: HashMap<(u16, u16), CodedText>,
 }
 
 impl Model for Ring {
     ghost use Rattle.std.specs.Prelude.{◌≡◌};
     ghost use Rattle.authenticator.specs.Mac.{block_key};
-    ghost use Rattle.authenticator.specs.Kept.{KeysFit};
+    ghost use Rattle.authenticator.specs.Kept.{CodesFit, KeysFit};
     ghost use Rattle.authenticator.specs.Membership.{Membership};
 
     ghost Value = { Membership };
 
     ghost view = { λ r. record { seed = r.seed; faults = r.faults; clients = r.clients } };
 
-    ghost invariant = { λ r. (block_key r.seed ≡ r.source) × KeysFit r.seed r.kept };
+    ghost invariant = { λ r.
+        (block_key r.seed ≡ r.source) × KeysFit r.seed r.kept × CodesFit r.seed r.requests };
 }
 
 impl Ring {
@@ -47,11 +59,13 @@ impl Ring {
         ensures { result ≡ record { seed = seed.now; faults = faults; clients = clients } }
     {
         Ring {
+            alloc,
             seed: *seed,
             faults,
             clients,
             source: Key::new(seed),
             kept: HashMap::new(alloc),
+            requests: HashMap::new(alloc),
         }
     }
 
@@ -100,6 +114,29 @@ impl Ring {
         // If there is no room for a key, it is derived again at the next use.
         let _ = self.kept.insert((from, to), key);
         code
+    }
+
+    /// The authentication code of a request's text from one party to another, if it is the last that was kept.
+    pub(crate) fn kept_code(&self, from: u16, to: u16, text: &[u8]) -> Option<[u8; 32]>
+        ensures { IfSome result (λ code. code ≡ mac_between self.now.seed from to text.now) }
+    {
+        let last = self.requests.get(&(from, to))?;
+        if last.text.as_slice() != text {
+            return None;
+        }
+        Some(last.code)
+    }
+
+    /// Keeps a request's text with its code, instead of the last one between these parties.
+    pub(crate) fn keep_code(&mut self, from: u16, to: u16, text: &[u8], code: [u8; 32])
+        requires { code ≡ mac_between self.old.seed from to text.now }
+        ensures { self.new ≡ self.old }
+    {
+        // If there is no room for it, the code is made again at the next use.
+        let Ok(text) = Vec::from_slice(self.alloc, text) else {
+            return;
+        };
+        let _ = self.requests.insert((from, to), CodedText { text, code });
     }
 }
 

@@ -8,6 +8,7 @@ ghost use Rattle.authenticator.specs.Sealing.{IsSealable};
 ghost use Rattle.terms.specs.Parties.{party_number};
 ghost use Rattle.wire.specs.Views.{body_data, mac_data};
 ghost use Rattle.authenticator.specs.Authentic.{has_mac, is_mac_for};
+ghost use Rattle.authenticator.specs.Keys.{mac_between};
 ghost use Rattle.authenticator.specs.Opening.{Refuses};
 ghost use Rattle.authenticator.specs.Headers.{is_authenticated};
 ghost use Rattle.wire.specs.Headers.{header_data};
@@ -165,7 +166,7 @@ impl Ring {
     }
 
     /// Why `me` refuses a frame of this header, if it does: the sender is unknown, or else the MAC is wrong.
-    /// Signatures are not tested here. It takes no memory except for the keys that the ring keeps.
+    /// Signatures are not tested here. It takes no memory except for the keys and requests that the ring keeps.
     pub fn refusal(&mut self, header: &Header<'_>, me: Party) -> Option<OpenFault>
         ensures value { result ≡ refusal_of self.old me header.now }
         ensures same { self.new ≡ self.old }
@@ -186,11 +187,38 @@ impl Ring {
     {
         match &header.authenticator {
             AuthenticatorBytes::Macs(entries) => {
-                let mac = self.mac(header.sender.number(), party, header.text);
+                let sender = header.sender.number();
+                if header.is_request {
+                    return self.proves_request(sender, party, header.text, entries);
+                }
+                let mac = self.mac(sender, party, header.text);
                 has_mac(entries, party, &mac)
             },
             AuthenticatorBytes::Signature(_) => true,
         }
+    }
+
+    // Whether an entry for the party is the MAC of a client's request. The MAC of the client's last request that was
+    // right is kept, and not made again.
+    fn proves_request(
+        &mut self,
+        client: u16,
+        party: u16,
+        text: &[u8],
+        entries: &MacBytes<'_>,
+    ) -> bool
+        ensures value { result ≡ has_mac party (mac_between self.old.seed client party text.now) entries.now }
+        ensures same { self.new ≡ self.old }
+    {
+        if let Some(mac) = self.kept_code(client, party, text) {
+            return has_mac(entries, party, &mac);
+        }
+        let mac = self.mac(client, party, text);
+        if !has_mac(entries, party, &mac) {
+            return false;
+        }
+        self.keep_code(client, party, text, mac);
+        true
     }
 }
 

@@ -42,8 +42,8 @@ pub fn hear<'b>(
     Ok(HeardFrame { bytes, body })
 }
 
-/// Whether `me` hears something from the bytes: then [`hear`] gives a frame, unless memory runs out. The bytes are judged
-/// where they lie: nothing is decoded, and no memory is taken but for the keys that the ring keeps.
+/// Whether `me` hears something from the bytes: then [`hear`] gives a frame, unless memory runs out. The bytes are
+/// judged where they lie: nothing is decoded, and no memory is taken but for the keys and requests that the ring keeps.
 pub fn hears(ring: &mut Ring, publics: &PublicKeys, bytes: &[u8], me: Party) -> bool
     requires { publics.now ≡ ring.old.seed }
     ensures heard { result ≡ is_some (heard ring.old (party_number me) bytes.now) }

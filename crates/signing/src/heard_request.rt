@@ -20,7 +20,7 @@ pub struct HeardRequest<'b> {
 }
 
 /// The request that the replica hears from bytes with the type of requests. They are judged in their place: nothing is
-/// decoded, and only the keys that the ring keeps take memory.
+/// decoded, and only the keys and requests that the ring keeps take memory.
 pub fn hear_request<'b>(ring: &mut Ring, me: ReplicaId, bytes: &'b [u8]) -> Option<HeardRequest<'b>>
     requires { has_type_of_requests bytes.now ≡ true }
     ensures some { IfSome result (HearsRequest ring.old me.0 bytes.now) }
