@@ -2,7 +2,7 @@
 
 ghost use Rattle.std.specs.Prelude.{◌≡◌, ◌≢◌, ◌↔◌, ◌+◌, ◌*◌, ◌<◌, ◌≤◌, true, false, Some, IfOk, IfErr, IfSome, IsNone, OnOk};
 ghost use Rattle.wire.specs.Marks.{has_type_of_requests};
-ghost use Rattle.wire.specs.Spelling.{IsMessage, is_signed};
+ghost use Rattle.wire.specs.Spelling.{IsBatch, IsMessage, is_signed};
 ghost use Rattle.wire.specs.Views.{message_data};
 ghost use Rattle.authenticator.specs.Keys.{signing_seed};
 ghost use Rattle.authenticator.specs.declared.sealed.SealFault.TheVariants as SealFault;
@@ -22,7 +22,7 @@ use signing::{HeardRequest, PublicKeys, Signer, hear_request};
 use std::alloc::Global;
 use std::marker::Model;
 use terms::{NoMemory, Party, ReplicaId};
-use wire::{Batch, Body, Message, requests};
+use wire::{Batch, Body, Message, split_batch};
 
 /// The part of a replica that authenticates received frames, and makes those that it sends.
 #[derive(Drop)]
@@ -89,7 +89,7 @@ impl Endpoint {
     }
 
     /// The request that the replica hears from bytes with the type of requests. Nothing is decoded, and no memory is
-    /// taken but for the keys that the endpoint keeps.
+    /// taken but for the keys and requests that the endpoint keeps.
     pub fn hear_request<'b>(&mut self, bytes: &'b [u8]) -> Option<HeardRequest<'b>>
         requires { has_type_of_requests bytes.now ≡ true }
         ensures some { IfSome result (HearsRequest self.old.membership self.old.me bytes.now) }
@@ -100,12 +100,13 @@ impl Endpoint {
     }
 
     /// Whether each request of the batch is genuine: the replica hears it. Nothing is decoded, and no memory is taken
-    /// but for the keys that the endpoint keeps.
+    /// but for the keys and requests that the endpoint keeps.
     pub fn are_genuine(&mut self, batch: &Batch) -> bool
+        requires { IsBatch 1 batch.now.text.items }
         ensures genuine { TellsGenuine self.old batch.now result }
         ensures same { self.new ≡ self.old }
     {
-        let frames = requests(&batch.text);
+        let frames = split_batch(&batch.text);
         hears_all(&mut self.ring, &self.publics, self.me, frames.as_slice())
     }
 

@@ -3,7 +3,7 @@
 ghost use Rattle.std.specs.Prelude.{◌≡◌, ◌↔◌, ◌≤◌, IsTrue, length, map, IfOk};
 ghost use Rattle.wire.specs.Lists.{Each};
 ghost use Rattle.wire.specs.Reading.{requests_at, request_frame_at};
-ghost use Rattle.wire.specs.Spelling.{IsCarried, is_ordered_request, pieces_spelling};
+ghost use Rattle.wire.specs.Spelling.{IsBatch, IsCarried, is_ordered_request, pieces_spelling};
 ghost use Rattle.wire.specs.Words.{requests_of};
 ghost use Rattle.wire.specs.Giving.{YieldsFront};
 ghost use Rattle.wire.specs.Views.{texts_of, batch_text};
@@ -54,6 +54,27 @@ pub fn requests(text: &[u8]) -> ArrayVec<&[u8], MAX_REQUESTS>
     } else {
         ArrayVec::new()
     }
+}
+
+/// The request frames of a batch's text, as by [`requests`]. The text is known to be a batch's, so it is split by the
+/// lengths in it, and nothing is judged again.
+pub fn split_batch(text: &[u8]) -> ArrayVec<&[u8], MAX_REQUESTS>
+    requires { IsBatch 0 text.now }
+    ensures { map (λ frame. frame.now) result.items ≡ requests_of text.now }
+{
+    let Some((count, front)) = read_byte(text) else {
+        unreachable!()
+    };
+    let mut requests = ArrayVec::new();
+    let mut rest = front;
+    for _i in 0..count {
+        let Some((frame, after)) = read_piece(rest) else {
+            unreachable!()
+        };
+        requests.push(frame);
+        rest = after;
+    }
+    requests
 }
 
 fn read_request(bytes: &[u8]) -> Option<(&[u8], &[u8])>

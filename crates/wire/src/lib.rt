@@ -8,9 +8,10 @@
 //! `decode_judged_body` gives the body alone. `encode`, `begin_frame`, `put_authenticator` and `encode_frame` write
 //! the spelling; `body_bytes` is the slice that a MAC or a signature authenticates.
 //!
-//! `request_in` gives the fields of a request out of the bytes of its frame. `requests` gives the frames of a batch's text, and `Batch::of` the text of frames. Laws: `one_spelling` (no frame
-//! begins another), `reads_what_is_spelled`, `carries_frames` (a message carries whole frames, and none is left out).
-//! This crate only carries signatures.
+//! `request_in` gives the fields of a request out of the bytes of its frame. `requests` gives the frames of a batch's
+//! text, `split_batch` those of a text that was judged before, and `Batch::of` the text of frames. Laws: `one_spelling`
+//! (no frame begins another), `reads_what_is_spelled`, `carries_frames` (a message carries whole frames, and none is
+//! left out). This crate only carries signatures.
 #![tactic(auto)]
 
 mod authenticators;
@@ -35,7 +36,7 @@ mod request_bytes;
 mod sealing;
 mod sizes;
 
-pub use batches::{is_ordered_request, requests};
+pub use batches::{is_ordered_request, requests, split_batch};
 pub use bodies::encode;
 pub use carried::MAX_REQUESTS;
 pub use decoding::{decode, decode_judged, decode_judged_body};

@@ -1,11 +1,17 @@
-use Rattle.std.proofs.Common.{◌≡◌, ◌∙◌, ap, subst, ℕ, List}
+use Rattle.std.proofs.Common.{◌≡◌, ◌∙◌, ap, sym, arith, subst, ℕ, List}
+use Rattle.wire.specs.Spelling.{IsBatch}
 use Rattle.wire.specs.Words.{requests_of}
 use Rattle.posting.specs.Endpoint.{are_heard}
 use Rattle.posting.specs.Frames.{texts}
 use Rattle.posting.proofs.endpoint.Endpoint.are_genuine.Goals as goal
 
+pub split_batch-frames-requires : goal.split_batch-frames-requires
+split_batch-frames-requires c =
+    let batch = subst (IsBatch 1) (sym c.deref.ensures.value) c.requires in
+    record { requests = batch.requests; whole = batch.whole; enough = omega arith; few = batch.few; each = batch.each }
+
 pub returns-clause-genuine : goal.returns-clause-genuine
 returns-clause-genuine c =
-    let e : texts c.as_slice.result.now ≡ requests_of c.args.batch.now.text.items = ap texts c.as_slice.ensures.value ∙ c.requests-frames.ensures.frames ∙ ap requests_of c.deref.ensures.value in
+    let e : texts c.as_slice.result.now ≡ requests_of c.args.batch.now.text.items = ap texts c.as_slice.ensures.value ∙ c.split_batch-frames.ensures ∙ ap requests_of c.deref.ensures.value in
     rw (← c.self.view_is)
     (subst (λ (xs : List (List ℕ)). c.hears_all.result ≡ are_heard c.self.inside.ring c.self.inside.me.0 xs) e c.hears_all.ensures.heard)
