@@ -6,8 +6,8 @@ use Rattle.tuple_tree.specs.Items.{Items, levels_of}
 use Rattle.tuple_tree.specs.Limits.{IsWithin}
 use Rattle.tuple_tree.specs.Values.{IsDatum, IsSlot, datum_length, slot_length, TupleTree, TemplateTree}
 use Rattle.tuple_codec.specs.Operations.{Operation, out, rdp, inp, cas, rd_all, in_all, upgrade, IsOperation}
-use Rattle.tuple_text.specs.declared.reader.Verb.{Verb}
-use Rattle.tuple_text.specs.declared.reader.Verb.TheVariants.{Rd, In}
+use Rattle.tuple_text.specs.declared.verbs.Verb.{Verb}
+use Rattle.tuple_text.specs.declared.verbs.Verb.TheVariants.{Rd, In}
 use Rattle.tuple_text.specs.Texts.{AreBlanks}
 use Rattle.tuple_text.specs.Lines.{LineText, IsLine, IsSkipped, IsComment, name}
 use Rattle.tuple_text.specs.Faults.{AnyOperation, KeepsCount, KeepsBoth, EndsTooLong, Passes, StopsAt, IsBadAt, Faults}

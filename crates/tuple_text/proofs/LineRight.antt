@@ -10,8 +10,8 @@ use Rattle.tuple_text.specs.Texts.{AreBlanks, WholeText, datum_text, slot_text}
 use Rattle.tuple_text.specs.Lines.{EachLeaf, LineText, name, arguments, ArgumentsText}
 use Rattle.tuple_text.specs.Faults.{KeepsCount, KeepsLevels, KeepsBoth, EndsTooLong, ArgumentsClosed, argument_lengths}
 use Rattle.tuple_text.specs.Reading.{◌>>=◌, nothing, look, blanks, positive, datum, slot, begins_datum, begins_slot, tuple, template, argument, ended, out_line, cas_line, upgrade_line, letters, one_of, all_of, one_line, all_line, verb_line, operation, line}
-use Rattle.tuple_text.specs.declared.reader.Verb.{Verb}
-use Rattle.tuple_text.specs.declared.reader.Verb.TheVariants.{Rd, In}
+use Rattle.tuple_text.specs.declared.verbs.Verb.{Verb}
+use Rattle.tuple_text.specs.declared.verbs.Verb.TheVariants.{Rd, In}
 use Rattle.tuple_text.proofs.Right.{Limits, both, levels, no_limits, RightTo, Never, then_to, look_right, nothing_right}
 use Rattle.tuple_text.proofs.Blanks.{ArePassed, BeginsBlanks, blanks_right}
 use Rattle.tuple_text.proofs.Numbers.{IsPositive, positive_right}

@@ -6,8 +6,8 @@ use Rattle.tuple_tree.specs.Values.{number, text, bytes, truth, wide, actual, an
 use Rattle.tuple_tree.specs.declared.atoms.Kind.{Kind}
 use Rattle.tuple_tree.specs.declared.atoms.Kind.TheVariants as kinds
 use Rattle.tuple_codec.specs.Operations.{Operation, out, cas, upgrade}
-use Rattle.tuple_text.specs.declared.reader.Verb.{Verb}
-use Rattle.tuple_text.specs.declared.reader.Verb.TheVariants.{Rd, In}
+use Rattle.tuple_text.specs.declared.verbs.Verb.{Verb}
+use Rattle.tuple_text.specs.declared.verbs.Verb.TheVariants.{Rd, In}
 use Rattle.tuple_text.specs.Reading.{got, stop, Reading, ◌>>=◌, nothing, look, blanks, word, named, gap, finish, digits, positive, MOST, MOST_WIDE, signed, numeral, wide_numeral, quoted, byte_string, truth_or_number, datum, kind_b, kind_t, kind, formal_slot, actual_slot, slot, begins_datum, begins_slot, full, follows, turn, items, no_room, kept_with, leaf_item, list, item_at, items_at, close, whole, tuple, template, argument, ending, ended, out_line, cas_line, upgrade_line, letters, one_of, all_of, one_line, all_line, verb_line, operation, line}
 use Rattle.tuple_text.specs.declared.reader.Stop.{Stop}
 use Rattle.tuple_text.specs.Literals.{text_literal, bytes_literal}

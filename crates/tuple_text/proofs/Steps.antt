@@ -3,6 +3,7 @@ use Rattle.std.proofs.Common.{◌≡◌, ◌≢◌, ℕ, zero, suc, ◌+◌, ◌
 use Rattle.std.proofs.lemmas.Bool.{eqb-true, eq-eqb, ne_eqb}
 use Rattle.tuple_tree.specs.Items.{Item, leaf, inner, Items, none}
 use Rattle.tuple_text.specs.Reading.{Read, got, stop, Reading, ◌>>=◌, Stops, look, word, named, turn, full, further, items, opens, no_room, kept_with, leaf_item, list, item_at, items_at, datum, slot}
+use Rattle.tuple_text.specs.Parts.{adding}
 use Rattle.tuple_text.specs.declared.reader.Stop.{Stop}
 use Rattle.tuple_text.specs.declared.reader.Stop.TheVariants.{BadByte, TooDeep, TooManyFields, TooLong, NoMemory}
 
@@ -113,10 +114,16 @@ module _ {T X : Type 0} (why : ℕ → Stop) (add : T → X → T) (one : Readin
   at_item n free on t bs at whole so h e =
       goes_on n free t bs whole so ∙ ap (λ y. y >>= behind (32 - (n + 1)) t) (h ∙ ap (λ b. got b at) e)
 
-  pub one_stops : (n : ℕ) (free on : Bool) (t : T) (s : Stop) (bs at rest : List ℕ) (whole : Read T) → SoFar n free t bs whole → further why n free bs ≡ got on at → on ≡ true → Stops s (one at) rest → Stops s whole rest
+  -- an item is added before the others are read
+  by_adding : (room : ℕ) (t : T) (y : Read X)
+      → (y >>= λ x after. items why add one room false (add t x) after) ≡ ((y >>= λ x after. got (add t x) after) >>= items why add one room false)
+  by_adding room t (got x after) = refl
+  by_adding room t (stop s rest) = refl
+
+  pub one_stops : (n : ℕ) (free on : Bool) (t : T) (s : Stop) (bs at rest : List ℕ) (whole : Read T) → SoFar n free t bs whole → further why n free bs ≡ got on at → on ≡ true → Stops s (adding add one t at) rest → Stops s whole rest
   one_stops n free on t s bs at rest whole so h e k =
-      stops_as s whole (one at >>= λ x after. items why add one (32 - (n + 1)) false (add t x) after) rest (at_item n free on t bs at whole so h e)
-      (stops_through s (one at) (λ x after. items why add one (32 - (n + 1)) false (add t x) after) rest k)
+      stops_as s whole (adding add one t at >>= items why add one (32 - (n + 1)) false) rest (at_item n free on t bs at whole so h e ∙ by_adding (32 - (n + 1)) t (one at))
+      (stops_through s (adding add one t at) (items why add one (32 - (n + 1)) false) rest k)
 
   below : (b on : Bool) (y : Read Bool) (at : List ℕ) → (y >>= in_room why b) ≡ got on at → on ≡ true → b ≡ false
   unfolding full
@@ -134,13 +141,11 @@ module _ {T X : Type 0} (why : ℕ → Stop) (add : T → X → T) (one : Readin
       omega (arith, p, k)
 
   -- an item is read
-  pub one_more : (n : ℕ) (free on : Bool) (t u : T) (x : X) (bs at after : List ℕ) (whole : Read T) → SoFar n free t bs whole → further why n free bs ≡ got on at → on ≡ true → one at ≡ got x after → u ≡ add t x
+  pub one_more : (n : ℕ) (free on : Bool) (t u : T) (bs at after : List ℕ) (whole : Read T) → SoFar n free t bs whole → further why n free bs ≡ got on at → on ≡ true → adding add one t at ≡ got u after
       → SoFar (n + 1) false u after whole
-  one_more n free on t u x bs at after whole so h e r k = record {
+  one_more n free on t u bs at after whole so h e r = record {
     count = has_room n free on bs at so.count h e;
-    reads =
-        ap (λ y. items why add one (32 - (n + 1)) false y after) k
-        ∙ sym (at_item n free on t bs at whole so h e ∙ ap (λ y. y >>= λ x after. items why add one (32 - (n + 1)) false (add t x) after) r);
+    reads = sym (at_item n free on t bs at whole so h e ∙ by_adding (32 - (n + 1)) t (one at) ∙ ap (λ y. y >>= items why add one (32 - (n + 1)) false) r);
   }
 
 module _ {L : Type 0} (length_of : L → ℕ) (begins : ℕ → Bool) (leaf_at : Reading L) (empty : leaf_at [] ≡ stop BadByte []) where

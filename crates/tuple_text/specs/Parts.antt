@@ -1,10 +1,11 @@
 -- Definitions for the private methods of the reader: the parts of a tuple, and those of a template.
-use Rattle.std.specs.Prelude.{◌≡◌, ℕ, Bool, codes, Result, Option, option_map}
+use Rattle.std.specs.Prelude.{◌≡◌, ℕ, Bool, codes, Result, Ok, Err, Option, option_map}
 use Rattle.tuple_tree.specs.Items.{Item, inner, Items}
 use Rattle.tuple_tree.specs.Values.{Datum, Slot, TupleTree, TemplateTree, datum_length, slot_length}
-use Rattle.tuple_text.specs.Reading.{stop, Reading, named, datum, slot, begins_datum, begins_slot, full, further, no_room, kept_with, leaf_item, item_at, items_at, close, Gives}
+use Rattle.tuple_text.specs.Reading.{◌>>=◌, got, stop, Reading, named, datum, slot, begins_datum, begins_slot, full, further, no_room, kept_with, leaf_item, item_at, items_at, close, Gives}
 use Rattle.tuple_text.specs.declared.reader.Reader.{Reader}
 use Rattle.tuple_text.specs.declared.reader.Stop.{Stop}
+use Rattle.tuple_text.specs.declared.reader.Stop.TheVariants.{NoMemory}
 
 -- The method reads as the definition does, unless memory ran out. After it the reader has the bytes that are left.
 abbrev pub Reads : {X V : Type 0} → (X → V) → Result X Stop → Reading V → Reader → Reader → Type 0
@@ -55,6 +56,33 @@ tuple_with t v = kept_with datum_length t v
 
 abbrev pub template_with : Option TemplateTree → Option (Item Slot) → Option TemplateTree
 template_with p f = kept_with slot_length p f
+
+-- a list with the next item at its end
+abbrev pub adding : {T X : Type 0} → (T → X → T) → Reading X → T → Reading T
+adding add one t bs = one bs >>= λ x rest. got (add t x) rest
+
+abbrev pub adding_atom : Option TupleTree → Reading (Option TupleTree)
+adding_atom t = adding tuple_with plain_value t
+
+abbrev pub adding_slot : Option TemplateTree → Reading (Option TemplateTree)
+adding_slot p = adding template_with plain_slot p
+
+abbrev pub adding_tuple : Option TupleTree → Option TupleTree → Reading (Option TupleTree)
+adding_tuple nested t = adding tuple_with (closed nested) t
+
+abbrev pub adding_template : Option TemplateTree → Option TemplateTree → Reading (Option TemplateTree)
+adding_template nested p = adding template_with (closed nested) p
+
+abbrev pub adding_value : ℕ → Option TupleTree → Reading (Option TupleTree)
+adding_value levels t = adding tuple_with (value_at levels) t
+
+abbrev pub adding_field : ℕ → Option TemplateTree → Reading (Option TemplateTree)
+adding_field levels p = adding template_with (field_at levels) p
+
+-- The list is this one now, unless memory ran out.
+abbrev pub Becomes : {T : Type 0} → Result (Unit {0}) Stop → T → T → Type 0
+Becomes (Ok _) whole new = new ≡ whole
+Becomes (Err s) whole new = s ≡ NoMemory
 
 -- No further item has room here, for this reason.
 abbrev pub HasNoValueRoom : ℕ → Reader → Stop → Type 0

@@ -6,8 +6,8 @@ use Rattle.tuple_tree.specs.Values.{Datum, number, text, bytes, truth, wide, Slo
 use Rattle.tuple_tree.specs.declared.atoms.Kind.{Kind}
 use Rattle.tuple_tree.specs.declared.atoms.Kind.TheVariants as kinds
 use Rattle.tuple_codec.specs.Operations.{Operation, out, rdp, inp, cas, rd_all, in_all, upgrade}
-use Rattle.tuple_text.specs.declared.reader.Verb.{Verb}
-use Rattle.tuple_text.specs.declared.reader.Verb.TheVariants.{Rd, In}
+use Rattle.tuple_text.specs.declared.verbs.Verb.{Verb}
+use Rattle.tuple_text.specs.declared.verbs.Verb.TheVariants.{Rd, In}
 use Rattle.tuple_text.specs.declared.reader.Stop.{Stop}
 use Rattle.tuple_text.specs.declared.reader.Stop.TheVariants.{BadByte, TooDeep, TooManyFields, TooLong, NoMemory}
 use Rattle.tuple_text.specs.declared.faults.LineFault.{LineFault}

@@ -10,10 +10,12 @@
 #![tactic(auto)]
 
 mod faults;
+mod growing;
 mod lines;
 mod literals;
 mod operations;
 mod reader;
+mod verbs;
 mod write;
 
 pub use faults::{LineFault, MAX_LINE};

@@ -7,13 +7,15 @@ ghost use Rattle.tuple_tree.specs.TupleView.{value_of};
 ghost use Rattle.tuple_tree.specs.TemplateView.{field_of};
 ghost use Rattle.tuple_codec.specs.OperationView.{operation_of};
 ghost use Rattle.tuple_text.specs.Texts.{AreBlanks};
-ghost use Rattle.tuple_text.specs.Reading.{fault_at, blanks, word, gap, finish, digits, positive, signed, numeral, wide_numeral, datum, kind, named, behind_b, behind_t, slot_item, turn, follows, got, opens, tuple, template, argument, ending, last, letters, one_of, all_of, operation, line, out_line, cas_line, upgrade_line, one_line, all_line, verb_line, lone_template};
-ghost use Rattle.tuple_text.specs.Parts.{HasNoValueRoom, HasNoFieldRoom, plain_value, plain_slot, closed, value_at, field_at, value_follows, field_follows, values_at, fields_at, close_tuple, close_template, tuple_with, template_with, Reads};
+ghost use Rattle.tuple_text.specs.Reading.{fault_at, blanks, word, gap, finish, digits, positive, signed, numeral, wide_numeral, datum, kind, named, behind_b, behind_t, slot_item, turn, follows, got, opens, tuple, template, argument, ending, last, operation, line, out_line, cas_line, upgrade_line, one_line, all_line, verb_line, lone_template};
+ghost use Rattle.tuple_text.specs.Parts.{HasNoValueRoom, HasNoFieldRoom, adding_atom, adding_slot, adding_tuple, adding_template, adding_value, adding_field, value_follows, field_follows, values_at, fields_at, close_tuple, close_template, Reads};
 
 use crate::faults::LineFault;
+use crate::growing::{add_field, add_value};
+use crate::verbs::Verb;
 use std::alloc::Allocator;
 use tuple_codec::{Max, Op};
-use tuple_tree::{Atom, Field, Kind, MAX_FIELDS, Refusal, Template, Tuple, Value};
+use tuple_tree::{Atom, Field, Kind, MAX_FIELDS, Template, Tuple, Value};
 
 // The greatest number, and the greatest wide one.
 const MOST: u128 = 9223372036854775807;
@@ -48,45 +50,6 @@ impl Stop {
             Stop::TooManyFields => LineFault::TooManyFields,
             Stop::TooLong => LineFault::TooLong,
             Stop::NoMemory => LineFault::NoMemory,
-        }
-    }
-}
-
-/// What an operation does with the tuples that it finds: `rd` reads them, `in` takes them.
-#[derive(Clone, Copy)]
-pub(crate) enum Verb {
-    Rd,
-    In,
-}
-
-impl Verb {
-    // The letters that begin the names of its operations.
-    fn letters(self) -> &'static [u8]
-        ensures { result.now ≡ letters self }
-    {
-        match self {
-            Verb::Rd => b"rd",
-            Verb::In => b"in",
-        }
-    }
-
-    // Its operation on the oldest match.
-    fn one_of<A: Allocator>(self, template: Template<A>) -> Op<A>
-        ensures { operation_of result ≡ one_of self template }
-    {
-        match self {
-            Verb::Rd => Op::Rdp(template),
-            Verb::In => Op::Inp(template),
-        }
-    }
-
-    // Its operation on the oldest `max` matches.
-    fn all_of<A: Allocator>(self, max: Max, template: Template<A>) -> Op<A>
-        ensures { operation_of result ≡ all_of self max.count template }
-    {
-        match self {
-            Verb::Rd => Op::RdAll(max, template),
-            Verb::In => Op::InAll(max, template),
         }
     }
 }
@@ -331,29 +294,6 @@ impl<'a> Reader<'a> {
         }
     }
 
-    // A field that is no template.
-    #[tactic(auto, unfolding(crate::specs::Reading::slot, crate::specs::Reading::formal_slot, crate::specs::Reading::actual_slot))]
-    fn plain_field<A: Allocator + Copy>(&mut self, alloc: A) -> Result<Field<A>, Stop>
-        ensures { Reads field_of result slot_item self.old self.new }
-    {
-        match self.rest {
-            [] => Err(Stop::BadByte),
-            [b'*', rest @ ..] => {
-                self.rest = rest;
-                Ok(Field::Any)
-            }
-            [b'?', rest @ ..] => {
-                self.rest = rest;
-                let kind = self.kind()?;
-                Ok(Field::Formal(kind))
-            }
-            [_, ..] => {
-                let atom = self.atom(alloc)?;
-                Ok(Field::Actual(atom))
-            }
-        }
-    }
-
     #[tactic(auto, unfolding(crate::specs::Reading::follows))]
     fn follows(&mut self, free: bool) -> Result<bool, Stop>
         ensures { Reads (λ on. on) result (follows free) self.old self.new }
@@ -411,46 +351,55 @@ impl<'a> Reader<'a> {
         matches!(self.rest, [b'(', ..])
     }
 
-    // A value that is no tuple, which is never too long.
-    fn kept_atom<A: Allocator + Copy>(&mut self, alloc: A) -> Result<Option<Value<A>>, Stop>
-        ensures { Reads (option_map value_of) result plain_value self.old self.new }
+    // Reads a value that is no tuple, and adds it.
+    fn add_atom<A: Allocator + Copy>(
+        &mut self,
+        alloc: A,
+        tuple: &mut Option<Tuple<A>>,
+    ) -> Result<(), Stop>
+        ensures { Reads (λ _. tuple.new) result (adding_atom tuple.old) self.old self.new }
     {
         let atom = self.atom(alloc)?;
-        Ok(Some(Value::Atom(atom)))
+        add_value(tuple, Value::Atom(atom))
     }
 
-    // Passes the closing parenthesis, and gives the tuple as a value.
-    fn closed_value<A: Allocator>(
+    // Passes the closing parenthesis of a nested tuple, and adds it.
+    fn add_closed_tuple<A: Allocator>(
         &mut self,
-        tuple: Option<Tuple<A>>,
-    ) -> Result<Option<Value<A>>, Stop>
-        ensures { Reads (option_map value_of) result (closed tuple) self.old self.new }
+        nested: Option<Tuple<A>>,
+        tuple: &mut Option<Tuple<A>>,
+    ) -> Result<(), Stop>
+        ensures { Reads (λ _. tuple.new) result (adding_tuple nested tuple.old) self.old self.new }
     {
         self.word(b")")?;
-        match tuple {
-            Some(tuple) => Ok(Some(tuple.into_value())),
-            None => Ok(None),
+        match nested {
+            Some(nested) => add_value(tuple, nested.into_value()),
+            None => {
+                *tuple = None;
+                Ok(())
+            }
         }
     }
 
-    // A value with at most so many levels. `None` if its encoding is too long.
+    // Reads a value with at most so many levels, and adds it.
     #[cycle(value)]
-    fn value<A: Allocator + Copy>(
+    fn add_next_value<A: Allocator + Copy>(
         &mut self,
         alloc: A,
         levels: usize,
-    ) -> Result<Option<Value<A>>, Stop>
-        ensures { Reads (option_map value_of) result (value_at levels) self.old self.new }
+        tuple: &mut Option<Tuple<A>>,
+    ) -> Result<(), Stop>
+        ensures { Reads (λ _. tuple.new) result (adding_value levels tuple.old) self.old self.new }
     {
         if !self.opens() {
-            return self.kept_atom(alloc);
+            return self.add_atom(alloc, tuple);
         }
         if levels == 0 {
             return Err(Stop::TooDeep);
         }
         self.word(b"(")?;
-        let tuple = self.values(alloc, levels - 1)?;
-        self.closed_value(tuple)
+        let nested = self.values(alloc, levels - 1)?;
+        self.add_closed_tuple(nested, tuple)
     }
 
     // Whether a further value follows `count` others. If the list is full, a further value is refused.
@@ -478,8 +427,7 @@ impl<'a> Reader<'a> {
         let mut count = 0;
         let mut free = true;
         while self.value_follows(levels, count, free)? {
-            let value = self.value(alloc, levels)?;
-            tuple = with_value(tuple, value)?;
+            self.add_next_value(alloc, levels, &mut tuple)?;
             count += 1;
             free = false;
         }
@@ -511,46 +459,70 @@ impl<'a> Reader<'a> {
         self.close_tuple(tuple)
     }
 
-    // A field that is no template, which is never too long.
-    fn kept_field<A: Allocator + Copy>(&mut self, alloc: A) -> Result<Option<Field<A>>, Stop>
-        ensures { Reads (option_map field_of) result plain_slot self.old self.new }
-    {
-        let field = self.plain_field(alloc)?;
-        Ok(Some(field))
-    }
-
-    // Passes the closing parenthesis, and gives the template as a field.
-    fn closed_field<A: Allocator>(
+    // Reads a field that is no template, and adds it.
+    #[tactic(auto, unfolding(crate::specs::Reading::slot, crate::specs::Reading::formal_slot, crate::specs::Reading::actual_slot))]
+    fn add_plain_field<A: Allocator + Copy>(
         &mut self,
-        template: Option<Template<A>>,
-    ) -> Result<Option<Field<A>>, Stop>
-        ensures { Reads (option_map field_of) result (closed template) self.old self.new }
+        alloc: A,
+        template: &mut Option<Template<A>>,
+    ) -> Result<(), Stop>
+        ensures { Reads (λ _. template.new) result (adding_slot template.old) self.old self.new }
     {
-        self.word(b")")?;
-        match template {
-            Some(template) => Ok(Some(template.into_field())),
-            None => Ok(None),
+        match self.rest {
+            [] => Err(Stop::BadByte),
+            [b'*', rest @ ..] => {
+                self.rest = rest;
+                add_field(template, Field::Any)
+            }
+            [b'?', rest @ ..] => {
+                self.rest = rest;
+                let kind = self.kind()?;
+                add_field(template, Field::Formal(kind))
+            }
+            [_, ..] => {
+                let atom = self.atom(alloc)?;
+                add_field(template, Field::Actual(atom))
+            }
         }
     }
 
-    // A field with at most so many levels. `None` if its encoding is too long.
+    // Passes the closing parenthesis of a nested template, and adds it.
+    fn add_closed_template<A: Allocator>(
+        &mut self,
+        nested: Option<Template<A>>,
+        template: &mut Option<Template<A>>,
+    ) -> Result<(), Stop>
+        ensures { Reads (λ _. template.new) result (adding_template nested template.old) self.old self.new }
+    {
+        self.word(b")")?;
+        match nested {
+            Some(nested) => add_field(template, nested.into_field()),
+            None => {
+                *template = None;
+                Ok(())
+            }
+        }
+    }
+
+    // Reads a field with at most so many levels, and adds it.
     #[cycle(field)]
-    fn field<A: Allocator + Copy>(
+    fn add_next_field<A: Allocator + Copy>(
         &mut self,
         alloc: A,
         levels: usize,
-    ) -> Result<Option<Field<A>>, Stop>
-        ensures { Reads (option_map field_of) result (field_at levels) self.old self.new }
+        template: &mut Option<Template<A>>,
+    ) -> Result<(), Stop>
+        ensures { Reads (λ _. template.new) result (adding_field levels template.old) self.old self.new }
     {
         if !self.opens() {
-            return self.kept_field(alloc);
+            return self.add_plain_field(alloc, template);
         }
         if levels == 0 {
             return Err(Stop::TooDeep);
         }
         self.word(b"(")?;
-        let template = self.fields(alloc, levels - 1)?;
-        self.closed_field(template)
+        let nested = self.fields(alloc, levels - 1)?;
+        self.add_closed_template(nested, template)
     }
 
     // Whether a further field follows `count` others. If the list is full, a further field is refused.
@@ -572,14 +544,13 @@ impl<'a> Reader<'a> {
         alloc: A,
         levels: usize,
     ) -> Result<Option<Template<A>>, Stop>
-        ensures { Reads (λ p. p) result (fields_at levels) self.old self.new }
+        ensures { Reads (λ t. t) result (fields_at levels) self.old self.new }
     {
         let mut template = Some(Template::new_in(alloc));
         let mut count = 0;
         let mut free = true;
         while self.field_follows(levels, count, free)? {
-            let field = self.field(alloc, levels)?;
-            template = with_field(template, field)?;
+            self.add_next_field(alloc, levels, &mut template)?;
             count += 1;
             free = false;
         }
@@ -605,6 +576,7 @@ impl<'a> Reader<'a> {
         }
     }
 
+    #[inline(always)]
     #[tactic(auto, unfolding(crate::specs::Reading::whole))]
     fn template<A: Allocator + Copy>(&mut self, alloc: A) -> Result<Template<A>, Stop>
         ensures { Reads (λ p. p) result template self.old self.new }
@@ -631,6 +603,7 @@ impl<'a> Reader<'a> {
     }
 
     // A gap, a tuple, and blanks alone up to the end.
+    #[inline(always)]
     fn last_tuple<A: Allocator + Copy>(&mut self, alloc: A) -> Result<Tuple<A>, Stop>
         ensures { Reads (λ t. t) result (last (argument tuple)) self.old self.new }
     {
@@ -640,6 +613,7 @@ impl<'a> Reader<'a> {
     }
 
     // A template, and blanks alone up to the end.
+    #[inline(always)]
     fn closing_template<A: Allocator + Copy>(&mut self, alloc: A) -> Result<Template<A>, Stop>
         ensures { Reads (λ p. p) result (last template) self.old self.new }
     {
@@ -649,6 +623,7 @@ impl<'a> Reader<'a> {
     }
 
     // A gap, a template, and blanks alone up to the end.
+    #[inline(always)]
     #[tactic(auto, unfolding(crate::specs::Reading::argument))]
     fn last_template<A: Allocator + Copy>(&mut self, alloc: A) -> Result<Template<A>, Stop>
         ensures { Reads (λ p. p) result (last (argument template)) self.old self.new }
@@ -786,46 +761,5 @@ fn is_beyond(number: u128, digit: u128, limit: u128) -> bool
         number * 10 + digit > limit
     } else {
         number > (limit - digit) / 10
-    }
-}
-
-// The tuple with the value at its end. `None` if the tuple, the value or the whole is too long. The reader keeps the
-// other limits itself.
-fn with_value<A: Allocator>(
-    tuple: Option<Tuple<A>>,
-    value: Option<Value<A>>,
-) -> Result<Option<Tuple<A>>, Stop>
-    ensures ok { IfOk result (λ t. t ≡ tuple_with tuple (option_map value_of value)) }
-    ensures err { IfErr result (λ s. s ≡ Stop.NoMemory) }
-{
-    let (Some(mut tuple), Some(value)) = (tuple, value) else {
-        return Ok(None);
-    };
-    match tuple.push(value) {
-        Ok(()) => Ok(Some(tuple)),
-        Err(refused) => match refused.refusal {
-            Refusal::TooLong => Ok(None), // not kept, but its bytes are still judged
-            Refusal::TooManyFields | Refusal::TooDeep | Refusal::NoMemory => Err(Stop::NoMemory),
-        },
-    }
-}
-
-// The template with the field at its end. `None` if the template, the field or the whole is too long.
-fn with_field<A: Allocator>(
-    template: Option<Template<A>>,
-    field: Option<Field<A>>,
-) -> Result<Option<Template<A>>, Stop>
-    ensures ok { IfOk result (λ p. p ≡ template_with template (option_map field_of field)) }
-    ensures err { IfErr result (λ s. s ≡ Stop.NoMemory) }
-{
-    let (Some(mut template), Some(field)) = (template, field) else {
-        return Ok(None);
-    };
-    match template.push(field) {
-        Ok(()) => Ok(Some(template)),
-        Err(refused) => match refused.refusal {
-            Refusal::TooLong => Ok(None),
-            Refusal::TooManyFields | Refusal::TooDeep | Refusal::NoMemory => Err(Stop::NoMemory),
-        },
     }
 }

@@ -1,8 +1,9 @@
 //! Templates: lists of fields.
 
-ghost use Rattle.std.specs.Prelude.{◌≡◌, ◌+◌, ◌≤◌, OnOk, OnErr, IfErr, IfOk, option_map, slice_get, IsTrue, ◌↔◌};
+ghost use Rattle.std.specs.Prelude.{◌≡◌, ◌+◌, ◌≤◌, ◌<◌, OnOk, OnErr, IfErr, IfOk, option_map, slice_get, vec_len, vec_capacity, IsTrue, ◌↔◌};
 ghost use Rattle.tuple_tree.specs.Items.{none, inner, how_many, with_last, as_list, item_levels, levels_of, item_length, whole_length, item_has, has_leaf};
-ghost use Rattle.tuple_tree.specs.Limits.{IsItem};
+ghost use Rattle.tuple_tree.specs.Extents.{IsMeasured};
+ghost use Rattle.tuple_tree.specs.Limits.{IsItem, Refuses};
 ghost use Rattle.tuple_tree.specs.Pushes.{JudgesTemplate};
 ghost use Rattle.tuple_tree.specs.Values.{slot_length, is_wide_slot, IsSlot, IsTemplate};
 ghost use Rattle.tuple_tree.specs.TemplateView.{field_of, template_of};
@@ -254,34 +255,48 @@ impl<A: Allocator> Template<A> {
 
     /// Adds a field at the end. A refusal hands the field back and leaves the template as it was. If the field would
     /// pass several limits, the refusal names the first in the order of [`Refusal`].
+    // Where the kind of the field is known, most of the judging falls away.
+    #[inline(always)]
     pub fn push(&mut self, field: Field<A>) -> Result<(), PushedField<A>>
         ensures ok { OnOk result (self.new ≡ with_last self.old (field_of field)) }
         ensures err { OnErr result (self.new ≡ self.old) }
         ensures returned { IfErr result (λ e. e.value ≡ field) }
         ensures refusal { JudgesTemplate result self.new (with_last self.old (field_of field)) }
     {
-        let depth = field.depth();
-        let len = self.fields.len();
-        let has_wide = field.has_wide();
-        let extent = match self
-            .extent
-            .with_item(len, depth, field.encoded_len(), has_wide)
-        {
-            Ok(extent) => extent,
-            Err(refusal) => return Err(Refused {
-                refusal,
-                value: field,
-            }),
-        };
-        match self.fields.push(field) {
-            Ok(()) => {
+        match room_for(&mut self.fields, self.extent, &field) {
+            Ok(extent) => {
+                self.fields.push_reserved(field);
                 self.extent = extent;
                 Ok(())
             }
-            Err(failed) => Err(Refused {
-                refusal: Refusal::NoMemory,
-                value: failed.value,
+            Err(refusal) => Err(Refused {
+                refusal,
+                value: field,
             }),
         }
     }
+}
+
+// Makes room for the field, and gives the extent of the fields with it at the end.
+#[inline(always)]
+fn room_for<A: Allocator>(
+    fields: &mut Vec<Field<A>, A>,
+    extent: Extent,
+    field: &Field<A>,
+) -> Result<Extent, Refusal>
+    requires { IsMeasured IsSlot slot_length is_wide_slot (template_of fields.old.items) extent }
+    ensures kept { fields.new.items ≡ fields.old.items }
+    ensures room { OnOk result (vec_len fields.new < fields.new.cap) }
+    ensures ok { IfOk result (IsMeasured IsSlot slot_length is_wide_slot
+        (with_last (template_of fields.old.items) (field_of field.now))) }
+    ensures err { IfErr result (λ refusal. Refuses slot_length refusal
+        (with_last (template_of fields.old.items) (field_of field.now))) }
+{
+    let depth = field.depth();
+    let has_wide = field.has_wide();
+    let extent = extent.with_item(fields.len(), depth, field.encoded_len(), has_wide)?;
+    if fields.len() == fields.capacity() && fields.reserve(1).is_err() {
+        return Err(Refusal::NoMemory);
+    }
+    Ok(extent)
 }

@@ -1,8 +1,9 @@
 //! Tuples: lists of values.
 
-ghost use Rattle.std.specs.Prelude.{◌≡◌, ◌+◌, ◌≤◌, OnOk, OnErr, IfErr, IfOk, option_map, slice_get, IsTrue, ◌↔◌};
+ghost use Rattle.std.specs.Prelude.{◌≡◌, ◌+◌, ◌≤◌, ◌<◌, OnOk, OnErr, IfErr, IfOk, option_map, slice_get, vec_len, vec_capacity, IsTrue, ◌↔◌};
 ghost use Rattle.tuple_tree.specs.Items.{none, inner, how_many, with_last, as_list, item_levels, levels_of, item_length, whole_length, item_has, has_leaf};
-ghost use Rattle.tuple_tree.specs.Limits.{IsItem};
+ghost use Rattle.tuple_tree.specs.Extents.{IsMeasured};
+ghost use Rattle.tuple_tree.specs.Limits.{IsItem, Refuses};
 ghost use Rattle.tuple_tree.specs.Pushes.{JudgesTuple};
 ghost use Rattle.tuple_tree.specs.Values.{kind_of, datum_length, is_wide, IsDatum, IsTuple};
 ghost use Rattle.tuple_tree.specs.TupleView.{value_of, tuple_of};
@@ -252,31 +253,45 @@ impl<A: Allocator> Tuple<A> {
 
     /// Adds a value at the end. A refusal hands the value back and leaves the tuple as it was. If the value would
     /// pass several limits, the refusal names the first in the order of [`Refusal`].
+    // Where the kind of the value is known, most of the judging falls away.
+    #[inline(always)]
     pub fn push(&mut self, value: Value<A>) -> Result<(), Pushed<A>>
         ensures ok { OnOk result (self.new ≡ with_last self.old (value_of value)) }
         ensures err { OnErr result (self.new ≡ self.old) }
         ensures returned { IfErr result (λ e. e.value ≡ value) }
         ensures refusal { JudgesTuple result self.new (with_last self.old (value_of value)) }
     {
-        let depth = value.depth();
-        let len = self.values.len();
-        let has_wide = value.has_wide();
-        let extent = match self
-            .extent
-            .with_item(len, depth, value.encoded_len(), has_wide)
-        {
-            Ok(extent) => extent,
-            Err(refusal) => return Err(Refused { refusal, value }),
-        };
-        match self.values.push(value) {
-            Ok(()) => {
+        match room_for(&mut self.values, self.extent, &value) {
+            Ok(extent) => {
+                self.values.push_reserved(value);
                 self.extent = extent;
                 Ok(())
             }
-            Err(failed) => Err(Refused {
-                refusal: Refusal::NoMemory,
-                value: failed.value,
-            }),
+            Err(refusal) => Err(Refused { refusal, value }),
         }
     }
+}
+
+// Makes room for the value, and gives the extent of the values with it at the end.
+#[inline(always)]
+fn room_for<A: Allocator>(
+    values: &mut Vec<Value<A>, A>,
+    extent: Extent,
+    value: &Value<A>,
+) -> Result<Extent, Refusal>
+    requires { IsMeasured IsDatum datum_length is_wide (tuple_of values.old.items) extent }
+    ensures kept { values.new.items ≡ values.old.items }
+    ensures room { OnOk result (vec_len values.new < values.new.cap) }
+    ensures ok { IfOk result (IsMeasured IsDatum datum_length is_wide
+        (with_last (tuple_of values.old.items) (value_of value.now))) }
+    ensures err { IfErr result (λ refusal. Refuses datum_length refusal
+        (with_last (tuple_of values.old.items) (value_of value.now))) }
+{
+    let depth = value.depth();
+    let has_wide = value.has_wide();
+    let extent = extent.with_item(values.len(), depth, value.encoded_len(), has_wide)?;
+    if values.len() == values.capacity() && values.reserve(1).is_err() {
+        return Err(Refusal::NoMemory);
+    }
+    Ok(extent)
 }

@@ -4,8 +4,8 @@ use Rattle.tuple_text.specs.Reading.{item_at, items_at, kept_with, no_room, begi
 use Rattle.tuple_text.proofs.Steps.{SoFar}
 use Rattle.tuple_text.proofs.reader.Reader.+field.Given as goal
 
-abbrev pub decreases-field : goal.decreases-field
-decreases-field g l = 2 * l.levels
+abbrev pub decreases-add_next_field : goal.decreases-add_next_field
+decreases-add_next_field g l = 2 * l.levels
 
 abbrev pub decreases-fields : goal.decreases-fields
 decreases-fields g l = 2 * l.levels + 1

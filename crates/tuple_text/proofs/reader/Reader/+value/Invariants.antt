@@ -4,8 +4,8 @@ use Rattle.tuple_text.specs.Reading.{item_at, items_at, kept_with, no_room, begi
 use Rattle.tuple_text.proofs.Steps.{SoFar}
 use Rattle.tuple_text.proofs.reader.Reader.+value.Given as goal
 
-abbrev pub decreases-value : goal.decreases-value
-decreases-value g l = 2 * l.levels
+abbrev pub decreases-add_next_value : goal.decreases-add_next_value
+decreases-add_next_value g l = 2 * l.levels
 
 abbrev pub decreases-values : goal.decreases-values
 decreases-values g l = 2 * l.levels + 1
