@@ -24,7 +24,7 @@ StopsBy (Read error) initial bytes old new pending = AddsResults initial bytes c
 StopsBy (Write error) initial bytes old new pending = Unit {0}
 
 -- A run over the bytes went to their end, or stopped by the fault.
-abbrev pub EndsRun : Result (Unit {0}) LocalFault → Contents → List ℕ
+abbrev pub EndsRun : {V : Type 0} → Result V LocalFault → Contents → List ℕ
     → Option (List ℕ) → Option (List ℕ) → List ℕ → Type 0
 EndsRun result initial bytes old new pending =
     MatchResult result
@@ -32,7 +32,7 @@ EndsRun result initial bytes old new pending =
     (λ fault. StopsBy fault initial bytes old new pending)
 
 -- If the reader's bytes are known, a run over them ended.
-abbrev pub EndsKnown : {W : Type 0} → (W → Option (List ℕ)) → Result (Unit {0}) LocalFault → Contents
+abbrev pub EndsKnown : {W V : Type 0} → (W → Option (List ℕ)) → Result V LocalFault → Contents
     → Option (List ℕ) → W → W → List ℕ → Type 0
 EndsKnown contents result initial known old new pending =
     IfSome known (λ bytes. EndsRun result initial bytes (contents old) (contents new) pending)

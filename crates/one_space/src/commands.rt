@@ -10,6 +10,7 @@ use crate::session::local;
 use space::Version;
 use std::alloc::Global;
 use std::io::{self, Read};
+use std::mem::forget;
 use std::rt::{Env, Files};
 use std::{env, fs};
 use tuple_codec::Op;
@@ -65,7 +66,11 @@ fn run_lines<R: Print + Eprint + AllocGlobal, I: Read + Drop>(
     path: &str,
 ) -> u8 {
     match local(rt.alloc(), version, input, &mut io::writer(rt)) {
-        Ok(()) => 0,
+        Ok(space) => {
+            // The command ends here, and its process with it, so no tuple is given back.
+            forget(space);
+            0
+        }
         Err(fault) => complain(rt, Complaint::of_local(&fault, path)),
     }
 }

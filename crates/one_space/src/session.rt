@@ -60,32 +60,26 @@ impl From<NoMemory> for LocalFault {
 /// It asks the reader for more bytes only after it wrote and flushed the results of all whole lines it has. Lines are
 /// numbered from 1 and stay below 2 to the power of 48. At a fault the results of the lines before it are written,
 /// unless writing failed.
+///
+/// At the end it gives the space as the script left it. A command that ends there may forget it: giving back each tuple
+/// takes long.
 pub fn local<R: Read + Drop, W: Write>(
     alloc: Global,
     version: Version,
     reader: R,
     writer: &mut W,
-) -> Result<(), LocalFault>
+) -> Result<Space, LocalFault>
     ensures { EndsKnown W.contents result (nothing_in version) (R.remaining reader)
         writer.old writer.new [] }
 {
-    let mut input = match BufReader::new(alloc, reader) {
-        Ok(input) => input,
-        Err(_) => return Err(LocalFault::NoMemory),
-    };
     let mut session = Session {
         space: new_space(alloc, version),
         line: Vec::new(alloc),
         results: Vec::new(alloc),
     };
-    let mut arena = Bump::new(alloc);
-    match session.run_lines(alloc, &mut input, writer, &mut arena) {
-        Ok(()) => write_out(&mut session.results, writer),
-        Err(LocalFault::Write(error)) => Err(LocalFault::Write(error)),
-        Err(fault) => match write_out(&mut session.results, writer) {
-            Ok(()) => Err(fault),
-            Err(error) => Err(error),
-        },
+    match session.run(alloc, reader, writer) {
+        Ok(()) => Ok(session.space),
+        Err(fault) => Err(fault),
     }
 }
 
@@ -108,6 +102,33 @@ struct Session {
 }
 
 impl Session {
+    // Runs all lines, and writes the results that are left at the end or at a fault.
+    fn run<R: Read + Drop, W: Write>(
+        &mut self,
+        alloc: Global,
+        reader: R,
+        writer: &mut W,
+    ) -> Result<(), LocalFault>
+        requires no_births { self.old.space.next ≡ 0 }
+        requires no_results { self.old.results.items ≡ [] }
+        ensures { EndsKnown W.contents result (tuples_of self.old.space) (R.remaining reader)
+            writer.old writer.new [] }
+    {
+        let mut input = match BufReader::new(alloc, reader) {
+            Ok(input) => input,
+            Err(_) => return Err(LocalFault::NoMemory),
+        };
+        let mut arena = Bump::new(alloc);
+        match self.run_lines(alloc, &mut input, writer, &mut arena) {
+            Ok(()) => write_out(&mut self.results, writer),
+            Err(LocalFault::Write(error)) => Err(LocalFault::Write(error)),
+            Err(fault) => match write_out(&mut self.results, writer) {
+                Ok(()) => Err(fault),
+                Err(error) => Err(error),
+            },
+        }
+    }
+
     fn run_lines<R: Read, W: Write>(
         &mut self,
         alloc: Global,

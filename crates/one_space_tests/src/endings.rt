@@ -1,6 +1,7 @@
 //! How a command ends, in a form that can be compared.
 
 use one_space::{LocalFault, ShowFault};
+use space::Space;
 use std::io;
 use tuple_text::LineFault;
 
@@ -14,9 +15,9 @@ pub enum Ending {
     Write,
 }
 
-pub fn local_ending(ending: Result<(), LocalFault>) -> Ending {
+pub fn local_ending(ending: Result<Space, LocalFault>) -> Ending {
     match ending {
-        Ok(()) => Ending::Complete,
+        Ok(_space) => Ending::Complete,
         Err(LocalFault::Refused { line, fault }) => Ending::Refused(line, fault),
         Err(LocalFault::NoMemory) => Ending::NoMemory,
         Err(LocalFault::Read(_)) => Ending::Read,
