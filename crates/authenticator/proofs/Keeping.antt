@@ -1,12 +1,14 @@
 -- A ring keeps the right keys and codes.
-use Rattle.std.proofs.Common.{◌≡◌, refl, ℕ, Bool, true, false, cond, Some, ap, subst, ◌∙◌, sym, Result, Ok, Err}
+use Rattle.std.proofs.Common.{◌≡◌, refl, ℕ, Bool, true, false, cond, Some, ap, subst, ◌∙◌, sym, inl, inr, List, Result, Ok, Err}
 use Rattle.std.proofs.lemmas.Bool.{and_parts, eqb-true}
 use Rattle.std.specs.HashMap.{HashMap, get, Updates, IsUnchanged}
 use Rattle.std.specs.Map.{lookup}
 use Rattle.std.specs.Result.{OnOk, OnErr}
-use Rattle.authenticator.specs.Kept.{Fit, pair_eq}
+use Rattle.authenticator.specs.Kept.{Fit, Takes, pair_eq}
+use Rattle.authenticator.specs.Keys.{mac_between}
+use Rattle.authenticator.specs.declared.ring.CodedText.{CodedText}
 
-fit-put : {V S : Type 0} (fits : ℕ → ℕ → V → Type 0) (m n : HashMap (ℕ × ℕ) V S) (from to : ℕ) (it : V)
+pub fit-put : {V S : Type 0} (fits : ℕ → ℕ → V → Type 0) (m n : HashMap (ℕ × ℕ) V S) (from to : ℕ) (it : V)
     → Fit fits m → fits from to it → Updates pair_eq m n (from, to) (Some it) → Fit fits n
 fit-put fits m n from to it fit right puts a b x found =
     go (pair_eq (from, to) (a, b)) refl (sym (puts.0 (a, b)) ∙ found)
@@ -28,3 +30,9 @@ pub fit-inserted : {V S R E : Type 0} (fits : ℕ → ℕ → V → Type 0) (m n
     → Fit fits m → fits from to it → OnOk r (Updates pair_eq m n (from, to) (Some it)) → OnErr r (IsUnchanged m n) → Fit fits n
 fit-inserted fits m n from to it (Ok _) fit right puts _ = fit-put fits m n from to it fit right puts
 fit-inserted fits m n from to it (Err _) fit right _ same = fit-same fits m n fit same
+
+-- after a text is taken in place of another, or stays
+pub coded-taken : (seed : List ℕ) (from to : ℕ) (text code : List ℕ) (old new : CodedText) → code ≡ mac_between seed from to text
+    → old.code ≡ mac_between seed from to old.text.items → Takes text code old new → new.code ≡ mac_between seed from to new.text.items
+coded-taken seed from to text code old new right was (inl e) = rw (e.0, e.1) right
+coded-taken seed from to text code old new right was (inr e) = rw (e.0, e.1) was

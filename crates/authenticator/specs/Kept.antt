@@ -1,5 +1,5 @@
 -- The keys and codes that a ring keeps, and a key that is made ready.
-use Rattle.std.specs.Prelude.{◌≡◌, ℕ, Bool, ◌&&◌, List, nat_eq}
+use Rattle.std.specs.Prelude.{◌≡◌, ℕ, Bool, ◌&&◌, List, nat_eq, ◌⊎◌}
 use Rattle.std.specs.Option.{ForSome}
 use Rattle.std.specs.HashMap.{HashMap, get}
 use Rattle.sha2.specs.Hashers.{Holds256}
@@ -27,3 +27,9 @@ KeysFit seed kept = Fit (λ from to key. key ≡ block_key (key_between seed fro
 -- each kept code is that of its text from the one party to the other
 abbrev pub CodesFit : {S : Type 0} → List ℕ → HashMap (ℕ × ℕ) CodedText S → Type 0
 CodesFit seed kept = Fit (λ from to it. it.code ≡ mac_between seed from to it.text.items) kept
+
+-- the text and its code are taken, or those before stay
+abbrev pub Takes : List ℕ → List ℕ → CodedText → CodedText → Type 0
+Takes text code old new =
+    ((new.text.items ≡ text) × (new.code ≡ code))
+    ⊎ ((new.text.items ≡ old.text.items) × (new.code ≡ old.code))

@@ -2,6 +2,7 @@
 
 ghost use Rattle.std.specs.Prelude.{◌≡◌, ◌∷◌, ◌++◌, ◌<◌, IfSome};
 ghost use Rattle.std.specs.Int.{w16, to_be_bytes};
+ghost use Rattle.authenticator.specs.Kept.{Takes};
 ghost use Rattle.authenticator.specs.Mac.{block_key};
 ghost use Rattle.authenticator.specs.Keys.{key_between, mac_between, signing_seed};
 ghost use Rattle.authenticator.specs.Headers.{takes_part};
@@ -21,6 +22,22 @@ use wire::{Body, Message};
 pub struct CodedText {
     text: Vec<u8>,
     code: [u8; 32],
+}
+
+impl CodedText {
+    // Takes another text with its code, if there is room for it.
+    fn put(&mut self, text: &[u8], code: [u8; 32])
+        ensures { Takes text.now code self.old self.new }
+    {
+        if self.text.reserve(text.len()).is_err() {
+            return;
+        }
+        self.text.clear();
+        match self.text.extend_from_slice(text) {
+            Ok(()) => self.code = code,
+            Err(_) => unreachable!(),
+        }
+    }
 }
 
 /// The keys between the parties of one configuration. The ring derives each when it first needs it, and keeps it. It
@@ -129,6 +146,17 @@ impl Ring {
 
     /// Keeps a request's text with its code, instead of the last one between these parties.
     pub(crate) fn keep_code(&mut self, from: u16, to: u16, text: &[u8], code: [u8; 32])
+        requires { code ≡ mac_between self.old.seed from to text.now }
+        ensures { self.new ≡ self.old }
+    {
+        match self.requests.get_mut(&(from, to)) {
+            Some(last) => last.put(text, code),
+            None => self.keep_first_code(from, to, text, code),
+        }
+    }
+
+    // Keeps the first text between these parties, with its code.
+    fn keep_first_code(&mut self, from: u16, to: u16, text: &[u8], code: [u8; 32])
         requires { code ≡ mac_between self.old.seed from to text.now }
         ensures { self.new ≡ self.old }
     {

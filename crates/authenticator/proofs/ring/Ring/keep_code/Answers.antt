@@ -1,12 +1,14 @@
-use Rattle.std.proofs.Common.{◌≡◌}
+use Rattle.std.proofs.Common.{◌≡◌, sym, rules}
 use Rattle.authenticator.specs.Keys.{mac_between}
-use Rattle.authenticator.proofs.Keeping.{fit-inserted}
+use Rattle.authenticator.proofs.Keeping.{coded-taken, fit-put}
 use Rattle.authenticator.proofs.ring.Ring.keep_code.Goals as goal
 
 pub invariant_of-self : goal.invariant_of-self
 invariant_of-self c =
-    let right : c.args.code ≡ mac_between c.self.inside.seed c.args.from c.args.to c.in-Ok.text.items =
-    rw c.in-Ok.ensures.items (rw (← c.self.view_is) at c.requires) in
-    let fits = fit-inserted (λ from to it. it.code ≡ mac_between c.self.inside.seed from to it.text.items) c.self.inside.requests c.insert.new.self
-    c.args.from c.args.to (record { text = c.in-Ok.text; code = c.args.code }) c.insert.result c.self.invariant.2 right c.insert.ensures.updates c.insert.ensures.err in
+    let seed = c.self.inside.seed in
+    let right : c.args.code ≡ mac_between seed c.args.from c.args.to c.args.text.now = rw (← c.self.view_is) at c.requires in
+    let was = c.self.invariant.2 c.args.from c.args.to c.in-Some.last.now (sym c.in-Some.ensures.value) in
+    let taken = coded-taken seed c.args.from c.args.to c.args.text.now c.args.code c.in-Some.last.now c.put.new.self right was c.put.ensures in
+    let fits = fit-put (λ from to it. it.code ≡ mac_between seed from to it.text.items) c.self.inside.requests (c.get_mut.follows.lender c.put.new.self)
+    c.args.from c.args.to c.put.new.self c.self.invariant.2 taken ((c.get_mut.follows.holds c.put.new.self).3 (search rules)) in
     (c.self.invariant.0, c.self.invariant.1, fits)
