@@ -1,6 +1,6 @@
-//! The desk of a replica: what executes and answers (Castro and Liskov, Practical Byzantine fault tolerance and proactive
-//! recovery, TOCS 2002, on normal-case operation, checkpoints and state transfer). It orders nothing, and knows of no log
-//! and no vote.
+//! The desk of a replica: what executes and answers (Castro and Liskov, Practical Byzantine fault tolerance and
+//! proactive recovery, TOCS 2002, on normal-case operation, checkpoints and state transfer). It orders nothing, and
+//! knows of no log and no vote.
 //!
 //! A [`Desk`] has the executed state, the states that it kept at checkpoints, the requests that wait for execution, the
 //! open state transfer, and the keys for replies. The crate `replica` gives it the batches that are committed, and asks
@@ -16,13 +16,13 @@
 //! `arrival_of` tells a new request from one that waits and from an older one (`IsArrival`). A client has one waiting
 //! request, the latest. `note_begun` and `note_numbered` say which of them have a number in the view.
 //!
-//! At most three states are kept, the newest first, and none below the low mark. `give_part` sends a part of one of them
-//! to the replica that asks for it, and to no other. `aim`, `take_digests`, `take_page` and `has_next_part` fetch a state
-//! that is ahead. `install` puts it in place of the executed one, only if its root is the wanted one and no client's
-//! timestamp falls (`Installs`).
+//! At most three states are kept, the newest first, and none below the low mark. `give_part` sends a part of one of
+//! them to the replica that asks for it, and to no other. `aim`, `take_digests`, `take_page` and `has_next_part` fetch
+//! a state that is ahead. `install` puts it in place of the executed one, only if its root is the wanted one and no
+//! client's timestamp falls (`Installs`).
 //!
-//! Each frame goes to the party for whom it is (`SealsForOne`). If memory runs out, a call gives an error, and its caller
-//! stops.
+//! Each frame goes to the party for whom it is (`SealsForOne`). If memory runs out, a call gives an error, and its
+//! caller stops.
 //!
 //! # How it is made
 //!

@@ -18,8 +18,8 @@
 //!
 //! # How it is made
 //!
-//! - Requests touch pages (`Watched` of `space`, `WatchedReplies`), and `Executed::pages` writes and hashes those. A page
-//!   of tuples that only got longer is written and hashed on from its text in the tree.
+//! - Requests touch pages (`Watched` of `space`, `WatchedReplies`), and `Executed::pages` writes and hashes those. A
+//!   page of tuples that only got longer is written and hashed on from its text in the tree.
 //! - An `upgrade` of client 0 touches all 256 pages of tuples, whichever version the space has. So the next checkpoint
 //!   writes and hashes each page once, however many upgrades came before it. Other batches of a period of 16 can touch
 //!   as many.
