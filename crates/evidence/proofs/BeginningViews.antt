@@ -12,7 +12,7 @@ use Rattle.protocol.specs.System.Frames.{leaf_of}
 use Rattle.protocol.specs.System.Trace.{Entry, Has}
 use Rattle.protocol.specs.System.Trace.Entry.{Got, Sent}
 use Rattle.protocol.specs.Replica.Selection.{may_select}
-use Rattle.protocol.specs.Replica.Certificates.{view, view_after, target, change_from, is_later, new_view_in, new_view_from, taken, checkpoint_from, is_stable, stable_at, started_at, low, is_in_marks, logged, begun_proposal, batch_begun, Prepared}
+use Rattle.protocol.specs.Replica.Certificates.{view, view_after, target, change_from, is_later, new_view_in, new_view_from, taken, checkpoint_from, is_stable, stable_at, started_at, low, is_in_marks, logged, begun_proposal, batch_begun}
 use Rattle.protocol.specs.Replica.State.{opening, root_of}
 use Rattle.protocol.specs.Replica.RightReplica.{first_point, Executes, MaySend, IsStep, SentBefore, SentInEvent}
 use Rattle.protocol.specs.Replica.Owed.{Owes, IsReplica, NumbersOnce}

@@ -8,7 +8,7 @@ use Rattle.protocol.specs.System.Configuration.{Configuration, primary, span, is
 use Rattle.wire.specs.Messages.{BodyData as Body, MessageData as Message, NewViewData, pre_prepare as PrePrepare}
 use Rattle.signing.specs.Heard.{heard}
 use Rattle.protocol.specs.System.Trace.{Entry, party_of, history_of, Once, SendsBody}
-use Rattle.protocol.specs.System.Trace.Entry.{Invoke, Got, Tick, Executed, Installed, Sent, Accepted}
+use Rattle.protocol.specs.System.Trace.Entry.{Invoke, Got, Sent}
 use Rattle.protocol.specs.Replica.Certificates.{view, target, is_later, is_active_in, new_view_in, new_view_from, taken, checkpoint_from, low, is_in_marks, are_genuine, batch_from, batch_begun, proposal, entry_proposal, logged, commit_from, vote_in, commit_of}
 use Rattle.protocol.specs.Replica.RightReplica.{Point, MaySay, MaySend, MayPrePrepare, May}
 use Rattle.protocol.specs.Laws.Histories.{Takes}
@@ -40,12 +40,7 @@ executes_not_by_others_alone c me k batch past none right =
 -- if a replica's history says a commit, the trace sends the commit
 says_sent : (c : Configuration) (r v k : ℕ) (d : List ℕ) (past : List Entry) (e : Entry) → (party_of e ≡ r) × CommitsAt c r v k d (history_of r past) e → SendsBody (committing r v k d) past e
 says_sent c r v k d past (Sent p bytes) h = (h.0, h.1.1)
-says_sent c r v k d past (Invoke x y z) h = absurd h.1.1
-says_sent c r v k d past (Got x y) h = absurd h.1.1
-says_sent c r v k d past (Tick x) h = absurd h.1.1
-says_sent c r v k d past (Executed x y z) h = absurd h.1.1
-says_sent c r v k d past (Installed x y z) h = absurd h.1.1
-says_sent c r v k d past (Accepted x y z) h = absurd h.1.1
+says_sent c r v k d past _ h = absurd h.1.1
 
 pub executes_what_it_commits : ExecutesWhatItCommits
 executes_what_it_commits c trace right unforged r k batch correct h =
@@ -121,10 +116,7 @@ entry_in_marks c me v i batch (Sent p bytes) past point may h =
     let say : MaySay c me past point (Sent p bytes) bytes t.1.0.message = subst (λ (x : Body). MaySay c me past point (Sent p bytes) bytes x.message) (some_injective m.body t.1.0 (sym m.says ∙ t.1.1)) m.say in
     subst (λ (h : ℕ). is_in_marks c h i ≡ true) (sym same) (proposed_in_marks c me v i batch past point (Sent p bytes) bytes t.1.0.sender t.1.0.message say t.1.2)
 entry_in_marks c me v i batch (Invoke x y z) past point may h = absurd cc
-entry_in_marks c me v i batch (Tick x) past point may h = absurd cc
-entry_in_marks c me v i batch (Executed x y z) past point may h = absurd cc
-entry_in_marks c me v i batch (Installed x y z) past point may h = absurd cc
-entry_in_marks c me v i batch (Accepted x y z) past point may h = absurd cc
+entry_in_marks c me v i batch _ past point may h = absurd cc
 
 pub logs_in_marks : LogsInMarks
 unfolding logged

@@ -10,7 +10,7 @@ use Rattle.terms.specs.declared.order.Mode.TheVariants as modes
 use Rattle.wire.specs.Messages.{BodyData as Body, MessageData as Message, reply as Reply}
 use Rattle.signing.specs.Heard.{heard}
 use Rattle.protocol.specs.System.Trace.{Entry, Hears}
-use Rattle.protocol.specs.System.Trace.Entry.{Invoke, Got, Tick, Executed, Installed, Sent, Accepted}
+use Rattle.protocol.specs.System.Trace.Entry.{Invoke, Got}
 use Rattle.protocol.specs.Client.RightClient.{Vote, vote_of, later_vote, latest}
 use Rattle.evidence.specs.Clients.{HeardIsLatest, LatestStays, CallsForget}
 
@@ -59,11 +59,7 @@ pub latest_stays : LatestStays
 unfolding latest
 latest_stays c me s timestamp mode (Got p bytes) past no_call never = left c me s timestamp mode p bytes past (latest c me past timestamp mode s) never (heard (members c) me bytes) refl
 latest_stays c me s timestamp mode (Invoke k t op) past no_call never = absurd (no_call k t op refl)
-latest_stays c me s timestamp mode (Tick p) past no_call never = refl
-latest_stays c me s timestamp mode (Executed r k batch) past no_call never = refl
-latest_stays c me s timestamp mode (Installed r k root) past no_call never = refl
-latest_stays c me s timestamp mode (Sent p bytes) past no_call never = refl
-latest_stays c me s timestamp mode (Accepted k t answer) past no_call never = refl
+latest_stays c me s timestamp mode _ past no_call never = refl
 
 pub calls_forget : CallsForget
 unfolding latest

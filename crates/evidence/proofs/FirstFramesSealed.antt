@@ -5,7 +5,7 @@ use Rattle.std.proofs.lemmas.Bool.{and_parts, and_from, ltb-true, lt-ltb}
 use Rattle.std.specs.Int.{w32, to_be_bytes}
 use Rattle.std.proofs.lemmas.List.Elements.{All-map}
 use Rattle.wire.specs.Lists.{Each, each_spelling, leads, ascends}
-use Rattle.wire.specs.Messages.{BodyData as Body, MessageData as Message, MacData, FrameData as Frame, request as Request, pre_prepare as PrePrepare, prepare as Prepare, commit as Commit, checkpoint as Checkpoint, view_change as ViewChange, new_view as NewView, reply as Reply, fetch as Fetch, meta as Meta, page as Page}
+use Rattle.wire.specs.Messages.{BodyData as Body, MessageData as Message, MacData, FrameData as Frame, request as Request}
 use Rattle.wire.specs.Spelling.{IsMac, mac_spelling, body_spelling, frame_limit, SpellsFrame}
 use Rattle.authenticator.specs.Keys.{key_between}
 use Rattle.authenticator.specs.Authentic.{mac_of}
@@ -129,16 +129,7 @@ parties_below c valid (p ∷ ps) h = (party_below c valid p (h 0 0 (omega arith)
 
 sender_below : (c : Configuration) → IsConfiguration c → (p : ℕ) (m : Message) → sends (members c) p m ≡ true → p < 2 ^ 16
 sender_below c valid p (Request t mode op) h = client_below c valid p h
-sender_below c valid p (PrePrepare v i batch) h = replica_below c valid p h
-sender_below c valid p (Prepare v i digest) h = replica_below c valid p h
-sender_below c valid p (Commit v i digest) h = replica_below c valid p h
-sender_below c valid p (Checkpoint k root) h = replica_below c valid p h
-sender_below c valid p (ViewChange vc) h = replica_below c valid p h
-sender_below c valid p (NewView new) h = replica_below c valid p h
-sender_below c valid p (Reply client t mode number answer) h = replica_below c valid p h
-sender_below c valid p (Fetch k level index) h = replica_below c valid p h
-sender_below c valid p (Meta k level index digests) h = replica_below c valid p h
-sender_below c valid p (Page k index content) h = replica_below c valid p h
+sender_below c valid p _ h = replica_below c valid p h
 
 pub sealed_frames_are_heard : SealedFramesAreHeard
 sealed_frames_are_heard c valid sender message receivers known right unsigned are others short =

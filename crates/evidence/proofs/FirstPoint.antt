@@ -11,7 +11,7 @@ use Rattle.protocol.specs.System.Trace.{Entry}
 use Rattle.protocol.specs.System.Trace.Entry.{Invoke, Got, Sent}
 use Rattle.protocol.specs.Replica.State.{Call, Ran, opening, ran_in, ran_by}
 use Rattle.protocol.specs.Client.RightClient.{Vote}
-use Rattle.protocol.specs.Space.Linear.{Placing, first_position, batch_of, last_executed, ordered_point, ordered_points, read_point, read_points, is_double, sorted, points}
+use Rattle.protocol.specs.Space.Linear.{Placing, first_position, last_executed, ordered_point, ordered_points, read_point, read_points, is_double, sorted, points}
 use Rattle.evidence.specs.Examples.{four}
 use Rattle.evidence.specs.FirstOperation.{FirstFrames, AreFirstFrames, first_answer, first_trace, first_item, FirstOperationHasItsPoint}
 use Rattle.evidence.proofs.FirstReplicasSteps.{Part, the_ran, called}
@@ -43,12 +43,6 @@ module _ (clients : ℕ) (seed : List ℕ) (op : Operation) (batch : List ℕ) (
   pub ran_one : ran_in c 1 opening (requests_of batch) ≡ the_ran op ∷ []
   unfolding no_replies
   ran_one = ap (ran_in c 1 opening) x.requests ∙ ap (λ (call : Option Call). option_map_or (ran_by opening 1) call [] ++ []) (called part)
-
-  last_one : last_executed trace ≡ 1
-  last_one = refl
-
-  the_batch : batch_of trace 1 ≡ batch
-  the_batch = refl
 
   -- the third replica executes it
   third : first_position c trace 1 ≡ Some 38

@@ -6,7 +6,7 @@ use Rattle.std.proofs.lemmas.Bool.{and_parts, and_from, eqb-false, ltb-true, ltb
 use Rattle.protocol.specs.System.Configuration.{Configuration, primary, span, members}
 use Rattle.wire.specs.Messages.{BodyData as Body, MessageData as Message, NewViewData, pre_prepare as PrePrepare}
 use Rattle.protocol.specs.System.Trace.{Entry, party_of}
-use Rattle.protocol.specs.System.Trace.Entry.{Invoke, Got, Tick, Executed, Installed, Sent, Accepted}
+use Rattle.protocol.specs.System.Trace.Entry.{Invoke, Got, Sent}
 use Rattle.protocol.specs.Replica.Certificates.{taken, low, is_in_marks, are_genuine, batch_from, batch_begun, begun_proposal, entry_proposal, proposal, logged}
 use Rattle.protocol.specs.Replica.RightReplica.{Point, Leaves, SafeReplica, IsFree, MaySay, MaySend, MayPrePrepare, May}
 use Rattle.evidence.specs.Certified.{LeavesNoGap}
@@ -68,10 +68,7 @@ entry_next c me v i batch (Sent p bytes) past point own party may h none =
     let say : MaySay c me past point (Sent p bytes) bytes t.1.0.message = subst (λ (x : Body). MaySay c me past point (Sent p bytes) bytes x.message) (some_injective m.body t.1.0 (sym m.says ∙ t.1.1)) m.say in
     next_by c me v i batch past point (Sent p bytes) bytes t.1.0.sender t.1.0.message say t.1.2 none
 entry_next c me v i batch (Invoke x y z) past point own party may h none = absurd cc
-entry_next c me v i batch (Tick x) past point own party may h none = absurd cc
-entry_next c me v i batch (Executed x y z) past point own party may h none = absurd cc
-entry_next c me v i batch (Installed x y z) past point own party may h none = absurd cc
-entry_next c me v i batch (Accepted x y z) past point own party may h none = absurd cc
+entry_next c me v i batch _ past point own party may h none = absurd cc
 
 -- if a new view has a batch for a number, it has one for each number between its start and that number
 begun_between : (c : Configuration) (v i j : ℕ) (new : NewViewData) (batch : List ℕ) → batch_begun v i new ≡ Some batch → new.start < j → j < i → (x : List ℕ) × (batch_begun new.view j new ≡ Some x)

@@ -5,13 +5,13 @@ use Rattle.std.specs.Option.{option_map_or}
 use Rattle.std.proofs.lemmas.List.{length-append}
 use Rattle.std.proofs.lemmas.List.FromFn.{length-map-range_with_len}
 use Rattle.partition_tree.specs.Digests.{page_digests}
-use Rattle.wire.specs.Messages.{BodyData as Body, MessageData as Message, request as Request, pre_prepare as PrePrepare, prepare as Prepare, commit as Commit, checkpoint as Checkpoint, view_change as ViewChange, new_view as NewView, reply as Reply, fetch as Fetch, meta as Meta, page as Page}
+use Rattle.wire.specs.Messages.{BodyData as Body, MessageData as Message, new_view as NewView}
 use Rattle.wire.specs.Spelling.{IsMessage}
 use Rattle.wire.specs.Words.{said}
 use Rattle.wire.proofs.Saying.{says_what_is_spelled}
 use Rattle.protocol.specs.System.Configuration.{Configuration}
 use Rattle.protocol.specs.System.Trace.{Entry, history_of, Once, Has}
-use Rattle.protocol.specs.System.Trace.Entry.{Invoke, Got, Tick, Executed, Installed, Sent, Accepted}
+use Rattle.protocol.specs.System.Trace.Entry.{Got, Executed, Installed, Sent}
 use Rattle.protocol.specs.Replica.Selection.{null_batch}
 use Rattle.protocol.specs.Replica.State.{State, opening, after_batches, page_text, all_pages, pages_of}
 use Rattle.protocol.specs.Replica.Transfers.{in_place}
@@ -103,12 +103,7 @@ state_listed c trace (b ∷ batches) text h has =
 
     here : (past : List Entry) (e : Entry) → ExecutesBatch c (1 + length batches) (last_first c trace 1 b batches h).0 past e → Has (λ x. x ≡ text) (texts_at c trace past e)
     here past (Executed r number x) g = there number g.1
-    here past (Got x y) g = absurd g
-    here past (Tick x) g = absurd g
-    here past (Sent x y) g = absurd g
-    here past (Invoke x y z) g = absurd g
-    here past (Installed x y z) g = absurd g
-    here past (Accepted x y z) g = absurd g
+    here past _ g = absurd g
 
 -- ---- each text is listed
 
@@ -119,21 +114,13 @@ batch_here : (c : Configuration) (trace : List Entry) (text : List ℕ) (past : 
 batch_here c trace text past (Got p bytes) (body, says, has) =
     has_left (λ x. x ≡ text) (said_texts batches_of bytes) (said_texts parts_of bytes) (has_said batches_of text bytes body says has)
 batch_here c trace text past (Sent p bytes) (body, says, has) = has_said batches_of text bytes body says has
-batch_here c trace text past (Tick x) h = absurd h
-batch_here c trace text past (Executed x y z) h = absurd h
-batch_here c trace text past (Invoke x y z) h = absurd h
-batch_here c trace text past (Installed x y z) h = absurd h
-batch_here c trace text past (Accepted x y z) h = absurd h
+batch_here c trace text past _ h = absurd h
 
 part_here : (c : Configuration) (trace : List Entry) (text : List ℕ) (past : List Entry) (e : Entry) → HasPart text past e → Has (λ x. x ≡ text) (texts_at c trace past e)
 part_here c trace text past (Got p bytes) (body, says, has) =
     has_right (λ x. x ≡ text) (said_texts batches_of bytes) (said_texts parts_of bytes) (has_said parts_of text bytes body says has)
 part_here c trace text past (Sent p bytes) h = absurd h
-part_here c trace text past (Tick x) h = absurd h
-part_here c trace text past (Executed x y z) h = absurd h
-part_here c trace text past (Invoke x y z) h = absurd h
-part_here c trace text past (Installed x y z) h = absurd h
-part_here c trace text past (Accepted x y z) h = absurd h
+part_here c trace text past _ h = absurd h
 
 installed_here : (c : Configuration) (trace : List Entry) (batches : List (List ℕ)) (text : List ℕ) → AreFirst c trace 1 batches → (past : List Entry) (e : Entry) → InstallsOver c batches text past e
     → Has (λ x. x ≡ text) (texts_at c trace past e)
@@ -141,11 +128,7 @@ installed_here c trace batches text h past (Installed r k root) (correct, n, u) 
     subst (λ (st : State). Has (λ x. x ≡ text) (unders (in_place c r k (history_of r past) st))) (sym (same_state c trace batches (reached past r) h n))
     (has_under (in_place c r k (history_of r past) (after_batches c opening batches)) text u)
 installed_here c trace batches text h past (Got x y) g = absurd g
-installed_here c trace batches text h past (Tick x) g = absurd g
-installed_here c trace batches text h past (Sent x y) g = absurd g
-installed_here c trace batches text h past (Executed x y z) g = absurd g
-installed_here c trace batches text h past (Invoke x y z) g = absurd g
-installed_here c trace batches text h past (Accepted x y z) g = absurd g
+installed_here c trace batches text h past _ g = absurd g
 
 pub texts_are_listed : TextsAreListed
 texts_are_listed c trace _ null = first_listed c trace null_batch (inl refl) trace
@@ -174,17 +157,8 @@ state_count st =
     omega arith
 
 message_count : (m : Message) → IsMessage m → length (batches_of m) + length (parts_of m) ≤ 32
-message_count (PrePrepare v i b) h = omega arith
 message_count (NewView new) h = let n = h.count in omega arith
-message_count (Meta a b d e) h = omega arith
-message_count (Page a b d) h = omega arith
-message_count (Request a b d) h = omega arith
-message_count (Prepare a b d) h = omega arith
-message_count (Commit a b d) h = omega arith
-message_count (Checkpoint a b) h = omega arith
-message_count (ViewChange a) h = omega arith
-message_count (Reply a b d e f) h = omega arith
-message_count (Fetch a b d) h = omega arith
+message_count _ h = omega arith
 
 frame_count : (bytes : List ℕ) → length (said_texts batches_of bytes) + length (said_texts parts_of bytes) ≤ 32
 frame_count bytes = go (said bytes) refl
@@ -202,9 +176,7 @@ entry_count c trace past (Sent p bytes) = let f = frame_count bytes in omega ari
 entry_count c trace past (Executed r k b) = let s = state_count (state_at c trace k) in omega arith
 entry_count c trace past (Installed r k root) =
     let u = unders_count (in_place c r k (history_of r past) (state_at c trace (reached past r))) in omega arith
-entry_count c trace past (Tick x) = omega arith
-entry_count c trace past (Invoke x y z) = omega arith
-entry_count c trace past (Accepted x y z) = omega arith
+entry_count c trace past _ = omega arith
 
 pub first_count : (c : Configuration) (trace : List Entry) → length (texts_from c trace []) ≡ 1058
 first_count c trace = ap suc (state_count opening)

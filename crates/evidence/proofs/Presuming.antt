@@ -8,11 +8,11 @@ use Rattle.std.proofs.Math.Nat.{mod-eq_of_lt, add-mod_right}
 use Rattle.quorum.specs.Quorum.{member}
 use Rattle.tuple_codec.specs.Operations.{Operation, IsOperation}
 use Rattle.partition_tree.specs.Digests.{inner_digests, page_digests}
-use Rattle.wire.specs.Messages.{BodyData as Body, MessageData as Message, request as Request, pre_prepare as PrePrepare, prepare as Prepare, commit as Commit, checkpoint as Checkpoint, view_change as ViewChange, new_view as NewView, reply as Reply, fetch as Fetch, meta as Meta, page as Page}
+use Rattle.wire.specs.Messages.{BodyData as Body, MessageData as Message, pre_prepare as PrePrepare, new_view as NewView, meta as Meta, page as Page}
 use Rattle.protocol.specs.System.Configuration.{Configuration, IsConfiguration, replicas, is_replica, is_client, is_faulty_replica, is_correct_replica, is_correct_client, is_correct, members}
 use Rattle.signing.specs.Heard.{heard, signed_body}
 use Rattle.protocol.specs.System.Trace.{Entry, party_of, is_output, history_of, Always, Has, Once, SendsBody, IsFromSender, frames_in}
-use Rattle.protocol.specs.System.Trace.Entry.{Invoke, Got, Tick, Executed, Installed, Sent, Accepted}
+use Rattle.protocol.specs.System.Trace.Entry.{Invoke, Got, Tick, Executed, Installed, Sent}
 use Rattle.protocol.specs.Replica.State.{opening, page_text}
 use Rattle.protocol.specs.Replica.RightReplica.{waiting_after}
 use Rattle.protocol.specs.System.Texts.{IsUnder, InstallsOver, HasBatch, HasPart, batches_of, parts_of, first_batch}
@@ -229,12 +229,7 @@ runs_take_calls c valid trace run k op correct right none =
 
 pub others_are_unforged : OthersAreUnforged
 others_are_unforged c (Got p bytes) trace unforged other = absurd (other p bytes refl)
-others_are_unforged c (Tick p) trace unforged other = (tt, unforged)
-others_are_unforged c (Sent p bytes) trace unforged other = (tt, unforged)
-others_are_unforged c (Invoke x y z) trace unforged other = (tt, unforged)
-others_are_unforged c (Accepted x y z) trace unforged other = (tt, unforged)
-others_are_unforged c (Installed p k root) trace unforged other = (tt, unforged)
-others_are_unforged c (Executed p k b) trace unforged other = (tt, unforged)
+others_are_unforged c _ trace unforged other = (tt, unforged)
 
 -- if a party may receive a frame from a correct sender, the sender has sent its message
 taken_was_sent : (c : Configuration) (past : List Entry) (o : Option Body) → MayBeTaken c past o → (body : Body) → o ≡ Some body
@@ -280,12 +275,7 @@ executes_none c k text (e ∷ past) quiet (inl h) = go e quiet.0 h
   where
     go : (e : Entry) → is_quiet e ≡ true → ExecutesBatch c k text past e → ⊥
     go (Executed p n b) quiet h = absurd cc
-    go (Got p bytes) quiet h = h
-    go (Tick p) quiet h = h
-    go (Sent p bytes) quiet h = h
-    go (Invoke x y z) quiet h = h
-    go (Accepted x y z) quiet h = h
-    go (Installed p n root) quiet h = h
+    go _ quiet h = h
 
 none_first : (c : Configuration) (k : ℕ) (text : List ℕ) (xs : List Entry) → Always (λ past e. is_quiet e ≡ true) xs → first_batch c xs k ≡ Some text → ⊥
 none_first c k text xs quiet h = executes_none c k text xs quiet (first_executes c k text xs h)
@@ -297,12 +287,7 @@ installs_none c batches text (e ∷ past) quiet (inl h) = go e quiet.0 h
   where
     go : (e : Entry) → is_quiet e ≡ true → InstallsOver c batches text past e → ⊥
     go (Installed p n root) quiet h = absurd cc
-    go (Executed p n b) quiet h = h
-    go (Got p bytes) quiet h = h
-    go (Tick p) quiet h = h
-    go (Sent p bytes) quiet h = h
-    go (Invoke x y z) quiet h = h
-    go (Accepted x y z) quiet h = h
+    go _ quiet h = h
 
 -- ---- what frames bring
 
@@ -310,15 +295,7 @@ has_batch : (text : List ℕ) (message : Message) → Has (λ x. x ≡ text) (ba
 has_batch text (PrePrepare v i b) (inl h) = h
 has_batch text (PrePrepare v i b) (inr h) = absurd h
 has_batch text (NewView new) h = h
-has_batch text (Request a b d) h = absurd h
-has_batch text (Prepare a b d) h = absurd h
-has_batch text (Commit a b d) h = absurd h
-has_batch text (Checkpoint a b) h = absurd h
-has_batch text (ViewChange a) h = absurd h
-has_batch text (Reply a b d e f) h = absurd h
-has_batch text (Fetch a b d) h = absurd h
-has_batch text (Meta a b d e) h = absurd h
-has_batch text (Page a b d) h = absurd h
+has_batch text _ h = absurd h
 
 has_part : (text : List ℕ) (body : Body) → is_page body ≡ false → Has (λ x. x ≡ text) (parts_of body.message) → HasText text body.message
 has_part text body quiet h = go body.message quiet h
@@ -327,24 +304,12 @@ has_part text body quiet h = go body.message quiet h
     go (Meta a b d e) quiet (inl h) = h
     go (Meta a b d e) quiet (inr h) = absurd h
     go (Page a b d) quiet h = absurd cc
-    go (PrePrepare a b d) quiet h = absurd h
-    go (NewView a) quiet h = absurd h
-    go (Request a b d) quiet h = absurd h
-    go (Prepare a b d) quiet h = absurd h
-    go (Commit a b d) quiet h = absurd h
-    go (Checkpoint a b) quiet h = absurd h
-    go (ViewChange a) quiet h = absurd h
-    go (Reply a b d e f) quiet h = absurd h
-    go (Fetch a b d) quiet h = absurd h
+    go _ quiet h = absurd h
 
 brings_batch : (text : List ℕ) (past : List Entry) (e : Entry) → HasBatch text past e → BringsText text past e
 brings_batch text past (Got p bytes) (body, says, h) = (body, says, has_batch text body.message h)
 brings_batch text past (Sent p bytes) (body, says, h) = (body, says, has_batch text body.message h)
-brings_batch text past (Tick p) h = h
-brings_batch text past (Invoke x y z) h = h
-brings_batch text past (Accepted x y z) h = h
-brings_batch text past (Installed p n root) h = h
-brings_batch text past (Executed p n b) h = h
+brings_batch text past _ h = h
 
 brings_part : (text : List ℕ) (xs : List Entry) → Always (λ past e. is_quiet e ≡ true) xs → Once (HasPart text) xs → Once (BringsText text) xs
 brings_part text [] quiet h = h
@@ -359,11 +324,7 @@ brings_part text (e ∷ past) quiet (inl h) = inl (go e quiet.0 h)
     go (Got p bytes) quiet (body, says, h) =
         (body, says, has_part text body (no_page (is_page body) (sym (ap (λ (o : Option Body). not (option_map_or is_page o false)) says) ∙ quiet)) h)
     go (Sent p bytes) quiet h = absurd h
-    go (Tick p) quiet h = h
-    go (Invoke x y z) quiet h = h
-    go (Accepted x y z) quiet h = h
-    go (Installed p n root) quiet h = h
-    go (Executed p n b) quiet h = h
+    go _ quiet h = h
 
 pub texts_are_few : TextsAreFew
 texts_are_few c trace _ quiet null = inl refl

@@ -94,12 +94,7 @@ above_target me vc past h =
   where
     speaks : (x : List Entry) (e : Entry) → IsSaying me (ViewChange vc) e → Speaks (record { sender = me; message = ViewChange vc }) x e
     speaks x (Sent p bytes) t = t
-    speaks x (Invoke a b d) t = absurd t
-    speaks x (Got a b) t = absurd t
-    speaks x (Tick a) t = absurd t
-    speaks x (Executed a b d) t = absurd t
-    speaks x (Installed a b d) t = absurd t
-    speaks x (Accepted a b d) t = absurd t
+    speaks x _ t = absurd t
 
 inactive : (c : Configuration) (me v : ℕ) (vc : ViewChangeData) (past : List Entry) → Once (λ earlier. IsSaying me (ViewChange vc)) past → v < vc.view → is_active_in c past v ≡ true → ⊥
 inactive c me v vc past h above active =
@@ -133,12 +128,7 @@ one_pre_prepare c me v i a b bytes past says earlier right =
   where
     offers : (x : List Entry) (e : Entry) → IsSaying me (PrePrepare v i a) e → offer_in v i e ≡ Some a
     offers x (Sent p sent) t = rw t (rw (eq-eqb v v refl, eq-eqb i i refl) refl)
-    offers x (Invoke y z w) t = absurd t
-    offers x (Got y z) t = absurd t
-    offers x (Tick y) t = absurd t
-    offers x (Executed y z w) t = absurd t
-    offers x (Installed y z w) t = absurd t
-    offers x (Accepted y z w) t = absurd t
+    offers x _ t = absurd t
 
     go : MayPrePrepare c me past right.1.0 (Sent me bytes) v i b → (logged c me past v i ≡ Some a) ⊎ (i ≤ low c me past) → a ≡ b
     go m (inl l) = some_injective a b (sym (logged_stays c me v i a (Sent me bytes) past l) ∙ m.one)
@@ -155,13 +145,11 @@ newest_state c me [] point h = ap (λ (p : Point). p.state.number) h
 newest_state c me (e ∷ past) point h = go e h.2.may h.2.moves (newest_state c me past h.0 h.1)
   where
     go : (e : Entry) → May c me past h.0 e → Moves c me past h.0 e point → h.0.state.number ≡ newest_number past → point.state.number ≡ newest_number (e ∷ past)
-    go (Got p bytes) may move was = ap (λ (q : Point). q.state.number) move ∙ was
-    go (Tick p) may move was = ap (λ (q : Point). q.state.number) move ∙ was
-    go (Sent p bytes) may move was = ap (λ (q : Point). q.state.number) move ∙ was
     go (Invoke x y z) may move was = absurd may
     go (Accepted x y z) may move was = absurd may
     go (Executed p k batch) may move was = ap (λ (q : Point). q.state.number) move ∙ executed_number c h.0.state batch ∙ sym may.next
     go (Installed p k root) may move was = move.number
+    go _ may move was = ap (λ (q : Point). q.state.number) move ∙ was
 
 pub executes_next : ExecutesNext
 executes_next c me k batch past right = right.1.2.may.next ∙ ap suc (newest_state c me past right.1.0 right.1.1)
@@ -269,12 +257,7 @@ no_change_while_active c me bytes vc past says before active right = go (says_ma
   where
     sends : (x : List Entry) (e : Entry) → SendsBytes bytes x e → IsSaying me (ViewChange vc) e
     sends x (Sent p sent) h = subst (λ (ys : List ℕ). said ys ≡ Some (record { sender = me; message = ViewChange vc })) (sym h) says
-    sends x (Invoke a b d) h = absurd h
-    sends x (Got a b) h = absurd h
-    sends x (Tick a) h = absurd h
-    sends x (Executed a b d) h = absurd h
-    sends x (Installed a b d) h = absurd h
-    sends x (Accepted a b d) h = absurd h
+    sends x _ h = absurd h
 
     go : MayViewChange c me past right.1.0 bytes vc → ⊥
     go (inl change) =

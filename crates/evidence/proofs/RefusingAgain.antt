@@ -5,7 +5,7 @@ use Rattle.std.proofs.lemmas.Bool.{ltb-false, ltb-true}
 use Rattle.wire.specs.Words.{requests_of}
 use Rattle.protocol.specs.System.Configuration.{Configuration, IsConfiguration}
 use Rattle.protocol.specs.System.Trace.{Entry, Always, Has}
-use Rattle.protocol.specs.System.Trace.Entry.{Invoke, Got, Tick, Executed, Installed, Sent, Accepted}
+use Rattle.protocol.specs.System.Trace.Entry.{Invoke, Executed, Installed, Accepted}
 use Rattle.protocol.specs.Replica.State.{State, Call, Ran, call_of, runs, run_call, ran_call, kept_by, run_frame, ran_by, ran_in, execute, last_time}
 use Rattle.protocol.specs.Replica.RightReplica.{Point, Leaves, May, Moves}
 use Rattle.evidence.specs.Refused.{RunsOnce, NoInstallation}
@@ -72,13 +72,11 @@ module _ (c : Configuration) (setting : IsConfiguration c) where
   leaves_full me (e ∷ past) point h = go e h.2.may h.2.moves (leaves_full me past h.0 h.1)
     where
       go : (e : Entry) → May c me past h.0 e → Moves c me past h.0 e point → Full h.0.state → Full point.state
-      go (Got p bytes) may move full = subst (λ (q : Point). Full q.state) (sym move) full
-      go (Tick p) may move full = subst (λ (q : Point). Full q.state) (sym move) full
-      go (Sent p bytes) may move full = subst (λ (q : Point). Full q.state) (sym move) full
       go (Executed p k batch) may move full = subst (λ (q : Point). Full q.state) (sym move) (executed_full c h.0.state batch full)
       go (Installed p k root) may move full = move.is_state.replies.all
       go (Invoke x y z) may move full = absurd may
       go (Accepted x y z) may move full = absurd may
+      go _ may move full = subst (λ (q : Point). Full q.state) (sym move) full
 
   time_stays : (me : ℕ) (between rest : List Entry) (t cl : ℕ) → Always NoInstallation between → ((point : Point) → Leaves c me rest point → t ≤ last_time point.state cl)
       → (point : Point) → Leaves c me (between ++ rest) point → t ≤ last_time point.state cl
@@ -86,15 +84,13 @@ module _ (c : Configuration) (setting : IsConfiguration c) where
   time_stays me (e ∷ between) rest t cl none start point h = go e h.2.may h.2.moves none.0 (time_stays me between rest t cl none.1 start h.0 h.1)
     where
       go : (e : Entry) → May c me (between ++ rest) h.0 e → Moves c me (between ++ rest) h.0 e point → NoInstallation between e → t ≤ last_time h.0.state cl → t ≤ last_time point.state cl
-      go (Got p bytes) may move n was = subst (λ (q : Point). t ≤ last_time q.state cl) (sym move) was
-      go (Tick p) may move n was = subst (λ (q : Point). t ≤ last_time q.state cl) (sym move) was
-      go (Sent p bytes) may move n was = subst (λ (q : Point). t ≤ last_time q.state cl) (sym move) was
       go (Executed p k batch) may move n was =
           let grows = executed_grows h.0.state batch cl (leaves_full me (between ++ rest) h.0 h.1) in
           subst (λ (q : Point). t ≤ last_time q.state cl) (sym move) (omega arith)
       go (Installed p k root) may move n was = absurd n
       go (Invoke x y z) may move n was = absurd may
       go (Accepted x y z) may move n was = absurd may
+      go _ may move n was = subst (λ (q : Point). t ≤ last_time q.state cl) (sym move) was
 
   -- ---- what does not run
 

@@ -13,7 +13,7 @@ use Rattle.terms.specs.declared.state.Level.TheVariants as levels
 use Rattle.wire.specs.Messages.{BodyData as Body, MessageData as Message, ViewChangeData, CheckpointEntryData as CheckpointEntry, request as Request, pre_prepare as PrePrepare, prepare as Prepare, commit as Commit, checkpoint as Checkpoint, view_change as ViewChange, new_view as NewView, fetch as Fetch, meta as Meta, page as Page}
 use Rattle.signing.specs.Heard.{heard}
 use Rattle.protocol.specs.System.Trace.{Entry, Has}
-use Rattle.protocol.specs.System.Trace.Entry.{Invoke, Got, Tick, Executed, Installed, Sent, Accepted}
+use Rattle.protocol.specs.System.Trace.Entry.{Invoke, Got, Sent}
 use Rattle.protocol.specs.Replica.Selection.{is_within}
 use Rattle.protocol.specs.Replica.Certificates.{view, change_taken, latest_change, low, is_active_in, is_in_marks, batch_from, are_genuine, logged, prepare_from, commit_from, prepare_of, commit_of, vote_in, checkpoint_from, checkpoint_in, insert_checkpoint, with_checkpoint, checkpoints_of}
 use Rattle.reply_cache.specs.Replies.{Kept}
@@ -277,11 +277,7 @@ got_counts c s vc x (Got p sent) t =
         go true b false ea ed f = absurd cc
         go false b d ea ed f = absurd cc
 got_counts c s vc x (Invoke a b d) t = absurd t
-got_counts c s vc x (Sent a b) t = absurd t
-got_counts c s vc x (Tick a) t = absurd t
-got_counts c s vc x (Executed a b d) t = absurd t
-got_counts c s vc x (Installed a b d) t = absurd t
-got_counts c s vc x (Accepted a b d) t = absurd t
+got_counts c s vc x _ t = absurd t
 
 pub drops_passed_changes : DropsPassedChanges
 drops_passed_changes c me s vc earlier bytes past got below a =

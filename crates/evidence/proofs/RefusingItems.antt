@@ -7,7 +7,7 @@ use Rattle.wire.specs.Messages.{request as Request}
 use Rattle.protocol.specs.System.Configuration.{Configuration, members}
 use Rattle.signing.specs.Heard.{heard}
 use Rattle.protocol.specs.System.Trace.{Entry, Once, Always, Has, frames_in}
-use Rattle.protocol.specs.System.Trace.Entry.{Invoke, Got, Tick, Executed, Installed, Sent, Accepted}
+use Rattle.protocol.specs.System.Trace.Entry.{Invoke, Got, Accepted}
 use Rattle.protocol.specs.Space.Linear.{Item, item_outcome, item_after, LegalFrom, Invokes, Accepts, Asks, NoneTwice, NeverFall}
 use Rattle.evidence.specs.RefusedItems.{left_by, AnswersAsOneSpace, ListsWhatIsAccepted, ListsWhatIsCalled, IsAskedAt, ListsWhatIsAsked, ListsNoneTwice, PlacesInOrder, PlacesBehindCalls, PlacesBeforeAcceptances, LinearIsAllThree}
 use Rattle.protocol.proofs.Words.Temporal.{once_weaker}
@@ -45,11 +45,7 @@ is_call client timestamp op past (Invoke k t o) h =
     let does : o ≡ op = h.2 in
     cc
 is_call client timestamp op past (Got p bytes) h = absurd h
-is_call client timestamp op past (Tick p) h = absurd h
-is_call client timestamp op past (Executed r n b) h = absurd h
-is_call client timestamp op past (Installed r n b) h = absurd h
-is_call client timestamp op past (Sent p bytes) h = absurd h
-is_call client timestamp op past (Accepted k t a) h = absurd h
+is_call client timestamp op past _ h = absurd h
 
 accepts_there : (client timestamp : ℕ) (answer : Outcome) (trace : List Entry) → Has (λ e. e ≡ Accepted client timestamp answer) trace → Once (Accepts (256 + client) timestamp answer) trace
 accepts_there client timestamp answer [] h = h
@@ -75,11 +71,7 @@ is_asked c item past (Got p bytes) h =
     let r = has_some (λ (frame : List ℕ). heard (members c) p frame ≡ Some (record { sender = item.client; message = Request item.timestamp modes.Ordered item.op })) (frames_in bytes) h.1 in
     (p, bytes, r.0, refl, h.0, r.1, r.2)
 is_asked c item past (Invoke k t o) h = absurd h
-is_asked c item past (Tick p) h = absurd h
-is_asked c item past (Executed r n b) h = absurd h
-is_asked c item past (Installed r n b) h = absurd h
-is_asked c item past (Sent p bytes) h = absurd h
-is_asked c item past (Accepted k t a) h = absurd h
+is_asked c item past _ h = absurd h
 
 pub lists_what_is_asked : ListsWhatIsAsked
 lists_what_is_asked c items trace item covers has faulty =

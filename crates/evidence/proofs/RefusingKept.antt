@@ -140,9 +140,6 @@ snapshots_fall c me [] point h = subst (λ (p : Point). Falls (suc p.state.numbe
 snapshots_fall c me (e ∷ past) point h = go e h.2.may h.2.moves (snapshots_fall c me past h.0 h.1)
   where
     go : (e : Entry) → May c me past h.0 e → Moves c me past h.0 e point → Falls (suc h.0.state.number) h.0.snapshots → Falls (suc point.state.number) point.snapshots
-    go (Got p bytes) may move was = subst (λ (q : Point). Falls (suc q.state.number) q.snapshots) (sym move) was
-    go (Tick p) may move was = subst (λ (q : Point). Falls (suc q.state.number) q.snapshots) (sym move) was
-    go (Sent p bytes) may move was = subst (λ (q : Point). Falls (suc q.state.number) q.snapshots) (sym move) was
     go (Invoke x y z) may move was = absurd may
     go (Accepted x y z) may move was = absurd may
     go (Installed p k root) may move was =
@@ -158,6 +155,7 @@ snapshots_fall c me (e ∷ past) point h = go e h.2.may h.2.moves (snapshots_fal
         by : (b : Bool) → Falls (suc new.number) (cond b (new ∷ h.0.snapshots) h.0.snapshots)
         by true = let is = executed_number c h.0.state batch in let l : suc h.0.state.number ≤ new.number = omega arith in (omega arith, falls_below (suc h.0.state.number) new.number h.0.snapshots l was)
         by false = let is = executed_number c h.0.state batch in let l : suc h.0.state.number ≤ suc new.number = omega arith in falls_below (suc h.0.state.number) (suc new.number) h.0.snapshots l was
+    go _ may move was = subst (λ (q : Point). Falls (suc q.state.number) q.snapshots) (sym move) was
 
 -- each is at or above the number, and above the one before it
 abbrev Rises : ℕ → List CheckpointEntry → Type 0

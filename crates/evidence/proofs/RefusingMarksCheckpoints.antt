@@ -6,7 +6,7 @@ use Rattle.std.specs.Bool.{then_some}
 use Rattle.protocol.specs.System.Configuration.{Configuration, is_number}
 use Rattle.wire.specs.Messages.{MessageData as Message, CheckpointEntryData as CheckpointEntry, checkpoint as Checkpoint}
 use Rattle.protocol.specs.System.Trace.{Entry, Once, Has}
-use Rattle.protocol.specs.System.Trace.Entry.{Invoke, Got, Tick, Executed, Installed, Sent, Accepted}
+use Rattle.protocol.specs.System.Trace.Entry.{Got, Sent}
 use Rattle.protocol.specs.Replica.Certificates.{brought, checkpoint_from, checkpoint_in, insert_checkpoint, with_checkpoint, checkpoints_of}
 use Rattle.evidence.specs.RefusedMarks.{BringsCheckpoint, FirstCheckpointCounts, NewCheckpointCounts, CheckpointsStay, CheckpointsAreFew, CheckpointsDescend, CheckpointsWereBrought}
 use Rattle.protocol.proofs.Words.Options.{and_then_some, then_some_gives}
@@ -106,20 +106,12 @@ has_of_take (suc k) old (m ∷ checkpoints) (inr h) = inr (has_of_take k old che
 brought_message : (c : Configuration) (s k : ℕ) (root : List ℕ) (e : Entry) → BringsCheckpoint c s k root e → brought c e ≡ Some (record { sender = s; message = Checkpoint k root })
 brought_message c s k root (Got p bytes) h = h
 brought_message c s k root (Sent p bytes) h = h
-brought_message c s k root (Invoke x y z) h = absurd h
-brought_message c s k root (Tick x) h = absurd h
-brought_message c s k root (Executed x y z) h = absurd h
-brought_message c s k root (Installed x y z) h = absurd h
-brought_message c s k root (Accepted x y z) h = absurd h
+brought_message c s k root _ h = absurd h
 
 brings_message : (c : Configuration) (s k : ℕ) (root : List ℕ) (e : Entry) → brought c e ≡ Some (record { sender = s; message = Checkpoint k root }) → BringsCheckpoint c s k root e
 brings_message c s k root (Got p bytes) h = h
 brings_message c s k root (Sent p bytes) h = h
-brings_message c s k root (Invoke x y z) h = absurd cc
-brings_message c s k root (Tick x) h = absurd cc
-brings_message c s k root (Executed x y z) h = absurd cc
-brings_message c s k root (Installed x y z) h = absurd cc
-brings_message c s k root (Accepted x y z) h = absurd cc
+brings_message c s k root _ h = absurd cc
 
 given : (c : Configuration) (s k : ℕ) (root : List ℕ) (e : Entry) → BringsCheckpoint c s k root e → checkpoint_in c e ≡ then_some (is_number k) (s, entry_of k root)
 given c s k root e h = ap (option_and_then checkpoint_from) (brought_message c s k root e h)

@@ -9,7 +9,7 @@ use Rattle.quorum.proofs.Counting.{count_mono}
 use Rattle.protocol.specs.System.Configuration.{Configuration, replicas}
 use Rattle.wire.specs.Messages.{NewViewData, CheckpointEntryData as CheckpointEntry}
 use Rattle.protocol.specs.System.Trace.{Entry, Once, Has}
-use Rattle.protocol.specs.System.Trace.Entry.{Invoke, Got, Tick, Executed, Installed, Sent, Accepted}
+use Rattle.protocol.specs.System.Trace.Entry.{Installed}
 use Rattle.protocol.specs.Replica.Selection.{is_quorum}
 use Rattle.protocol.specs.Replica.Certificates.{taken, checkpoint_in, insert_checkpoint, with_checkpoint, checkpoints_of, says_checkpoint, count_checkpoints, is_stable, stable_at, installed_at, started_at, low}
 use Rattle.evidence.specs.RefusedMarks.{IsStable, InstallsNumber, IsMarkAt, LowIsNoLower, LowIsMarked}
@@ -135,12 +135,7 @@ marked_low c me k past e (inr (inl h)) = go e h (low_with c me e past)
   where
     go : (e : Entry) → InstallsNumber k e → low c me (e ∷ past) ≡ max (low c me past) (max (stable_at c me past e) (max (installed_at e) (started_at c past e))) → k ≤ low c me (e ∷ past)
     go (Installed x y z) is grown = omega arith
-    go (Invoke x y z) is grown = absurd is
-    go (Got x y) is grown = absurd is
-    go (Tick x) is grown = absurd is
-    go (Executed x y z) is grown = absurd is
-    go (Sent x y) is grown = absurd is
-    go (Accepted x y z) is grown = absurd is
+    go _ is grown = absurd is
 
 pub low_is_no_lower : LowIsNoLower
 low_is_no_lower c me k past h =
@@ -174,12 +169,7 @@ by_stable c me past e = go (checkpoint_in c e) refl
 
 by_installed : (c : Configuration) (me : ℕ) (past : List Entry) (e : Entry) → (installed_at e ≡ 0) ⊎ IsMarkAt c me (installed_at e) past e
 by_installed c me past (Installed x y z) = inr (inr (inl refl))
-by_installed c me past (Invoke x y z) = inl refl
-by_installed c me past (Got x y) = inl refl
-by_installed c me past (Tick x) = inl refl
-by_installed c me past (Executed x y z) = inl refl
-by_installed c me past (Sent x y) = inl refl
-by_installed c me past (Accepted x y z) = inl refl
+by_installed c me past _ = inl refl
 
 by_started : (c : Configuration) (me : ℕ) (past : List Entry) (e : Entry) → (started_at c past e ≡ 0) ⊎ IsMarkAt c me (started_at c past e) past e
 by_started c me past e = go (taken c past e) refl

@@ -54,10 +54,8 @@ ran_here c me input past [] is all point h x has = go input is h.2.may h.2.moves
     go (Got p bytes) is may move = none (ap (λ (q : Point). q.ran) move)
     go (Tick p) is may move = none (ap (λ (q : Point). q.ran) move)
     go (Invoke a b d) is may move = absurd may
-    go (Executed a b d) is may move = absurd (let bad : true ≡ false = is in cc)
-    go (Installed a b d) is may move = absurd (let bad : true ≡ false = is in cc)
-    go (Sent a b) is may move = absurd (let bad : true ≡ false = is in cc)
     go (Accepted a b d) is may move = absurd may
+    go _ is may move = absurd (let bad : true ≡ false = is in cc)
 ran_here c me input past (e ∷ outputs) is all point h x has = go e all.0 h.2.may h.2.moves (ran_here c me input past outputs is all.1 h.0 h.1 x)
   where
     go : (e : Entry) → is_output e ≡ true → May c me (outputs ++ input ∷ past) h.0 e → Moves c me (outputs ++ input ∷ past) h.0 e point → (Has (λ y. y ≡ x) h.0.ran → Has (Executes x.kept.number []) outputs)

@@ -5,12 +5,12 @@ use Rattle.std.proofs.lemmas.List.{reverse-reverse}
 use mathlib.Core.List.{reverse_aux}
 use Rattle.protocol.specs.System.Configuration.{Configuration}
 use Rattle.protocol.specs.System.Trace.{Entry, is_output, Once, Has, AreOutputs, either, Hears}
-use Rattle.protocol.specs.System.Trace.Entry.{Invoke, Got, Tick, Executed, Installed, Sent, Accepted}
+use Rattle.protocol.specs.System.Trace.Entry.{Got, Tick, Executed, Sent}
 use Rattle.protocol.specs.Replica.State.{State, root_of, Call}
 use Rattle.protocol.specs.Replica.RightReplica.{Point, Leaves, Executes, IsInstalled, IsRootWanted, TimesOut, JoinsOthers}
 use Rattle.protocol.specs.Replica.Transfers.{fetch_sent, fetching}
 use Rattle.wire.specs.Words.{requests_of, said}
-use Rattle.wire.specs.Messages.{pre_prepare as PrePrepare, checkpoint as Checkpoint, reply as Reply, ViewChangeData, NewViewData, view_change as ViewChange}
+use Rattle.wire.specs.Messages.{pre_prepare as PrePrepare, checkpoint as Checkpoint, reply as Reply, ViewChangeData, view_change as ViewChange}
 use Rattle.terms.specs.declared.state.Level.TheVariants as levels
 use Rattle.terms.specs.declared.order.Mode.TheVariants as modes
 use Rattle.tuple_codec.specs.Operations.{Outcome}
@@ -213,12 +213,7 @@ sends_checkpoints c me k input outputs past executed multiple goes =
   where
     here : (past : List Entry) (x : Entry) → Executes k past x → Executes k [] x
     here past (Executed r n batch) h = h
-    here past (Invoke x y z) h = absurd h
-    here past (Got x y) h = absurd h
-    here past (Tick x) h = absurd h
-    here past (Installed x y z) h = absurd h
-    here past (Sent x y) h = absurd h
-    here past (Accepted x y z) h = absurd h
+    here past _ h = absurd h
 
     there : (xs : List Entry) → Once (Executes k) xs → Has (λ x. Executes k [] x) xs
     there [] h = h

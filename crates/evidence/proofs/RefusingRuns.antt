@@ -249,12 +249,7 @@ no_begin_while_inactive c me bytes new past says before right = go (says_may c m
             let is = eqb-true (view c x) new.view (and_parts (view c x == new.view) (nat_le (target x) new.view) k.0).0 in
             let grows = view_grows c (Sent p sent) x in
             omega arith
-    begun x (Invoke a b d) r t = absurd t
-    begun x (Got a b) r t = absurd t
-    begun x (Tick a) r t = absurd t
-    begun x (Executed a b d) r t = absurd t
-    begun x (Installed a b d) r t = absurd t
-    begun x (Accepted a b d) r t = absurd t
+    begun x _ r t = absurd t
 
     there : new.view ≤ view c past
     there =

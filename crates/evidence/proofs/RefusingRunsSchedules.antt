@@ -9,7 +9,7 @@ use Rattle.wire.specs.Words.{frame_of}
 use Rattle.wire.specs.Messages.{FrameData as Frame}
 use Rattle.std.specs.Option.{option_map_or}
 use Rattle.protocol.specs.System.Trace.{Entry, is_output, Has}
-use Rattle.protocol.specs.System.Trace.Entry.{Invoke, Got, Tick, Executed, Installed, Sent, Accepted}
+use Rattle.protocol.specs.System.Trace.Entry.{Invoke, Got, Tick, Sent}
 use Rattle.protocol.specs.System.Schedule.{Step, Made, World, Goes, AtInput, new_world, made_by, meant_for, is_delivered, next_receiver, next_pair, pending, Feeds}
 use Rattle.protocol.specs.System.Schedule.Step.{calls, deliver, feed, seal, sign, ticks, flush}
 use Rattle.protocol.specs.System.Schedule.Goes.{ends, gives, called, delivers, gets, ticked, seals, signs, flushes, flushed}
@@ -112,12 +112,7 @@ feeds_each_call c steps k trace feeds = counted_feeds c (calls_for k) (invokes_f
   where
     outputs : (e : Entry) → is_output e ≡ true → invokes_for k e ≡ false
     outputs (Invoke x y z) h = absurd cc
-    outputs (Got x y) h = refl
-    outputs (Tick x) h = refl
-    outputs (Executed x y z) h = refl
-    outputs (Installed x y z) h = refl
-    outputs (Sent x y) h = refl
-    outputs (Accepted x y z) h = refl
+    outputs _ h = refl
 
 pub feeds_each_tick : FeedsEachTick
 feeds_each_tick c steps p trace feeds = counted_feeds c (ticks_for p) (is_tick_of p)
@@ -135,13 +130,8 @@ feeds_each_tick c steps p trace feeds = counted_feeds c (ticks_for p) (is_tick_o
     steps trace feeds
   where
     outputs : (e : Entry) → is_output e ≡ true → is_tick_of p e ≡ false
-    outputs (Invoke x y z) h = refl
-    outputs (Got x y) h = refl
     outputs (Tick x) h = absurd cc
-    outputs (Executed x y z) h = refl
-    outputs (Installed x y z) h = refl
-    outputs (Sent x y) h = refl
-    outputs (Accepted x y z) h = refl
+    outputs _ h = refl
 
 -- ---- what a flush leaves
 

@@ -3,7 +3,7 @@
 use Rattle.std.proofs.Common.{◌≡◌, ℕ, zero, suc, ◌⊎◌, inl, inr, Bool, true, false, List, [], ◌∷◌, ◌++◌, length, slice_get, refl, sym, ap, ◌∙◌, subst, ◌||◌, Some, reverse}
 use Rattle.protocol.specs.System.Configuration.{Configuration, is_replica, is_client}
 use Rattle.protocol.specs.System.Trace.{Entry, Always, Has, is_output}
-use Rattle.protocol.specs.System.Trace.Entry.{Invoke, Got, Tick, Executed, Installed, Sent, Accepted}
+use Rattle.protocol.specs.System.Trace.Entry.{Invoke, Got, Tick}
 use Rattle.protocol.specs.System.Schedule.{Step, Made, World, Goes, AtInput, new_world, made_by, sealed_bytes, signed_bytes, AreReceivers, IsAllowed}
 use Rattle.protocol.specs.System.Schedule.Step.{calls, deliver, feed, seal, sign, ticks, flush}
 use Rattle.protocol.specs.System.Schedule.Goes.{ends, gives, called, delivers, gets, ticked, seals, signs, flushes, flushed}
@@ -18,10 +18,7 @@ output_may : (c : Configuration) (past : List Entry) (e : Entry) → is_output e
 output_may c past (Invoke k timestamp op) h = absurd cc
 output_may c past (Got p bytes) h = absurd cc
 output_may c past (Tick p) h = absurd cc
-output_may c past (Executed r number batch) h = tt
-output_may c past (Installed r number root) h = tt
-output_may c past (Sent p bytes) h = tt
-output_may c past (Accepted k timestamp answer) h = tt
+output_may c past _ h = tt
 
 fed : (c : Configuration) (w v : World) (steps : List Step) (entries : List Entry) → Goes c w steps entries v → Always (MayBeFed c) w.past → Always (MayBeFed c) v.past
 fed c w v _ _ ends h = h

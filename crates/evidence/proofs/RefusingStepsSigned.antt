@@ -6,7 +6,7 @@ use Rattle.std.proofs.lemmas.Bool.{ltb-true, eq-eqb, ne_eqb}
 use Rattle.sha2.specs.Sha256.{sha256}
 use Rattle.tuple_tree.specs.Values.{AreBytes}
 use Rattle.tuple_codec.proofs.Readers.{bytes_append}
-use Rattle.wire.specs.Messages.{BodyData as Body, MessageData as Message, FrameData as Frame, signature, view_change as ViewChange, new_view as NewView, request as Request, pre_prepare as PrePrepare, prepare as Prepare, commit as Commit, checkpoint as Checkpoint, reply as Reply, fetch as Fetch, meta as Meta, page as Page}
+use Rattle.wire.specs.Messages.{BodyData as Body, MessageData as Message, FrameData as Frame, signature, request as Request}
 use Rattle.wire.specs.Spelling.{is_signed, body_spelling, SpellsFrame}
 use Rattle.authenticator.specs.Keys.{signing_seed}
 use Rattle.authenticator.specs.Membership.{sends}
@@ -92,17 +92,8 @@ for_others c replica s h =
 -- ---- the law
 
 known : (c : Configuration) (replica : ℕ) (m : Message) → is_signed m ≡ true → is_replica c replica ≡ true → sends (members c) replica m ≡ true
-known c replica (ViewChange vc) s h = h
-known c replica (NewView new) s h = h
 known c replica (Request t mode op) s h = absurd cc
-known c replica (PrePrepare v i batch) s h = h
-known c replica (Prepare v i digest) s h = h
-known c replica (Commit v i digest) s h = h
-known c replica (Checkpoint k root) s h = h
-known c replica (Reply client t mode number answer) s h = h
-known c replica (Fetch k level index) s h = h
-known c replica (Meta k level index digests) s h = h
-known c replica (Page k index content) s h = h
+known c replica _ s h = h
 
 pub signed_frames_are_heard : SignedFramesAreHeard
 signed_frames_are_heard c replica leaf message valid right within may kind short =

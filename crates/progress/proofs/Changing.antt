@@ -8,7 +8,7 @@ use Rattle.wire.specs.Messages.{BodyData as Body, MessageData as Message, ViewCh
 use Rattle.signing.specs.Heard.{signed_body}
 use Rattle.protocol.specs.System.Configuration.{Configuration, IsConfiguration, replicas, primary, is_replica, is_correct_replica, members}
 use Rattle.protocol.specs.System.Trace.{Entry, party_of, history_of, Once, SendsBody, Always, Unforged}
-use Rattle.protocol.specs.System.Trace.Entry.{Invoke, Got, Tick, Executed, Installed, Sent, Accepted}
+use Rattle.protocol.specs.System.Trace.Entry.{Got, Sent}
 use Rattle.protocol.specs.System.Run.{IsRun, OnlyTheseStopped}
 use Rattle.protocol.specs.Replica.Selection.{is_within, change_in, changes_of, change_by, passes_by, count_in, may_select}
 use Rattle.protocol.specs.Replica.Certificates.{view, target, is_active_in, taken, new_view_in, new_view_from, brought, latest_change}
@@ -41,12 +41,7 @@ use Rattle.progress.proofs.Within.{view_changes_are_within}
 
 speaks_sends : (s : ℕ) (vc : ViewChangeData) (past other : List Entry) (e : Entry) → party_of e ≡ s → Speaks (changing s vc) past e → SendsBody (changing s vc) other e
 speaks_sends s vc past other (Sent p bytes) own h = (own, h)
-speaks_sends s vc past other (Got x y) own h = absurd h
-speaks_sends s vc past other (Invoke x y z) own h = absurd h
-speaks_sends s vc past other (Tick x) own h = absurd h
-speaks_sends s vc past other (Executed x y z) own h = absurd h
-speaks_sends s vc past other (Installed x y z) own h = absurd h
-speaks_sends s vc past other (Accepted x y z) own h = absurd h
+speaks_sends s vc past other _ own h = absurd h
 
 module _ (c : Configuration) (setting : IsConfiguration c) (trace : List Entry) (is_run : IsRun c trace) (goes : OnlyTheseStopped c [] trace) (unforged : Unforged c trace)
     (v start : ℕ) (root : List ℕ) (n : IsNextView c trace v start root) where
@@ -125,12 +120,7 @@ module _ (c : Configuration) (setting : IsConfiguration c) (trace : List Entry) 
                   let g = view_grows c (Sent p bytes) past in
                   let s = is in
                   omega arith
-          by past (Got x y) r says = absurd says
-          by past (Invoke x y z) r says = absurd says
-          by past (Tick x) r says = absurd says
-          by past (Executed x y z) r says = absurd says
-          by past (Installed x y z) r says = absurd says
-          by past (Accepted x y z) r says = absurd says
+          by past _ r says = absurd says
 
           go : At (λ past e. RightAt c (primary c v) past e × Speaks (record { sender = primary c v; message = NewView new }) past e × Always (RightAt c (primary c v)) past) (history_of (primary c v) trace)
               → v ≤ view c (history_of (primary c v) trace)

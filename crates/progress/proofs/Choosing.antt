@@ -13,7 +13,7 @@ use Rattle.wire.specs.Messages.{BodyData as Body, MessageData as Message, ViewCh
 use Rattle.wire.specs.Words.{said}
 use Rattle.protocol.specs.System.Configuration.{Configuration, IsConfiguration, replicas, primary, span, is_number, is_replica, is_correct_replica}
 use Rattle.protocol.specs.System.Trace.{Entry, history_of, Once, Always, Has, Unforged}
-use Rattle.protocol.specs.System.Trace.Entry.{Invoke, Got, Tick, Executed, Installed, Sent, Accepted}
+use Rattle.protocol.specs.System.Trace.Entry.{Invoke, Got, Sent}
 use Rattle.protocol.specs.System.Run.{IsRun}
 use Rattle.protocol.specs.Replica.Selection.{is_within, null_batch, changes_of, may_select}
 use Rattle.protocol.specs.Replica.Certificates.{view, target, is_active_in, is_later, taken, new_view_in, new_view_from, low, is_in_marks, batch_from, batch_begun, begun_proposal, entry_proposal, proposal, first_given, logged, prepare_of, Prepared}
@@ -71,10 +71,7 @@ entry_target c me w i b past (Sent p bytes) r h =
     let say : MayPrePrepare c me past r.point (Sent p bytes) w i b = subst (λ (x : Body). MaySay c me past r.point (Sent p bytes) bytes x.message) is r.may.say in
     (active_parts c past w say.active).1
 entry_target c me w i b past (Invoke x y z) r h = absurd cc
-entry_target c me w i b past (Tick x) r h = absurd cc
-entry_target c me w i b past (Executed x y z) r h = absurd cc
-entry_target c me w i b past (Installed x y z) r h = absurd cc
-entry_target c me w i b past (Accepted x y z) r h = absurd cc
+entry_target c me w i b past _ r h = absurd cc
 
 proposal_target : (c : Configuration) (me w i : ℕ) (b : List ℕ) (past : List Entry) (e : Entry) → RightAt c me past e → proposal c me past e w i ≡ Some b → target past ≤ w
 proposal_target c me w i b past e r h = go (or_else_cases (begun_proposal c me past e w i) (entry_proposal c me past e w i) b h)
@@ -110,12 +107,7 @@ change_proposes c s w i b vc past (Sent p bytes) says h = go (or_else_cases (beg
         let same : changing s vc ≡ t.0 = some_injective (changing s vc) t.0 (sym says ∙ t.1) in
         let bad : batch_from c s w i (changing s vc) ≡ Some b = ap (batch_from c s w i) same ∙ t.2 in
         cc
-change_proposes c s w i b vc past (Got x y) says h = absurd says
-change_proposes c s w i b vc past (Invoke x y z) says h = absurd says
-change_proposes c s w i b vc past (Tick x) says h = absurd says
-change_proposes c s w i b vc past (Executed x y z) says h = absurd says
-change_proposes c s w i b vc past (Installed x y z) says h = absurd says
-change_proposes c s w i b vc past (Accepted x y z) says h = absurd says
+change_proposes c s w i b vc past _ says h = absurd says
 
 -- so a batch that is logged in a view was logged before a view change for a later one
 logged_before : (c : Configuration) (s w i : ℕ) (b : List ℕ) (vc : ViewChangeData) (newer past : List Entry) (e : Entry) → Always (RightAt c s) (newer ++ e ∷ past) → Speaks (changing s vc) past e → w < vc.view
@@ -164,12 +156,7 @@ offered_before c s w i b vc [] past e right says less (inl h) = absurd (none e s
   where
     none : (e : Entry) → Speaks (changing s vc) past e → offer_in w i e ≡ Some b → ⊥
     none (Sent p bytes) k h = let bad : None ≡ Some b = sym (ap (option_and_then (offer_from w i)) k) ∙ h in cc
-    none (Got x y) k h = k
-    none (Invoke x y z) k h = k
-    none (Tick x) k h = k
-    none (Executed x y z) k h = k
-    none (Installed x y z) k h = k
-    none (Accepted x y z) k h = k
+    none _ k h = k
 offered_before c s w i b vc (x ∷ newer) past e right says less (inr h) = offered_before c s w i b vc newer past e right.1 says less h
 offered_before c s w i b vc (x ∷ newer) past e right says less (inl h) =
     let l = at x right.0 h in
@@ -183,11 +170,7 @@ offered_before c s w i b vc (x ∷ newer) past e right says less (inl h) =
         let is : r.may.body ≡ t.0 = some_injective r.may.body t.0 (sym r.may.says ∙ t.1) in
         offer_target c s w i b (newer ++ e ∷ past) r.point p bytes t.0.sender t.0.message t.2 (subst (λ (x : Body). MaySay c s (newer ++ e ∷ past) r.point (Sent p bytes) bytes x.message) is r.may.say)
     at (Got x y) r h = absurd cc
-    at (Invoke x y z) r h = absurd cc
-    at (Tick x) r h = absurd cc
-    at (Executed x y z) r h = absurd cc
-    at (Installed x y z) r h = absurd cc
-    at (Accepted x y z) r h = absurd cc
+    at _ r h = absurd cc
 
 -- ---- the greatest in lists
 

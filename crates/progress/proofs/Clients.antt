@@ -84,11 +84,7 @@ module _ (c : Configuration) (k : ℕ) (call : OpenCall) (start : List Entry) (o
   latest_by mode r (Invoke x y z) part right (inl a) not_yet v = absurd (not_yet a)
   latest_by mode r (Invoke x y z) part right (inr o) not_yet v = let bad : None ≡ Some call = sym right.1 ∙ o in absurd cc
   latest_by mode r (Got x y) part right either not_yet v = some_later mode (option_and_then (vote_of me call.timestamp r) (heard (members c) me y)) (latest c me (part ++ start) call.timestamp mode r) v.0 v.1
-  latest_by mode r (Tick x) part right either not_yet v = v
-  latest_by mode r (Executed x y z) part right either not_yet v = v
-  latest_by mode r (Installed x y z) part right either not_yet v = v
-  latest_by mode r (Sent x y) part right either not_yet v = v
-  latest_by mode r (Accepted x y z) part right either not_yet v = v
+  latest_by mode r _ part right either not_yet v = v
 
   pub latest_since : (mode : Mode) (r n : ℕ) (answer : Outcome) (bytes : List ℕ) → heard (members c) me bytes ≡ Some (record { sender = r; message = Reply me call.timestamp mode n answer })
       → (part : List Entry) → SafeClient c me (part ++ start) → (Accepting k call.timestamp part → ⊥) → HasEntry (Got me bytes) part → (v : Vote) × (latest c me (part ++ start) call.timestamp mode r ≡ Some v)

@@ -14,7 +14,7 @@ use Rattle.wire.specs.Words.{said}
 use Rattle.authenticator.specs.Membership.{sends}
 use Rattle.protocol.specs.System.Configuration.{Configuration, IsConfiguration, replicas, primary, is_replica, is_correct_replica, members}
 use Rattle.protocol.specs.System.Trace.{Entry, party_of, history_of, Once, Unforged}
-use Rattle.protocol.specs.System.Trace.Entry.{Invoke, Got, Tick, Executed, Installed, Sent, Accepted}
+use Rattle.protocol.specs.System.Trace.Entry.{Got, Sent}
 use Rattle.protocol.specs.System.Run.{OnlyTheseStopped}
 use Rattle.protocol.specs.Replica.Certificates.{view, is_active_in, low, is_in_marks, are_genuine, brought, counts_at, batch_from, begun_proposal, entry_proposal, proposal, logged, first_given, prepare_from, commit_from, vote_in, prepare_of, commit_of, Prepared, Committed}
 use Rattle.protocol.specs.Replica.RightReplica.{Point, Leaves, MaySend, MaySay, IsFor, others}
@@ -145,11 +145,7 @@ pub record Comes (c : Configuration) (s v i : ℕ) (body : Body) (whole : List E
 pub counts_here : (c : Configuration) (s v i : ℕ) (past : List Entry) (body : Body) (e : Entry) → brought c e ≡ Some body → is_active_in c past v ≡ true → is_in_marks c (low c s past) i ≡ true → counts_at c s past e v i ≡ true
 counts_here c s v i past body (Got p bytes) h active marks = and_from (is_active_in c past v) (is_in_marks c (low c s past) i) active marks
 counts_here c s v i past body (Sent p bytes) h active marks = refl
-counts_here c s v i past body (Invoke x y z) h active marks = absurd cc
-counts_here c s v i past body (Tick x) h active marks = absurd cc
-counts_here c s v i past body (Executed x y z) h active marks = absurd cc
-counts_here c s v i past body (Installed x y z) h active marks = absurd cc
-counts_here c s v i past body (Accepted x y z) h active marks = absurd cc
+counts_here c s v i past body _ h active marks = absurd cc
 
 pub prepares_batch : (c : Configuration) (s v i : ℕ) (batch : List ℕ) → are_genuine c s batch ≡ true → batch_from c s v i (record { sender = primary c v; message = PrePrepare v i batch }) ≡ Some batch
 prepares_batch c s v i batch genuine = rw (eq-eqb v v refl, eq-eqb i i refl, eq-eqb (primary c v) (primary c v) refl, genuine) refl

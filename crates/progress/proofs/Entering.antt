@@ -12,7 +12,7 @@ use Rattle.signing.specs.Heard.{heard, signed_body}
 use Rattle.signing.proofs.Heard.{signed_is_heard, heard_was_opened}
 use Rattle.protocol.specs.System.Configuration.{Configuration, replicas, primary, is_replica, is_correct_replica, members}
 use Rattle.protocol.specs.System.Trace.{Entry, history_of, Has, party_of}
-use Rattle.protocol.specs.System.Trace.Entry.{Invoke, Got, Tick, Executed, Installed, Sent, Accepted}
+use Rattle.protocol.specs.System.Trace.Entry.{Invoke, Got, Sent}
 use Rattle.protocol.specs.System.Run.{IsRun}
 use Rattle.protocol.specs.System.Schedule.{meant_for}
 use Rattle.protocol.specs.Replica.Selection.{may_select}
@@ -133,10 +133,7 @@ primary_sent c v part start point leaves b = go b.entry refl b.brings
         is_body : (sender : ℕ) (message : Message) → sender ≡ primary c v → message ≡ NewView b.new → ◌≡◌ {A = Body} (record { sender = sender; message = message }) (record { sender = primary c v; message = NewView b.new })
         is_body sender message x y = rw (x, y) refl
     go (Invoke x y z) is h = absurd cc
-    go (Tick x) is h = absurd cc
-    go (Executed x y z) is h = absurd cc
-    go (Installed x y z) is h = absurd cc
-    go (Accepted x y z) is h = absurd cc
+    go _ is h = absurd cc
 
 -- ---- it is taken
 
@@ -188,9 +185,6 @@ module _ (c : Configuration) (later start : List Entry) (run : IsRun c (later ++
 
   known : is_replica c p0 ≡ true
   known = (and_parts (is_replica c p0) _ from).0
-
-  its_body : Body
-  its_body = record { sender = p0; message = NewView its_new_view.new }
 
   signed : signed_body (members c) its_new_view.bytes ≡ Some (record { sender = p0; message = NewView its_new_view.new })
   signed = signed_by c p0 its_new_view.bytes (record { sender = p0; message = NewView its_new_view.new }) at.past at.point at.may its_new_view.says refl known

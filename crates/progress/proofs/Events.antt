@@ -4,7 +4,7 @@ use Rattle.wire.specs.Messages.{MessageData as Message}
 use Rattle.wire.specs.Words.{said}
 use Rattle.protocol.specs.System.Configuration.{Configuration}
 use Rattle.protocol.specs.System.Trace.{Entry, is_output, either}
-use Rattle.protocol.specs.System.Trace.Entry.{Invoke, Got, Tick, Executed, Installed, Sent, Accepted}
+use Rattle.protocol.specs.System.Trace.Entry.{Sent}
 use Rattle.protocol.specs.Client.RightClient.{reaction, IsReaction, MayInput, Reacts}
 use Rattle.protocol.specs.Replica.RightReplica.{Point, Leaves, IsStep, MaySend}
 use Rattle.protocol.specs.Replica.Owed.{Owes, Proceeds, IsSaying, SendsMessage}
@@ -129,12 +129,7 @@ given me message outs h =
   where
     go : (e : Entry) → HasEntry e outs → IsSaying me message e → Given me message outs
     go (Sent p bytes) there says = record { party = p; bytes = bytes; is_there = there; says = says }
-    go (Invoke a b d) there says = absurd says
-    go (Got a b) there says = absurd says
-    go (Tick a) there says = absurd says
-    go (Executed a b d) there says = absurd says
-    go (Installed a b d) there says = absurd says
-    go (Accepted a b d) there says = absurd says
+    go _ there says = absurd says
 
 -- the replica might send what it sends
 pub record MightSend (c : Configuration) (me : ℕ) (e : Entry) (bytes : List ℕ) : Type 0 where

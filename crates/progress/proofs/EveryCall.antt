@@ -11,7 +11,7 @@ use Rattle.wire.specs.Messages.{BodyData as Body, pre_prepare as PrePrepare}
 use Rattle.signing.proofs.Heard.{heard_was_opened}
 use Rattle.protocol.specs.System.Configuration.{Configuration, IsConfiguration, primary, is_number, is_correct_replica, is_correct_client, members}
 use Rattle.protocol.specs.System.Trace.{Entry, party_of, history_of, Once, SendsBody, Unforged}
-use Rattle.protocol.specs.System.Trace.Entry.{Invoke, Got, Tick, Executed, Installed, Sent, Accepted}
+use Rattle.protocol.specs.System.Trace.Entry.{Got, Tick, Installed, Sent, Accepted}
 use Rattle.protocol.specs.System.Texts.{NoCollision}
 use Rattle.protocol.specs.System.Run.{IsRun, OnlyTheseStopped}
 use Rattle.protocol.specs.Replica.Certificates.{view, taken, low, is_in_marks, batch_begun, begun_proposal, entry_proposal, proposal, brought, first_given, logged, Committed}
@@ -85,11 +85,7 @@ gave c i batch e past point leaves h = go e leaves.2 brings
         let same : ◌≡◌ {A = Body} step.may.body (giving c i batch) = some_injective step.may.body (giving c i batch) (sym step.may.says ∙ is) in
         record { sends = (step.own, is); may = subst (λ (b : Body). MaySay c (primary c 0) past leaves.0 (Sent p bytes) bytes b.message) same step.may.say }
     go (Got p bytes) step is = absurd ((heard_was_opened (members c) p bytes (giving c i batch) is).other (sym step.own))
-    go (Invoke x y z) step is = absurd cc
-    go (Tick x) step is = absurd cc
-    go (Executed x y z) step is = absurd cc
-    go (Installed x y z) step is = absurd cc
-    go (Accepted x y z) step is = absurd cc
+    go _ step is = absurd cc
 
 -- the primary assigned the number that is logged there
 record WasGiven (c : Configuration) (i : ℕ) (batch : List ℕ) (xs : List Entry) : Type 0 where
@@ -165,12 +161,7 @@ module _ (c : Configuration) where
 
 sends_any : (body : Body) (past other : List Entry) (e : Entry) → SendsBody body past e → SendsBody body other e
 sends_any body past other (Sent p bytes) h = h
-sends_any body past other (Got x y) h = absurd h
-sends_any body past other (Invoke x y z) h = absurd h
-sends_any body past other (Tick x) h = absurd h
-sends_any body past other (Executed x y z) h = absurd h
-sends_any body past other (Installed x y z) h = absurd h
-sends_any body past other (Accepted x y z) h = absurd h
+sends_any body past other _ h = absurd h
 
 never : (xs : List Entry) → Once (λ past e. ⊥) xs → ⊥
 never [] h = absurd h

@@ -74,10 +74,7 @@ module _ (c : Configuration) (trace : List Entry) (silent : AreFaultySilent c tr
               let bad : false ≡ true = sym (not_faulty c q correct) ∙ ap (is_faulty_replica c) (sym own ∙ from) ∙ faulty in
               cc
           by (Invoke x y z) has body is from r = cc
-          by (Tick x) has body is from r = cc
-          by (Executed x y z) has body is from r = cc
-          by (Installed x y z) has body is from r = cc
-          by (Accepted x y z) has body is from r = cc
+          by _ has body is from r = cc
 
       go : (o : Option (List ℕ)) → logged c q (history_of q trace) 0 i ≡ o → o ≡ None
       go None is = refl
@@ -125,10 +122,7 @@ taken_seen c new bytes h past e t = go e (takes c 0 past e new t).brought
         let r = and_then_some (new_view_from c) (said whole) new b in
         inr (carried_seen new bytes whole r.0 r.1 (begins c r.0 new r.2).message_is h)
     go (Invoke x y z) b = absurd cc
-    go (Tick x) b = absurd cc
-    go (Executed x y z) b = absurd cc
-    go (Installed x y z) b = absurd cc
-    go (Accepted x y z) b = absurd cc
+    go _ b = absurd cc
 
 -- the frame of a view change in a set
 set_frame : (c : Configuration) (frames : List (List ℕ)) (set : List (ℕ × ViewChangeData)) → AreSigned c frames set → (x : ℕ × ViewChangeData) → Has (λ y. y ≡ x) set

@@ -39,11 +39,7 @@ at_reached me k (Executed r number batch) past own h =
     let here : cond (r == me) number 0 ≡ number = ap (λ (b : Bool). cond b number 0) (eq-eqb r me own) in
     omega arith
 at_reached me k (Invoke x y z) past own h = absurd h
-at_reached me k (Got x y) past own h = absurd h
-at_reached me k (Tick x) past own h = absurd h
-at_reached me k (Sent x y) past own h = absurd h
-at_reached me k (Installed x y z) past own h = absurd h
-at_reached me k (Accepted x y z) past own h = absurd h
+at_reached me k _ past own h = absurd h
 
 executes_reached : (c : Configuration) (me k : ℕ) (xs : List Entry) (point : Point) → Leaves c me xs point → Once (Executes k) xs → k ≤ reached xs me
 executes_reached c me k [] point leaves h = absurd h
@@ -78,10 +74,7 @@ own_checkpoint c me m (Sent p bytes) past point leaves h =
     let say : MayCheckpoint c past leaves.0 m.number m.digest = subst (λ (b : Body). MaySay c me past leaves.0 (Sent p bytes) bytes b.message) same may.say in
     executes_reached c me m.number past leaves.0 leaves.1 say.executed
 own_checkpoint c me m (Invoke x y z) past point leaves h = absurd cc
-own_checkpoint c me m (Tick x) past point leaves h = absurd cc
-own_checkpoint c me m (Executed x y z) past point leaves h = absurd cc
-own_checkpoint c me m (Installed x y z) past point leaves h = absurd cc
-own_checkpoint c me m (Accepted x y z) past point leaves h = absurd cc
+own_checkpoint c me m _ past point leaves h = absurd cc
 
 own_reached : (c : Configuration) (me : ℕ) (checkpoint : CheckpointEntry) (xs : List Entry) (point : Point) → Leaves c me xs point → says_checkpoint checkpoint (checkpoints_of c xs me) ≡ true
     → checkpoint.number ≤ reached xs me
@@ -128,12 +121,7 @@ module _ (c : Configuration) (me : ℕ) where
 
   pub installed_reached : (e : Entry) (past : List Entry) → party_of e ≡ me → installed_at e ≤ reached (e ∷ past) me
   installed_reached (Installed r k root) past own = let here : cond (r == me) k 0 ≡ k = ap (λ (b : Bool). cond b k 0) (eq-eqb r me own) in omega arith
-  installed_reached (Invoke x y z) past own = omega arith
-  installed_reached (Got x y) past own = omega arith
-  installed_reached (Tick x) past own = omega arith
-  installed_reached (Executed x y z) past own = omega arith
-  installed_reached (Sent x y) past own = omega arith
-  installed_reached (Accepted x y z) past own = omega arith
+  installed_reached _ past own = omega arith
 
   none_started : (e : Entry) (past : List Entry) → view c (e ∷ past) ≡ 0 → started_at c past e ≡ 0
   none_started e past first = go (taken c past e) refl

@@ -70,12 +70,7 @@ giving c i batch = record { sender = primary c 1; message = PrePrepare 1 i batch
 
 sends_any : (body : Body) (past other : List Entry) (e : Entry) → SendsBody body past e → SendsBody body other e
 sends_any body past other (Sent p bytes) h = h
-sends_any body past other (Got x y) h = absurd h
-sends_any body past other (Invoke x y z) h = absurd h
-sends_any body past other (Tick x) h = absurd h
-sends_any body past other (Executed x y z) h = absurd h
-sends_any body past other (Installed x y z) h = absurd h
-sends_any body past other (Accepted x y z) h = absurd h
+sends_any body past other _ h = absurd h
 
 -- ---- before anything is logged
 
@@ -275,11 +270,7 @@ module _ (c : Configuration) (setting : IsConfiguration c) (later start : List E
           let same : ◌≡◌ {A = Body} step.may.body (giving c i batch) = some_injective step.may.body (giving c i batch) (sym step.may.says ∙ is) in
           record { sends = (step.own, is); may = subst (λ (b : Body). MaySay c (primary c 1) past leaves.0 (Sent p bytes) bytes b.message) same step.may.say }
       go (Got p bytes) step is = absurd ((heard_was_opened (members c) p bytes (giving c i batch) is).other (sym step.own))
-      go (Invoke x y z) step is = absurd cc
-      go (Tick x) step is = absurd cc
-      go (Executed x y z) step is = absurd cc
-      go (Installed x y z) step is = absurd cc
-      go (Accepted x y z) step is = absurd cc
+      go _ step is = absurd cc
 
   pub record WasGiven (i : ℕ) (batch : List ℕ) (xs : List Entry) : Type 0 where
     pub says : Once (SendsBody (giving c i batch)) xs

@@ -70,11 +70,7 @@ target_here c s t past (Sent p bytes) r some is =
     let k = target_from c s t past (Sent p bytes) r.may.body.sender r.may.body.message r.may.own some (ap (λ (o : Option Body). option_map_or change_from o 0) (sym r.may.says) ∙ is) in
     (k.0, r.may.says ∙ ap Some k.1, k.2)
 target_here c s t past (Got x y) r some is = absurd (omega arith)
-target_here c s t past (Invoke x y z) r some is = absurd (omega arith)
-target_here c s t past (Tick x) r some is = absurd (omega arith)
-target_here c s t past (Executed x y z) r some is = absurd (omega arith)
-target_here c s t past (Installed x y z) r some is = absurd (omega arith)
-target_here c s t past (Accepted x y z) r some is = absurd (omega arith)
+target_here c s t past _ r some is = absurd (omega arith)
 
 pub target_said : (c : Configuration) (s t : ℕ) (xs : List Entry) → Always (RightAt c s) xs → 1 ≤ t → target xs ≡ t → TargetSaid s t xs
 target_said c s t [] right some is = absurd (omega arith)
@@ -129,12 +125,7 @@ latest_most c s m (e ∷ past) most =
 
     here : (e : Entry) → ((vc : ViewChangeData) → SignedHere c s vc past e → vc.view ≤ m) → change_at c past e s ≤ m
     here (Got p bytes) f = by bytes (signed_change c bytes) f
-    here (Sent x y) f = omega arith
-    here (Invoke x y z) f = omega arith
-    here (Tick x) f = omega arith
-    here (Executed x y z) f = omega arith
-    here (Installed x y z) f = omega arith
-    here (Accepted x y z) f = omega arith
+    here _ f = omega arith
 
 -- a view change above the view that came is at most the latest
 pub latest_least : (c : Configuration) (s p : ℕ) (vc : ViewChangeData) (bytes : List ℕ) (xs : List Entry) → signed_change c bytes ≡ Some (s, vc) → is_within c vc ≡ true → view c xs < vc.view
@@ -174,12 +165,7 @@ came_here c s m past e some less l = here e l
 
     here : (e : Entry) → m ≤ change_at c past e s → (vc : ViewChangeData) × BringsChange c (s, vc) past e × (m ≤ vc.view)
     here (Got p bytes) l = let b = brings bytes (signed_change c bytes) refl l in (b.0, (b.1.0, (b.1.1, b.1.2, b.1.3)), b.2)
-    here (Sent x y) l = absurd (omega arith)
-    here (Invoke x y z) l = absurd (omega arith)
-    here (Tick x) l = absurd (omega arith)
-    here (Executed x y z) l = absurd (omega arith)
-    here (Installed x y z) l = absurd (omega arith)
-    here (Accepted x y z) l = absurd (omega arith)
+    here _ l = absurd (omega arith)
 
 -- if one counted, there was a first that did
 pub first_came : (c : Configuration) (s m : ℕ) (xs : List Entry) → 1 ≤ m → m ≤ latest_change c xs s → (vc : ViewChangeData) × Once (BringsChange c (s, vc)) xs × (m ≤ vc.view)
@@ -293,12 +279,7 @@ module _ (c : Configuration) (setting : IsConfiguration c) (trace : List Entry) 
                 let g = view_grows c (Sent p bytes) past in
                 let s = is_second in
                 omega arith
-        enters past (Got x y) r says = absurd says
-        enters past (Invoke x y z) r says = absurd says
-        enters past (Tick x) r says = absurd says
-        enters past (Executed x y z) r says = absurd says
-        enters past (Installed x y z) r says = absurd says
-        enters past (Accepted x y z) r says = absurd says
+        enters past _ r says = absurd says
 
         go : At (λ past e. RightAt c (primary c 1) past e × Speaks (record { sender = primary c 1; message = NewView new }) past e × Always (RightAt c (primary c 1)) past) (history_of (primary c 1) trace)
             → 1 ≤ view c (history_of (primary c 1) trace)

@@ -105,21 +105,11 @@ spoken_frame s body (Accepted x y z ∷ past) (inl h) = absurd h
 
 pub speaks_saying : (s : ℕ) (message : Message) (past : List Entry) (e : Entry) → Speaks (record { sender = s; message = message }) past e → IsSaying s message e
 speaks_saying s message past (Sent p bytes) h = h
-speaks_saying s message past (Got x y) h = absurd h
-speaks_saying s message past (Invoke x y z) h = absurd h
-speaks_saying s message past (Tick x) h = absurd h
-speaks_saying s message past (Executed x y z) h = absurd h
-speaks_saying s message past (Installed x y z) h = absurd h
-speaks_saying s message past (Accepted x y z) h = absurd h
+speaks_saying s message past _ h = absurd h
 
 pub brings_signed : (c : Configuration) (s : ℕ) (vc : ViewChangeData) (past : List Entry) (e : Entry) → BringsChange c (s, vc) past e → SignedHere c s vc past e
 brings_signed c s vc past (Got p bytes) h = h.0
-brings_signed c s vc past (Sent x y) h = absurd h
-brings_signed c s vc past (Invoke x y z) h = absurd h
-brings_signed c s vc past (Tick x) h = absurd h
-brings_signed c s vc past (Executed x y z) h = absurd h
-brings_signed c s vc past (Installed x y z) h = absurd h
-brings_signed c s vc past (Accepted x y z) h = absurd h
+brings_signed c s vc past _ h = absurd h
 
 -- the signer sent a signed view change that came
 pub came_said : (c : Configuration) (trace : List Entry) (p s : ℕ) (vc : ViewChangeData) → Unforged c trace → is_correct_replica c p ≡ true → is_correct_replica c s ≡ true
@@ -129,12 +119,7 @@ came_said c trace p s vc unforged one other h = go (once_at (λ past e. GotsSaid
   where
     by : (e : Entry) (past : List Entry) → GotsSaid c trace e → SignedHere c s vc past e → Once (Speaks (changing s vc)) (history_of s trace)
     by (Got q bytes) past g signed = g bytes (inl refl) (changing s vc) (change_bytes c s vc bytes signed) other
-    by (Sent x y) past g signed = absurd signed
-    by (Invoke x y z) past g signed = absurd signed
-    by (Tick x) past g signed = absurd signed
-    by (Executed x y z) past g signed = absurd signed
-    by (Installed x y z) past g signed = absurd signed
-    by (Accepted x y z) past g signed = absurd signed
+    by _ past g signed = absurd signed
 
     go : At (λ past e. GotsSaid c trace e × SignedHere c s vc past e × Always (λ past e. GotsSaid c trace e) past) (history_of p trace) → Once (Speaks (changing s vc)) (history_of s trace)
     go a = by a.entry a.past a.holds.0 a.holds.1

@@ -222,16 +222,13 @@ module _ (c : Configuration) (trace : List Entry) (run : Run c trace) (k : ℕ) 
       go : (o : Option Body) → heard (members c) r bytes ≡ o → Has (λ x. x ≡ its) (option_map_or (with_waiting old.state old.waiting) (option_and_then (call_in c) o) old.waiting)
       go None hears = h
       go (Some body) hears = calls body hears (call_in c body) refl
-  one_more newer past (Tick p) old point splits before behind move (inl h) = subst Waits (sym move) (inl h)
-  one_more newer past (Sent p bytes) old point splits before behind move (inl h) = subst Waits (sym move) (inl h)
-  one_more newer past (Invoke x y z) old point splits before behind move (inl h) = subst Waits (sym move) (inl h)
-  one_more newer past (Accepted x y z) old point splits before behind move (inl h) = subst Waits (sym move) (inl h)
   one_more newer past (Executed p n batch) old point splits before behind move (inl h) = subst Waits (sym move) (still_waits (execute c old.state batch) old.waiting h)
   one_more newer past (Installed p n root) old point splits before behind move (inl h) = go (still_waits point.state old.waiting h)
     where
       go : Has (λ x. x ≡ its) (still_waiting point.state old.waiting) ⊎ (call.timestamp ≤ last_time point.state k) → Waits point
       go (inl w) = inl (subst (λ (xs : List Call). Has (λ x. x ≡ its) xs) (sym move.waiting) w)
       go (inr l) = inr l
+  one_more newer past _ old point splits before behind move (inl h) = subst Waits (sym move) (inl h)
 
   -- ---- from its coming on
 

@@ -106,11 +106,7 @@ module _ (c : Configuration) (setting : IsConfiguration c) (trace : List Entry) 
           (some_injective t.may.body (record { sender = s; message = Checkpoint k root }) (sym t.may.says ∙ h)) t.may.say in
           say.multiple
       by past (Got x y) t h = absurd h
-      by past (Invoke x y z) t h = absurd h
-      by past (Tick x) t h = absurd h
-      by past (Executed x y z) t h = absurd h
-      by past (Installed x y z) t h = absurd h
-      by past (Accepted x y z) t h = absurd h
+      by past _ t h = absurd h
 
       go : At (λ past e. RightAt c s past e × Speaks (record { sender = s; message = Checkpoint k root }) past e × Always (RightAt c s) past) (history_of s trace) → k % c.period ≡ 0
       go a = by a.past a.entry a.holds.0 a.holds.1
@@ -273,12 +269,7 @@ module _ (c : Configuration) (setting : IsConfiguration c) (trace : List Entry) 
           wanted : IsRootWanted c past k root → k < 2 ^ 48
           wanted (inl had) = (quorum_kept k root (newer ++ Installed p k root ∷ []) past is had).small
           wanted (inr starts) = (start_kept k root past starts).small
-      installed (Got x y) may is = omega arith
-      installed (Tick x) may is = omega arith
-      installed (Sent x y) may is = omega arith
-      installed (Executed x y z) may is = omega arith
-      installed (Invoke x y z) may is = omega arith
-      installed (Accepted x y z) may is = omega arith
+      installed _ may is = omega arith
 
       started : (o : Option NewViewData) → taken c past e ≡ o → option_map_or (λ (new : NewViewData). new.start) o 0 < 2 ^ 48
       started None is = omega arith

@@ -9,7 +9,7 @@ use Rattle.quorum.specs.Quorum.{count_below}
 use Rattle.protocol.specs.System.Configuration.{Configuration, primary, is_correct_replica, is_faulty_replica, is_replica}
 use Rattle.wire.specs.Messages.{BodyData as Body}
 use Rattle.protocol.specs.System.Trace.{Entry, history_of, Once, Always, Unforged}
-use Rattle.protocol.specs.System.Trace.Entry.{Invoke, Got, Tick, Executed, Installed, Sent, Accepted}
+use Rattle.protocol.specs.System.Trace.Entry.{Sent}
 use Rattle.quorum.specs.Votes.{has_digest}
 use Rattle.protocol.specs.Replica.Certificates.{proposal, logged, prepare_of, Prepared}
 use Rattle.protocol.specs.Laws.Histories.{AreReplicasSafe, PreparedAgree}
@@ -28,12 +28,7 @@ once_some P Q (e ∷ past) (inr h) = let r = once_some P Q past h in (r.0, inr r
 
 speaks_offer : (v i : ℕ) (batch : List ℕ) (body : Body) → offer_from v i body ≡ Some batch → (past : List Entry) (e : Entry) → Speaks body past e → offer_in v i e ≡ Some batch
 speaks_offer v i batch body is past (Sent p bytes) h = rw h is
-speaks_offer v i batch body is past (Invoke x y z) h = absurd h
-speaks_offer v i batch body is past (Got x y) h = absurd h
-speaks_offer v i batch body is past (Tick x) h = absurd h
-speaks_offer v i batch body is past (Executed x y z) h = absurd h
-speaks_offer v i batch body is past (Installed x y z) h = absurd h
-speaks_offer v i batch body is past (Accepted x y z) h = absurd h
+speaks_offer v i batch body is past _ h = absurd h
 
 -- a correct primary of the view offered the batch that a right replica logs
 pub logged_was_offered : (c : Configuration) (trace : List Entry) (p v i : ℕ) (batch : List ℕ) → AreReplicasSafe c trace → Unforged c trace

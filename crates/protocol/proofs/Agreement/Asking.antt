@@ -44,12 +44,7 @@ AsksFrame c frame past _ = ⊥
 asks_any : (c : Configuration) (frame : List ℕ) (past other : List Entry) (e : Entry) → AsksFrame c frame past e → AsksFrame c frame other e
 unfolding AsksFrame
 asks_any c frame past other (Got x y) h = h
-asks_any c frame past other (Invoke x y z) h = absurd h
-asks_any c frame past other (Tick x) h = absurd h
-asks_any c frame past other (Executed x y z) h = absurd h
-asks_any c frame past other (Installed x y z) h = absurd h
-asks_any c frame past other (Sent x y) h = absurd h
-asks_any c frame past other (Accepted x y z) h = absurd h
+asks_any c frame past other _ h = absurd h
 
 -- a call comes from a client
 call_client : (c : Configuration) (frame : List ℕ) (call : Call) (body : Body) → call_of c frame ≡ Some call → said frame ≡ Some body → is_client c body.sender ≡ true
@@ -146,10 +141,7 @@ entry_asked c setting r v i a xs past (Sent p bytes) emb correct right h frame c
     let one = each_has (λ x. Once (HasSeen x) past) (carried t.0.message) frame seen (g.1 frame has) in
     emb (AsksFrame c frame) (inr (seen_asked c setting r correct frame call is (every_has (λ request. is_some (heard (members c) r request)) (requests_of a) frame g.0 has) past right.1 one))
 entry_asked c setting r v i a xs past (Invoke x y z) emb correct right h frame call has is = absurd cc
-entry_asked c setting r v i a xs past (Tick x) emb correct right h frame call has is = absurd cc
-entry_asked c setting r v i a xs past (Executed x y z) emb correct right h frame call has is = absurd cc
-entry_asked c setting r v i a xs past (Installed x y z) emb correct right h frame call has is = absurd cc
-entry_asked c setting r v i a xs past (Accepted x y z) emb correct right h frame call has is = absurd cc
+entry_asked c setting r v i a xs past _ emb correct right h frame call has is = absurd cc
 
 -- the null batch has no requests
 null_asked : (c : Configuration) (trace : List Entry) (a : List ℕ) → is_null a ≡ true → Asked c trace a

@@ -5,7 +5,7 @@ use Rattle.quorum.proofs.Counting.{one_is_correct, count_members}
 use Rattle.protocol.specs.System.Configuration.{Configuration, replicas, is_replica, is_faulty_replica, is_correct_replica}
 use Rattle.wire.specs.Messages.{NewViewData, ViewChangeData}
 use Rattle.protocol.specs.System.Trace.{Entry, party_of, history_of, Once, SendsBody}
-use Rattle.protocol.specs.System.Trace.Entry.{Invoke, Got, Tick, Executed, Installed, Sent, Accepted}
+use Rattle.protocol.specs.System.Trace.Entry.{Sent}
 use Rattle.protocol.specs.Replica.Selection.{may_select, changes_of, change_by, count_in, passes_by}
 use Rattle.protocol.specs.Replica.Certificates.{view, view_after, target, is_later, new_view_in}
 use Rattle.protocol.specs.Laws.Histories.{Takes, NoneBegins, FirstViewStays}
@@ -39,12 +39,7 @@ none_begins c setting trace right unforged none p new correct begins = none sign
 
     sends : (past : List Entry) (e : Entry) → (party_of e ≡ signer.0) × Speaks (changing signer.0 change.0) (history_of signer.0 past) e → SendsBody (changing signer.0 change.0) past e
     sends past (Sent q bytes) h = h
-    sends past (Invoke x y z) h = absurd h.1
-    sends past (Got x y) h = absurd h.1
-    sends past (Tick x) h = absurd h.1
-    sends past (Executed x y z) h = absurd h.1
-    sends past (Installed x y z) h = absurd h.1
-    sends past (Accepted x y z) h = absurd h.1
+    sends past _ h = absurd h.1
 
 -- a replica leaves a view only if it takes a new view
 not_left : (c : Configuration) (xs : List Entry) → ((new : NewViewData) → Once (Takes c new) xs → ⊥) → view c xs ≡ 0

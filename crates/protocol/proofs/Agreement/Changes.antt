@@ -8,7 +8,7 @@ use Rattle.protocol.specs.System.Configuration.{Configuration, span, is_number}
 use Rattle.wire.specs.Messages.{BodyData as Body, MessageData as Message, ViewChangeData, BatchEntryData as BatchEntry, commit as Commit, view_change as ViewChange}
 use Rattle.wire.specs.Words.{said}
 use Rattle.protocol.specs.System.Trace.{Entry, Once, Always, Has}
-use Rattle.protocol.specs.System.Trace.Entry.{Invoke, Got, Tick, Executed, Installed, Sent, Accepted}
+use Rattle.protocol.specs.System.Trace.Entry.{Invoke, Sent}
 use Rattle.protocol.specs.Replica.Certificates.{logged, target, is_in_marks, low, Prepared, proposal, taken, batch_begun, view, entry_proposal, change_from}
 use Rattle.protocol.specs.Replica.RightReplica.{Point, Leaves, MaySay, MayViewChange, IsNewViewChange, SendsBytes}
 use Rattle.protocol.proofs.Words.Temporal.{once_weaker, once_always, once_order, once_stays, once_stays_from}
@@ -30,12 +30,7 @@ pub record NewChangeAt (c : Configuration) (s : ℕ) (vc : ViewChangeData) (past
 
 again_says : (body : Body) (bytes : List ℕ) → said bytes ≡ Some body → (past : List Entry) (e : Entry) → SendsBytes bytes past e → Speaks body past e
 again_says body bytes is past (Sent p sent) h = rw h is
-again_says body bytes is past (Invoke x y z) h = absurd h
-again_says body bytes is past (Got x y) h = absurd h
-again_says body bytes is past (Tick x) h = absurd h
-again_says body bytes is past (Executed x y z) h = absurd h
-again_says body bytes is past (Installed x y z) h = absurd h
-again_says body bytes is past (Accepted x y z) h = absurd h
+again_says body bytes is past _ h = absurd h
 
 says_change : (c : Configuration) (s : ℕ) (vc : ViewChangeData) (past : List Entry) (e : Entry) → RightAt c s past e → Speaks (changing s vc) past e
     → NewChangeAt c s vc past e ⊎ Once (Speaks (changing s vc)) past
@@ -44,12 +39,7 @@ says_change c s vc past (Sent p bytes) r h = go (subst (λ (x : Body). MaySay c 
     go : MayViewChange c s past r.point bytes vc → NewChangeAt c s vc past (Sent p bytes) ⊎ Once (Speaks (changing s vc)) past
     go (inl n) = inl (record { point = r.point; leaves = r.leaves; is_new = n; says = h })
     go (inr n) = inr (once_weaker (SendsBytes bytes) (Speaks (changing s vc)) (again_says (changing s vc) bytes h) past n.2)
-says_change c s vc past (Invoke x y z) r h = absurd h
-says_change c s vc past (Got x y) r h = absurd h
-says_change c s vc past (Tick x) r h = absurd h
-says_change c s vc past (Executed x y z) r h = absurd h
-says_change c s vc past (Installed x y z) r h = absurd h
-says_change c s vc past (Accepted x y z) r h = absurd h
+says_change c s vc past _ r h = absurd h
 
 pub change_is_new : (c : Configuration) (s : ℕ) (vc : ViewChangeData) (xs : List Entry) → Always (RightAt c s) xs → Once (Speaks (changing s vc)) xs → Once (NewChangeAt c s vc) xs
 change_is_new c s vc [] right h = absurd h
@@ -69,22 +59,14 @@ pub change_target : (s : ℕ) (vc : ViewChangeData) (past : List Entry) (e : Ent
 change_target s vc past (Sent p bytes) h =
     let is : option_map_or change_from (said bytes) 0 ≡ vc.view = ap (λ o. option_map_or change_from o 0) h in omega arith
 change_target s vc past (Invoke x y z) h = absurd h
-change_target s vc past (Got x y) h = absurd h
-change_target s vc past (Tick x) h = absurd h
-change_target s vc past (Executed x y z) h = absurd h
-change_target s vc past (Installed x y z) h = absurd h
-change_target s vc past (Accepted x y z) h = absurd h
+change_target s vc past _ h = absurd h
 
 not_both : (s v i : ℕ) (d : List ℕ) (vc : ViewChangeData) (past : List Entry) (e : Entry) → Speaks (committing s v i d) past e → Speaks (changing s vc) past e → ⊥
 not_both s v i d vc past (Sent p bytes) h k =
     let is : committing s v i d ≡ changing s vc = some_injective (committing s v i d) (changing s vc) (sym h ∙ k) in
     let m : ◌≡◌ {A = Message} (Commit v i d) (ViewChange vc) = ap (λ (x : Body). x.message) is in cc
 not_both s v i d vc past (Invoke x y z) h k = h
-not_both s v i d vc past (Got x y) h k = h
-not_both s v i d vc past (Tick x) h k = h
-not_both s v i d vc past (Executed x y z) h k = h
-not_both s v i d vc past (Installed x y z) h k = h
-not_both s v i d vc past (Accepted x y z) h k = h
+not_both s v i d vc past _ h k = h
 
 -- at the view change the batch is prepared
 pub record Pledges (c : Configuration) (s v i : ℕ) (d : List ℕ) (vc : ViewChangeData) (past : List Entry) : Type 0 where

@@ -7,7 +7,7 @@ use Rattle.quorum.proofs.Counting.{count_mono}
 use Rattle.protocol.specs.System.Configuration.{Configuration, is_correct_replica, replicas}
 use Rattle.wire.specs.Messages.{BodyData as Body, MessageData as Message, commit as Commit}
 use Rattle.protocol.specs.System.Trace.{Entry, history_of, Once, Always, Unforged}
-use Rattle.protocol.specs.System.Trace.Entry.{Invoke, Got, Tick, Executed, Installed, Sent, Accepted}
+use Rattle.protocol.specs.System.Trace.Entry.{Sent}
 use Rattle.protocol.specs.Replica.Certificates.{prepare_from, commit_from, vote_in, prepare_of, commit_of, is_active_in, Prepared}
 use Rattle.quorum.specs.Votes.{has_digest}
 use Rattle.protocol.specs.Replica.RightReplica.{MaySay, MayCommit}
@@ -75,12 +75,7 @@ says_prepared c me v i d past (Sent p bytes) r h = go r.may.body (some_injective
     go body is say =
         let m : MayCommit c me past v i d = subst (λ (x : Body). MaySay c me past r.point (Sent p bytes) bytes x.message) is say in
         record { active = m.active; batch = m.batch; prepared = m.prepared; digest_is = m.digest_is }
-says_prepared c me v i d past (Invoke x y z) r h = absurd h
-says_prepared c me v i d past (Got x y) r h = absurd h
-says_prepared c me v i d past (Tick x) r h = absurd h
-says_prepared c me v i d past (Executed x y z) r h = absurd h
-says_prepared c me v i d past (Installed x y z) r h = absurd h
-says_prepared c me v i d past (Accepted x y z) r h = absurd h
+says_prepared c me v i d past _ r h = absurd h
 
 abbrev pub CommitsAt : Configuration → ℕ → ℕ → ℕ → List ℕ → List Entry → Entry → Type 0
 CommitsAt c me v i d past e = Commits c me v i d past × Speaks (committing me v i d) past e

@@ -7,7 +7,7 @@ use Rattle.protocol.specs.System.Configuration.{Configuration, replicas, is_corr
 use Rattle.wire.specs.Messages.{BodyData as Body, MessageData as Message, NewViewData, pre_prepare as PrePrepare, new_view as NewView}
 use Rattle.wire.specs.Words.{said}
 use Rattle.protocol.specs.System.Trace.{Entry, party_of, history_of, Once, Always, Has}
-use Rattle.protocol.specs.System.Trace.Entry.{Invoke, Got, Tick, Executed, Installed, Sent, Accepted}
+use Rattle.protocol.specs.System.Trace.Entry.{Invoke, Got, Executed, Sent}
 use Rattle.protocol.specs.Replica.Certificates.{proposal, logged, commit_of, commit_from, vote_in, Committed, batch_begun}
 use Rattle.quorum.specs.Votes.{has_digest}
 use Rattle.protocol.specs.System.Texts.{IsText, HasBatch, batches_of}
@@ -48,11 +48,7 @@ executed_ready c r k a past (Executed p number text) t h =
     let at : Committed c r past m.in_view k text = subst (λ (x : ℕ). Committed c r past m.in_view x text) h.1 m.committed in
     record { view = m.in_view; committed = subst (λ (x : List ℕ). Committed c r past m.in_view k x) h.2 at }
 executed_ready c r k a past (Invoke x y z) t h = absurd h
-executed_ready c r k a past (Got x y) t h = absurd h
-executed_ready c r k a past (Tick x) t h = absurd h
-executed_ready c r k a past (Sent x y) t h = absurd h
-executed_ready c r k a past (Installed x y z) t h = absurd h
-executed_ready c r k a past (Accepted x y z) t h = absurd h
+executed_ready c r k a past _ t h = absurd h
 
 -- a correct replica executed the batch
 pub executor : (c : Configuration) (k : ℕ) (a : List ℕ) (xs : List Entry) → Once (ExecutesBatch c k a) xs
@@ -64,12 +60,7 @@ executor c k a xs h =
     at : (past : List Entry) (e : Entry) → ExecutesBatch c k a past e
         → (r : ℕ) × (is_correct_replica c r ≡ true) × ((party_of e ≡ r) × ExecutesBatch c k a (history_of r past) e)
     at past (Executed r number text) h = (r, h.0, (refl, h))
-    at past (Invoke x y z) h = absurd h
-    at past (Got x y) h = absurd h
-    at past (Tick x) h = absurd h
-    at past (Sent x y) h = absurd h
-    at past (Installed x y z) h = absurd h
-    at past (Accepted x y z) h = absurd h
+    at past _ h = absurd h
 
     who : (xs : List Entry) → Once (ExecutesBatch c k a) xs
         → (r : ℕ) × (is_correct_replica c r ≡ true) × Once (λ past e. (party_of e ≡ r) × ExecutesBatch c k a (history_of r past) e) xs
@@ -109,20 +100,12 @@ brought_has c v i a body is past (Got p bytes) h =
     let says : said bytes ≡ Some body = heard_said c p bytes body h in
     (body, says, offer_has v i a body.sender body.message is)
 brought_has c v i a body is past (Sent p bytes) h = (body, h, offer_has v i a body.sender body.message is)
-brought_has c v i a body is past (Invoke x y z) h = absurd cc
-brought_has c v i a body is past (Tick x) h = absurd cc
-brought_has c v i a body is past (Executed x y z) h = absurd cc
-brought_has c v i a body is past (Installed x y z) h = absurd cc
-brought_has c v i a body is past (Accepted x y z) h = absurd cc
+brought_has c v i a body is past _ h = absurd cc
 
 has_any_past : (text : List ℕ) (past past' : List Entry) (e : Entry) → HasBatch text past e → HasBatch text past' e
 has_any_past text past past' (Got p bytes) h = h
 has_any_past text past past' (Sent p bytes) h = h
-has_any_past text past past' (Invoke x y z) h = absurd h
-has_any_past text past past' (Tick x) h = absurd h
-has_any_past text past past' (Executed x y z) h = absurd h
-has_any_past text past past' (Installed x y z) h = absurd h
-has_any_past text past past' (Accepted x y z) h = absurd h
+has_any_past text past past' _ h = absurd h
 
 pub logged_text : (c : Configuration) (trace : List Entry) (r v i : ℕ) (a : List ℕ) → AreReplicasSafe c trace → is_correct_replica c r ≡ true
     → logged c r (history_of r trace) v i ≡ Some a → IsText c trace a

@@ -6,7 +6,7 @@ use Rattle.std.proofs.lemmas.Bool.{and_parts, and_from}
 use Rattle.quorum.specs.Votes.{or_else}
 use Rattle.protocol.specs.System.Configuration.{Configuration, IsConfiguration, is_correct_replica}
 use Rattle.protocol.specs.System.Trace.{Entry, Once, Unforged}
-use Rattle.protocol.specs.System.Trace.Entry.{Invoke, Got, Tick, Executed, Installed, Sent, Accepted}
+use Rattle.protocol.specs.System.Trace.Entry.{Invoke, Executed}
 use Rattle.protocol.specs.System.Texts.{NoCollision, batch_by, first_batch, AreFirst}
 use Rattle.protocol.specs.Laws.Histories.{AreReplicasSafe, ExecutesBatch, AreExecuted}
 use Rattle.protocol.proofs.Words.Temporal.{once_weaker}
@@ -19,21 +19,13 @@ by_executes c k b past (Executed r number text) h =
     let p = and_parts (is_correct_replica c r) (number == k) g.0 in
     (p.0, eqb-true number k p.1, g.1)
 by_executes c k b past (Invoke x y z) h = absurd cc
-by_executes c k b past (Got x y) h = absurd cc
-by_executes c k b past (Tick x) h = absurd cc
-by_executes c k b past (Sent x y) h = absurd cc
-by_executes c k b past (Installed x y z) h = absurd cc
-by_executes c k b past (Accepted x y z) h = absurd cc
+by_executes c k b past _ h = absurd cc
 
 executes_by : (c : Configuration) (k : ℕ) (b : List ℕ) (past : List Entry) (e : Entry) → ExecutesBatch c k b past e → batch_by c k e ≡ Some b
 executes_by c k b past (Executed r number text) h =
     ap (λ (x : Bool). then_some x text) (and_from (is_correct_replica c r) (number == k) h.0 (eq-eqb number k h.1)) ∙ ap Some h.2
 executes_by c k b past (Invoke x y z) h = absurd h
-executes_by c k b past (Got x y) h = absurd h
-executes_by c k b past (Tick x) h = absurd h
-executes_by c k b past (Sent x y) h = absurd h
-executes_by c k b past (Installed x y z) h = absurd h
-executes_by c k b past (Accepted x y z) h = absurd h
+executes_by c k b past _ h = absurd h
 
 pub first_executes : (c : Configuration) (k : ℕ) (b : List ℕ) (xs : List Entry) → first_batch c xs k ≡ Some b → Once (ExecutesBatch c k b) xs
 first_executes c k b xs h =

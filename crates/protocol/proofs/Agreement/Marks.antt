@@ -8,7 +8,7 @@ use Rattle.wire.specs.Messages.{BodyData as Body, MessageData as Message, NewVie
 use Rattle.signing.specs.Heard.{heard}
 use Rattle.wire.specs.Words.{said}
 use Rattle.protocol.specs.System.Trace.{Entry}
-use Rattle.protocol.specs.System.Trace.Entry.{Invoke, Got, Tick, Executed, Installed, Sent, Accepted}
+use Rattle.protocol.specs.System.Trace.Entry.{Got, Sent}
 use Rattle.protocol.specs.Replica.Certificates.{view, view_after, target, taken, new_view_in, new_view_from, low, batch_begun, is_later}
 use Rattle.protocol.specs.Replica.Selection.{may_select, largest, largest_of, changes_of, may_all_stand, is_within, is_batch_entry_within, how_many, is_start, is_checkpoint_within, ascending, is_quorum, count_in}
 use Rattle.protocol.proofs.Words.Options.{and_then_some, then_some_gives}
@@ -178,8 +178,4 @@ proposes c v i new batch h = go ((new.view == v) && nat_lt new.start i) refl h
 pub selected_in : (c : Configuration) (e : Entry) (new : NewViewData) → new_view_in c e ≡ Some new → may_select c new ≡ true
 selected_in c (Got p bytes) new h = let r = and_then_some (new_view_from c) (heard (members c) p bytes) new h in (begins c r.0 new r.2).selected
 selected_in c (Sent p bytes) new h = let r = and_then_some (new_view_from c) (said bytes) new h in (begins c r.0 new r.2).selected
-selected_in c (Invoke x y z) new h = absurd cc
-selected_in c (Tick x) new h = absurd cc
-selected_in c (Executed x y z) new h = absurd cc
-selected_in c (Installed x y z) new h = absurd cc
-selected_in c (Accepted x y z) new h = absurd cc
+selected_in c _ new h = absurd cc

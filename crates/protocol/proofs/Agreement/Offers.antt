@@ -8,7 +8,7 @@ use Rattle.wire.specs.Messages.{BodyData as Body, MessageData as Message, NewVie
 use Rattle.signing.specs.Heard.{heard}
 use Rattle.wire.specs.Words.{said}
 use Rattle.protocol.specs.System.Trace.{Entry, Once, Always}
-use Rattle.protocol.specs.System.Trace.Entry.{Invoke, Got, Tick, Executed, Installed, Sent, Accepted}
+use Rattle.protocol.specs.System.Trace.Entry.{Invoke, Got, Sent}
 use Rattle.std.specs.Bool.{then_some}
 use Rattle.quorum.specs.Votes.{or_else}
 use Rattle.protocol.specs.Replica.Certificates.{first_given, view, target, taken, new_view_in, new_view_from, low, is_in_marks, is_active_in, batch_begun, are_genuine, entry_proposal, proposal, logged, batch_from, counts_at, brought}
@@ -61,10 +61,7 @@ taken_offer c me v i past batch (Sent p bytes) new h b =
     let g = begins c r.0 new r.2 in
     record { body = r.0; brings = r.1; sender_is = g.sender_is ∙ ap (primary c) (proposes c v i new batch b).view_is; offers = begun_offer v i new batch r.0.sender r.0.message g.message_is b }
 taken_offer c me v i past batch (Invoke x y z) new h b = absurd cc
-taken_offer c me v i past batch (Tick x) new h b = absurd cc
-taken_offer c me v i past batch (Executed x y z) new h b = absurd cc
-taken_offer c me v i past batch (Installed x y z) new h b = absurd cc
-taken_offer c me v i past batch (Accepted x y z) new h b = absurd cc
+taken_offer c me v i past batch _ new h b = absurd cc
 
 -- the pre-prepare by which an entry logs a batch
 pub entry_batch : (c : Configuration) (me v i : ℕ) (batch : List ℕ) (past : List Entry) (e : Entry) → entry_proposal c me past e v i ≡ Some batch
@@ -127,12 +124,7 @@ same_bytes v i batch bytes h past s = once_weaker (SendsBytes bytes) (λ earlier
   where
     step : (earlier : List Entry) (e : Entry) → SendsBytes bytes earlier e → offer_in v i e ≡ Some batch
     step earlier (Sent p sent) is = rw is h
-    step earlier (Invoke x y z) is = absurd is
-    step earlier (Got x y) is = absurd is
-    step earlier (Tick x) is = absurd is
-    step earlier (Executed x y z) is = absurd is
-    step earlier (Installed x y z) is = absurd is
-    step earlier (Accepted x y z) is = absurd is
+    step earlier _ is = absurd is
 
 offer_by : (c : Configuration) (me v i : ℕ) (batch : List ℕ) (past : List Entry) (point : Point) (p : ℕ) (bytes : List ℕ) (sender : ℕ) (message : Message)
     → option_and_then (offer_from v i) (said bytes) ≡ Some batch
@@ -162,11 +154,7 @@ is_offer c me v i batch past (Sent p bytes) r h =
     let say : MaySay c me past r.point (Sent p bytes) bytes t.0.message = subst (λ (x : Body). MaySay c me past r.point (Sent p bytes) bytes x.message) is m.say in
     offer_by c me v i batch past r.point p bytes t.0.sender t.0.message h t.2 say
 is_offer c me v i batch past (Invoke x y z) r h = absurd cc
-is_offer c me v i batch past (Got x y) r h = absurd cc
-is_offer c me v i batch past (Tick x) r h = absurd cc
-is_offer c me v i batch past (Executed x y z) r h = absurd cc
-is_offer c me v i batch past (Installed x y z) r h = absurd cc
-is_offer c me v i batch past (Accepted x y z) r h = absurd cc
+is_offer c me v i batch past _ r h = absurd cc
 
 -- ---- logged batches are of views that were reached
 
@@ -198,10 +186,7 @@ entry_within c me v i batch past (Sent p bytes) r h =
     let say : MaySay c me past r.point (Sent p bytes) bytes t.0.message = subst (λ (x : Body). MaySay c me past r.point (Sent p bytes) bytes x.message) is m.say in
     sent_view c me v i past r.point (Sent p bytes) bytes batch t.0.sender t.0.message t.2 say
 entry_within c me v i batch past (Invoke x y z) r h = absurd cc
-entry_within c me v i batch past (Tick x) r h = absurd cc
-entry_within c me v i batch past (Executed x y z) r h = absurd cc
-entry_within c me v i batch past (Installed x y z) r h = absurd cc
-entry_within c me v i batch past (Accepted x y z) r h = absurd cc
+entry_within c me v i batch past _ r h = absurd cc
 
 proposal_view : (c : Configuration) (me v i : ℕ) (batch : List ℕ) (past : List Entry) (e : Entry) → RightAt c me past e → proposal c me past e v i ≡ Some batch → v ≤ view c (e ∷ past)
 proposal_view c me v i batch past e r h = go (or_else_cases _ _ batch h)

@@ -42,12 +42,7 @@ gots_said c trace q unforged correct =
         once_in_history (Speaks body) body.sender trace
         (once_weaker (SendsBody body) (λ past e. (party_of e ≡ body.sender) × Speaks body (history_of body.sender past) e)
         (sent_spoken body) trace (emb (SendsBody body) sends))
-    step past (Invoke x y z) u emb own = tt
-    step past (Tick x) u emb own = tt
-    step past (Executed x y z) u emb own = tt
-    step past (Installed x y z) u emb own = tt
-    step past (Sent x y) u emb own = tt
-    step past (Accepted x y z) u emb own = tt
+    step past _ u emb own = tt
 
 pub seen_was_said : (c : Configuration) (trace : List Entry) (q : ℕ) (xs : List Entry) → ((R : List Entry → Entry → Type 0) → Once R xs → Once R (history_of q trace))
     → Always (RightAt c q) xs → Always (λ past e. GotsSaid c trace e) xs → (bytes : List ℕ) → Once (HasSeen bytes) xs → SaidIfSigned c trace bytes
@@ -118,10 +113,7 @@ taken_seen c new bytes h past e t = go e (takes c 0 past e new t).brought
         let r = and_then_some (new_view_from c) (said whole) new b in
         inr (begin_seen new bytes whole r.0 r.1 (begins c r.0 new r.2).message_is h)
     go (Invoke x y z) b = absurd cc
-    go (Tick x) b = absurd cc
-    go (Executed x y z) b = absurd cc
-    go (Installed x y z) b = absurd cc
-    go (Accepted x y z) b = absurd cc
+    go _ b = absurd cc
 
 -- a correct replica sent its view change that stands in a taken new view
 pub change_was_said : (c : Configuration) (trace : List Entry) (q s : ℕ) (new : NewViewData) (vc : ViewChangeData) → AreReplicasSafe c trace → Unforged c trace

@@ -217,11 +217,7 @@ says_known c trace s k root past (Sent p bytes) r good h =
     let m : MayCheckpoint c past r.point k root = subst (λ (x : Body). MaySay c s past r.point (Sent p bytes) bytes x.message) is r.may.say in
     known_snapshot c trace k root r.point (good r.point r.leaves) m.state
 says_known c trace s k root past (Invoke x y z) r good h = absurd h
-says_known c trace s k root past (Got x y) r good h = absurd h
-says_known c trace s k root past (Tick x) r good h = absurd h
-says_known c trace s k root past (Executed x y z) r good h = absurd h
-says_known c trace s k root past (Installed x y z) r good h = absurd h
-says_known c trace s k root past (Accepted x y z) r good h = absurd h
+says_known c trace s k root past _ r good h = absurd h
 
 -- the root in a correct replica's checkpoint is known
 checkpoint_known : (c : Configuration) (trace ys : List Entry) (s k : ℕ) (root : List ℕ) → SafeReplica c s (history_of s ys) → GoodAll c trace s (history_of s ys)
@@ -333,11 +329,7 @@ got_part : (c : Configuration) (r i : ℕ) (text : List ℕ) (past other : List 
 got_part c r i text past other (Got p bytes) h =
     (record { sender = h.0; message = Page h.1 i text }, heard_said c r bytes (record { sender = h.0; message = Page h.1 i text }) h.2, inl refl)
 got_part c r i text past other (Invoke x y z) h = absurd h
-got_part c r i text past other (Tick x) h = absurd h
-got_part c r i text past other (Executed x y z) h = absurd h
-got_part c r i text past other (Installed x y z) h = absurd h
-got_part c r i text past other (Sent x y) h = absurd h
-got_part c r i text past other (Accepted x y z) h = absurd h
+got_part c r i text past other _ h = absurd h
 
 -- ---- executed batches are fewer than 2^48
 
@@ -526,11 +518,7 @@ module _ (c : Configuration) (setting : IsConfiguration c) (trace : List Entry) 
       subst (λ (x : ℕ). HadQuorum c (record { number = x; digest = root }) past ⊎ Once (StartsAt c x root) past) h.0
       (subst (λ (x : List ℕ). HadQuorum c (record { number = number; digest = x }) past ⊎ Once (StartsAt c number x) past) h.1 m)
   installs_may r k root past (Invoke x y z) t h = absurd h
-  installs_may r k root past (Got x y) t h = absurd h
-  installs_may r k root past (Tick x) t h = absurd h
-  installs_may r k root past (Executed x y z) t h = absurd h
-  installs_may r k root past (Sent x y) t h = absurd h
-  installs_may r k root past (Accepted x y z) t h = absurd h
+  installs_may r k root past _ t h = absurd h
 
   pub installed_root : (r k : ℕ) (root : List ℕ) → is_correct_replica c r ≡ true → Once (Installs k root) (history_of r trace) → IsRootOf c trace k root
   installed_root r k root correct h =

@@ -7,7 +7,7 @@ use Rattle.protocol.specs.System.Configuration.{Configuration, is_correct, is_co
 use Rattle.wire.specs.Messages.{BodyData as Body, MessageData as Message, prepare as Prepare}
 use Rattle.signing.specs.Heard.{heard}
 use Rattle.protocol.specs.System.Trace.{Entry, party_of, history_of, Once, Always, Unforged, Hears}
-use Rattle.protocol.specs.System.Trace.Entry.{Invoke, Got, Tick, Executed, Installed, Sent, Accepted}
+use Rattle.protocol.specs.System.Trace.Entry.{Invoke, Got, Sent}
 use Rattle.protocol.specs.Replica.Certificates.{proposal, logged, prepare_from, vote_in, prepare_of, brought, counts_at}
 use Rattle.protocol.specs.Replica.RightReplica.{Point, Leaves, May, MaySay, MayPrepare, SafeReplica}
 use Rattle.protocol.specs.Laws.Histories.{AreReplicasSafe}
@@ -84,11 +84,7 @@ speaks_as_itself c me body past (Sent p bytes) r h =
     let is : m.body ≡ body = some_injective m.body body (sym m.says ∙ h) in
     rw (← is) m.own
 speaks_as_itself c me body past (Invoke x y z) r h = absurd h
-speaks_as_itself c me body past (Got x y) r h = absurd h
-speaks_as_itself c me body past (Tick x) r h = absurd h
-speaks_as_itself c me body past (Executed x y z) r h = absurd h
-speaks_as_itself c me body past (Installed x y z) r h = absurd h
-speaks_as_itself c me body past (Accepted x y z) r h = absurd h
+speaks_as_itself c me body past _ r h = absurd h
 
 once_either : (P Q : List Entry → Entry → Type 0) (xs : List Entry) → Once (λ past e. P past e ⊎ Q past e) xs → Once P xs ⊎ Once Q xs
 once_either P Q [] h = absurd h
@@ -106,11 +102,7 @@ correct_replica c p h = rw h refl
 brings_either : (c : Configuration) (p : ℕ) (body : Body) (past : List Entry) (e : Entry) → party_of e ≡ p → Brings c body past e → Hears c p body past e ⊎ Speaks body past e
 brings_either c p body past (Got q bytes) own h = inl (subst (λ (x : ℕ). heard (members c) x bytes ≡ Some body) own h)
 brings_either c p body past (Sent q bytes) own h = inr h
-brings_either c p body past (Invoke x y z) own h = absurd cc
-brings_either c p body past (Tick x) own h = absurd cc
-brings_either c p body past (Executed x y z) own h = absurd cc
-brings_either c p body past (Installed x y z) own h = absurd cc
-brings_either c p body past (Accepted x y z) own h = absurd cc
+brings_either c p body past _ own h = absurd cc
 
 -- if a right replica receives a correct replica's body, or sends one itself, the sender sent it
 pub brought_was_said : (c : Configuration) (trace : List Entry) (p : ℕ) (body : Body) → AreReplicasSafe c trace → Unforged c trace
@@ -154,12 +146,7 @@ says_logged c me v i d past (Sent p bytes) r h = go r.may.body (some_injective r
     go body is say =
         let m : MayPrepare c me past v i d = subst (λ (x : Body). MaySay c me past r.point (Sent p bytes) bytes x.message) is say in
         record { batch = m.batch; is_logged = m.is_logged; digest = m.digest_is }
-says_logged c me v i d past (Invoke x y z) r h = absurd h
-says_logged c me v i d past (Got x y) r h = absurd h
-says_logged c me v i d past (Tick x) r h = absurd h
-says_logged c me v i d past (Executed x y z) r h = absurd h
-says_logged c me v i d past (Installed x y z) r h = absurd h
-says_logged c me v i d past (Accepted x y z) r h = absurd h
+says_logged c me v i d past _ r h = absurd h
 
 -- a correct replica whose prepare a right replica counts has logged a batch of that digest
 pub voter_logs : (c : Configuration) (trace : List Entry) (p s v i : ℕ) (d : List ℕ) → AreReplicasSafe c trace → Unforged c trace

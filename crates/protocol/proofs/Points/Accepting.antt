@@ -136,12 +136,7 @@ accepts_lt c p t a call (Installed x y z ∷ past) r o (inr h) = accepts_lt c p 
 
 pub accepts_own : (p t : ℕ) (a : Outcome) (past : List Entry) (e : Entry) → Accepts p t a past e → (party_of e ≡ p) × Accepts p t a (history_of p past) e
 accepts_own p t a past (Accepted x y z) h = (h.0, h)
-accepts_own p t a past (Invoke x y z) h = absurd h
-accepts_own p t a past (Got x y) h = absurd h
-accepts_own p t a past (Tick x) h = absurd h
-accepts_own p t a past (Sent x y) h = absurd h
-accepts_own p t a past (Executed x y z) h = absurd h
-accepts_own p t a past (Installed x y z) h = absurd h
+accepts_own p t a past _ h = absurd h
 
 pub accepted_once : (c : Configuration) (past : List Entry) (p t : ℕ) (a b : Outcome) → Accepting c past p t a → Once (Accepts p t b) past → ⊥
 accepted_once c past p t a b x h =
@@ -211,11 +206,7 @@ reply_may c s p t mode number answer past (Sent q bytes) r h =
     let is = some_injective r.may.body (record { sender = s; message = Reply p t mode number answer }) (sym r.may.says ∙ h) in
     (r.point, r.leaves, subst (λ (x : Body). MaySay c s past r.point (Sent q bytes) bytes x.message) is r.may.say)
 reply_may c s p t mode number answer past (Invoke x y z) r h = absurd h
-reply_may c s p t mode number answer past (Got x y) r h = absurd h
-reply_may c s p t mode number answer past (Tick x) r h = absurd h
-reply_may c s p t mode number answer past (Executed x y z) r h = absurd h
-reply_may c s p t mode number answer past (Installed x y z) r h = absurd h
-reply_may c s p t mode number answer past (Accepted x y z) r h = absurd h
+reply_may c s p t mode number answer past _ r h = absurd h
 
 -- the entry at which it replied
 pub record Replied (c : Configuration) (trace : List Entry) (s p t : ℕ) (mode : Mode) (number : ℕ) (answer : Outcome) : Type 0 where
@@ -273,12 +264,7 @@ ran_by-weaker c xs st k (suc n) P Q f (inr h) = inr (ran_by-weaker c xs (execute
 
 executes_any : (c : Configuration) (k : ℕ) (b : List ℕ) (past other : List Entry) (e : Entry) → ExecutesBatch c k b past e → ExecutesBatch c k b other e
 executes_any c k b past other (Executed x y z) h = h
-executes_any c k b past other (Invoke x y z) h = absurd h
-executes_any c k b past other (Got x y) h = absurd h
-executes_any c k b past other (Tick x) h = absurd h
-executes_any c k b past other (Sent x y) h = absurd h
-executes_any c k b past other (Installed x y z) h = absurd h
-executes_any c k b past other (Accepted x y z) h = absurd h
+executes_any c k b past other _ h = absurd h
 
 pub ordered_replied : (c : Configuration) (trace : List Entry) (s p t number : ℕ) (answer : Outcome) → Run c trace → is_correct_replica c s ≡ true → is_correct_client c p ≡ true
     → Replied c trace s p t modes.Ordered number answer → RanBy c trace opening 1 (last_executed trace) (Answers p t number answer)
@@ -337,12 +323,7 @@ heard_answer c p s t mode number answer xs h = once_stays (λ past. IsOutcome an
   where
     step : (past : List Entry) (e : Entry) → Hears c p (record { sender = s; message = Reply p t mode number answer }) past e → IsOutcome answer
     step past (Got q bytes) h = heard_fits c p bytes (record { sender = s; message = Reply p t mode number answer }) h
-    step past (Invoke x y z) h = absurd h
-    step past (Tick x) h = absurd h
-    step past (Executed x y z) h = absurd h
-    step past (Installed x y z) h = absurd h
-    step past (Sent x y) h = absurd h
-    step past (Accepted x y z) h = absurd h
+    step past _ h = absurd h
 
 vote_answer : (me t s : ℕ) (vote : Vote) (sender : ℕ) (message : Message) → vote_of me t s (record { sender = sender; message = message }) ≡ Some vote → FitsMessage message → IsOutcome vote.answer
 vote_answer me t s vote sender (Reply client timestamp mode number answer) h f =

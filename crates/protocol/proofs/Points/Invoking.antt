@@ -86,12 +86,7 @@ asked_op c p t mode text (Accepted x y z ∷ past) r (inl h) = absurd h
 
 invokes_any : (p t : ℕ) (op : Operation) (past other : List Entry) (e : Entry) → Invokes p t op past e → Invokes p t op other e
 invokes_any p t op past other (Invoke x y z) h = h
-invokes_any p t op past other (Got x y) h = absurd h
-invokes_any p t op past other (Tick x) h = absurd h
-invokes_any p t op past other (Executed x y z) h = absurd h
-invokes_any p t op past other (Installed x y z) h = absurd h
-invokes_any p t op past other (Sent x y) h = absurd h
-invokes_any p t op past other (Accepted x y z) h = absurd h
+invokes_any p t op past other _ h = absurd h
 
 pub invoked_in_trace : (p t : ℕ) (op : Operation) (xs : List Entry) → Once (Invokes p t op) (history_of p xs) → Once (Invokes p t op) xs
 invoked_in_trace p t op xs h = once_weaker (λ past e. (party_of e ≡ p) × Invokes p t op (history_of p past) e) (Invokes p t op) (λ past e u. invokes_any p t op (history_of p past) past e u.1) xs (once_in_trace (Invokes p t op) p xs h)
@@ -160,11 +155,7 @@ asks_said c xs frame body runs is from h =
         once_weaker (SendsBody body) (λ past e. (party_of e ≡ body.sender) × Speaks body (history_of body.sender past) e)
         (sent_spoken body) past (each.hears body hears from)
     step past (Sent a b) t = absurd t.1
-    step past (Invoke a b d) t = absurd t.1
-    step past (Tick a) t = absurd t.1
-    step past (Executed a b d) t = absurd t.1
-    step past (Installed a b d) t = absurd t.1
-    step past (Accepted a b d) t = absurd t.1
+    step past _ t = absurd t.1
 
 pub call_body : (c : Configuration) (frame : List ℕ) (call : Call) → call_of c frame ≡ Some call → said frame ≡ Some (asking (256 + call.client) call.timestamp modes.Ordered call.op)
 call_body c frame call h =
@@ -203,12 +194,7 @@ asks_request c frame sender t op is past (Got p bytes) h = (h.0, there (frames_i
     there [] k = k
     there (x ∷ xs) (inl k) = inl (subst (λ (y : List ℕ). heard (members c) p y ≡ Some (asking sender t modes.Ordered op)) (sym k) (known (heard (members c) p frame) refl h.1))
     there (x ∷ xs) (inr k) = inr (there xs k)
-asks_request c frame sender t op is past (Invoke x y z) h = absurd h
-asks_request c frame sender t op is past (Tick x) h = absurd h
-asks_request c frame sender t op is past (Executed x y z) h = absurd h
-asks_request c frame sender t op is past (Installed x y z) h = absurd h
-asks_request c frame sender t op is past (Sent x y) h = absurd h
-asks_request c frame sender t op is past (Accepted x y z) h = absurd h
+asks_request c frame sender t op is past _ h = absurd h
 
 -- ---- the requests that ran
 

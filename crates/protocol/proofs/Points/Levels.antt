@@ -7,7 +7,7 @@ use Rattle.protocol.specs.Replica.RightReplica
 use Rattle.quorum.specs.Quorum.{count_below}
 use Rattle.protocol.specs.System.Configuration.{Configuration, IsConfiguration, replicas, is_replica, is_faulty_replica, is_correct_replica}
 use Rattle.protocol.specs.System.Trace.{Entry, party_of, history_of}
-use Rattle.protocol.specs.System.Trace.Entry.{Invoke, Got, Tick, Executed, Installed, Sent, Accepted}
+use Rattle.protocol.specs.System.Trace.Entry.{Invoke, Executed, Installed, Accepted}
 use Rattle.protocol.specs.Replica.State.{execute}
 use Rattle.protocol.specs.Replica.RightReplica.{Leaves, May, Moves}
 use Rattle.protocol.specs.Space.Linear.{reached_at, reached, count_correct, has_reached, is_level}
@@ -121,11 +121,7 @@ reached_history r (e ∷ xs) = go (party_of e == r) refl (reached_history r xs)
     outside : (e : Entry) → (party_of e == r) ≡ false → reached_at r e ≡ 0
     outside (Executed p k b) h = rw h refl
     outside (Installed p k b) h = rw h refl
-    outside (Invoke x y z) h = refl
-    outside (Got x y) h = refl
-    outside (Tick x) h = refl
-    outside (Sent x y) h = refl
-    outside (Accepted x y z) h = refl
+    outside _ h = refl
 
     go : (b : Bool) → (party_of e == r) ≡ b → reached (history_of r xs) r ≡ reached xs r → reached (cond b (e ∷ history_of r xs) (history_of r xs)) r ≡ max (reached_at r e) (reached xs r)
     go true is below = ap (λ n. max (reached_at r e) n) below
@@ -137,9 +133,6 @@ number_reached c r [] point h = ap (λ (x : RightReplica.Point). x.state.number)
 number_reached c r (e ∷ past) point h = go e h.2.own h.2.may h.2.moves (number_reached c r past h.0 h.1)
   where
     go : (e : Entry) → party_of e ≡ r → May c r past h.0 e → Moves c r past h.0 e point → h.0.state.number ≡ reached past r → point.state.number ≡ max (reached_at r e) (reached past r)
-    go (Got p bytes) own may move was = let n : point.state.number ≡ h.0.state.number = ap (λ (x : RightReplica.Point). x.state.number) move in omega arith
-    go (Tick p) own may move was = let n : point.state.number ≡ h.0.state.number = ap (λ (x : RightReplica.Point). x.state.number) move in omega arith
-    go (Sent p bytes) own may move was = let n : point.state.number ≡ h.0.state.number = ap (λ (x : RightReplica.Point). x.state.number) move in omega arith
     go (Invoke x y z) own may move was = absurd may
     go (Accepted x y z) own may move was = absurd may
     go (Executed p k batch) own may move was =
@@ -152,3 +145,4 @@ number_reached c r (e ∷ past) point h = go e h.2.own h.2.may h.2.moves (number
         let above = may.0 in
         let at : reached_at r (Installed p k root) ≡ k = rw (eq-eqb p r own) refl in
         omega arith
+    go _ own may move was = let n : point.state.number ≡ h.0.state.number = ap (λ (x : RightReplica.Point). x.state.number) move in omega arith

@@ -146,11 +146,7 @@ says_ordered c trace s p t number answer past (Sent q bytes) r good h =
         let m = ran_at_most c s past r.point r.leaves x.0 x.1 in let n = (replies_to p t number answer x.0.call.client x.0.kept x.2).number_is in let a = at in omega arith
     go (inr h) = let m = kept_at_most c trace r.point.state (good r.point r.leaves).state h.0 h.1 h.2 in let n = (replies_to p t number answer h.0 h.1 h.3).number_is in let a = at in omega arith
 says_ordered c trace s p t number answer past (Invoke x y z) r good h = absurd h
-says_ordered c trace s p t number answer past (Got x y) r good h = absurd h
-says_ordered c trace s p t number answer past (Tick x) r good h = absurd h
-says_ordered c trace s p t number answer past (Executed x y z) r good h = absurd h
-says_ordered c trace s p t number answer past (Installed x y z) r good h = absurd h
-says_ordered c trace s p t number answer past (Accepted x y z) r good h = absurd h
+says_ordered c trace s p t number answer past _ r good h = absurd h
 
 ordered_reached : (c : Configuration) → IsConfiguration c → (s p t number : ℕ) (answer : Outcome) (xs : List Entry) → Runs c xs → NoCollision c xs → is_correct_replica c s ≡ true
     → Once (Speaks (ordering s p t number answer)) (history_of s xs) → number ≤ reached xs s

@@ -113,11 +113,7 @@ says_read c s p t number answer past (Sent q bytes) r h =
     let m : MayReply c s past r.point p t modes.ReadOnly number answer = subst (λ (x : Body). MaySay c s past r.point (Sent q bytes) bytes x.message) is r.may.say in
     (sym (m.number_is ∙ number_reached c s past r.point r.leaves), (m.op, m.heard))
 says_read c s p t number answer past (Invoke x y z) r h = absurd h
-says_read c s p t number answer past (Got x y) r h = absurd h
-says_read c s p t number answer past (Tick x) r h = absurd h
-says_read c s p t number answer past (Executed x y z) r h = absurd h
-says_read c s p t number answer past (Installed x y z) r h = absurd h
-says_read c s p t number answer past (Accepted x y z) r h = absurd h
+says_read c s p t number answer past _ r h = absurd h
 
 pub Answered : ℕ → ℕ → ℕ → ℕ → List Entry → Entry → Type 0
 Answered s p t number past e = (reached past s ≡ number) × Once (InvokesAt p t) past
@@ -125,12 +121,7 @@ Answered s p t number past e = (reached past s ≡ number) × Once (InvokesAt p 
 invokes_any : (p t q : ℕ) (past : List Entry) (e : Entry) → (party_of e ≡ q) × InvokesAt p t (history_of q past) e → InvokesAt p t past e
 unfolding InvokesAt
 invokes_any p t q past (Invoke x y z) h = h.1
-invokes_any p t q past (Got x y) h = absurd h.1
-invokes_any p t q past (Tick x) h = absurd h.1
-invokes_any p t q past (Executed x y z) h = absurd h.1
-invokes_any p t q past (Installed x y z) h = absurd h.1
-invokes_any p t q past (Sent x y) h = absurd h.1
-invokes_any p t q past (Accepted x y z) h = absurd h.1
+invokes_any p t q past _ h = absurd h.1
 
 pub read_answered : (c : Configuration) (s p t number : ℕ) (answer : Outcome) (xs : List Entry) → Runs c xs → is_correct_replica c s ≡ true → is_correct_client c p ≡ true
     → Once (Speaks (replying s p t modes.ReadOnly number answer)) (history_of s xs) → Once (Answered s p t number) xs

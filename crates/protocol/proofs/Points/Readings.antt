@@ -128,22 +128,14 @@ not_again c mode other p t past (Accepted x y z) run h k =
     accepted_once c past (256 + x) y z r.0 (accepting c past x y z run)
     (subst (λ (i : ℕ). Once (Accepts i y r.0) past) (sym h.0) (subst (λ (i : ℕ). Once (Accepts p i r.0) past) (sym h.1) r.1))
 not_again c mode other p t past (Invoke x y z) run h k = h
-not_again c mode other p t past (Got x y) run h k = h
-not_again c mode other p t past (Tick x) run h k = h
-not_again c mode other p t past (Sent x y) run h k = h
-not_again c mode other p t past (Executed x y z) run h k = h
-not_again c mode other p t past (Installed x y z) run h k = h
+not_again c mode other p t past _ run h k = h
 
 both_modes : (c : Configuration) (p t : ℕ) (past : List Entry) (e : Entry) → ModeAt c modes.ReadOnly p t past e → ModeAt c modes.Ordered p t past e → ⊥
 both_modes c p t past (Accepted x y z) h k =
     let same : h.2.0 ≡ k.2.0 = some_injective h.2.0 k.2.0 (sym h.2.1 ∙ k.2.1) in
     let bad : modes.ReadOnly ≡ modes.Ordered = sym h.2.2 ∙ ap (λ (v : Vote). v.mode) same ∙ k.2.2 in absurd cc
 both_modes c p t past (Invoke x y z) h k = h
-both_modes c p t past (Got x y) h k = h
-both_modes c p t past (Tick x) h k = h
-both_modes c p t past (Sent x y) h k = h
-both_modes c p t past (Executed x y z) h k = h
-both_modes c p t past (Installed x y z) h k = h
+both_modes c p t past _ h k = h
 
 pub one_mode : (c : Configuration) (p t : ℕ) (xs : List Entry) → Run c xs → Once (ModeAt c modes.ReadOnly p t) xs → Once (ModeAt c modes.Ordered p t) xs → ⊥
 one_mode c p t [] run h k = h
@@ -159,11 +151,7 @@ mode_made c trace y past (Accepted cl t a) run m =
     let time : t ≡ y.item.timestamp = sym x.time ∙ ap (λ (o : OpenCall). o.timestamp) call ∙ ap (λ (z : Placing). z.item.timestamp) m.5 in
     (ap (λ (z : Placing). z.item.client) m.5, time, (m.1, m.3, m.4))
 mode_made c trace y past (Invoke x z w) run m = absurd m
-mode_made c trace y past (Got x z) run m = absurd m
-mode_made c trace y past (Tick x) run m = absurd m
-mode_made c trace y past (Sent x z) run m = absurd m
-mode_made c trace y past (Executed x z w) run m = absurd m
-mode_made c trace y past (Installed x z w) run m = absurd m
+mode_made c trace y past _ run m = absurd m
 
 pub made_mode : (c : Configuration) (trace : List Entry) (y : Placing) (xs : List Entry) → Run c xs → Once (MadeAt c trace y) xs → Once (ModeAt c modes.ReadOnly y.item.client y.item.timestamp) xs
 made_mode c trace y [] run h = h

@@ -75,11 +75,7 @@ given_executed c k b past (Executed r number text) run h =
     pick true is h = is
     pick false is h = absurd (own (r == r) refl (eq-eqb r r refl) (run.runs.clients r h))
 given_executed c k b past (Invoke x y z) run h = absurd cc
-given_executed c k b past (Got x y) run h = absurd cc
-given_executed c k b past (Tick x) run h = absurd cc
-given_executed c k b past (Sent x y) run h = absurd cc
-given_executed c k b past (Installed x y z) run h = absurd cc
-given_executed c k b past (Accepted x y z) run h = absurd cc
+given_executed c k b past _ run h = absurd cc
 
 some_given : (c : Configuration) (k : ℕ) (b : List ℕ) (xs : List Entry) → Once (ExecutesBatch c k b) xs → (x : List ℕ) × (first_given (λ past e. batch_at k e) xs ≡ Some x)
 some_given c k b [] h = absurd h

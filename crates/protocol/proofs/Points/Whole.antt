@@ -8,7 +8,7 @@ use Rattle.protocol.specs.System.Configuration.{Configuration, IsConfiguration, 
 use Rattle.terms.specs.declared.order.Mode.{Mode}
 use Rattle.terms.specs.declared.order.Mode.TheVariants as modes
 use Rattle.protocol.specs.System.Trace.{Entry, party_of, history_of, Once, Always, Unforged, Has}
-use Rattle.protocol.specs.System.Trace.Entry.{Invoke, Got, Tick, Executed, Installed, Sent, Accepted}
+use Rattle.protocol.specs.System.Trace.Entry.{Invoke, Accepted}
 use Rattle.space.specs.Applying.{no_tuples, tuples_after}
 use Rattle.space.proofs.Keeping.{read_same}
 use Rattle.protocol.specs.Replica.State.{opening}
@@ -113,12 +113,7 @@ invoked_in_history p t op xs h = once_in_history (Invokes p t op) p xs (once_wea
   where
     own : (past : List Entry) (e : Entry) → Invokes p t op past e → (party_of e ≡ p) × Invokes p t op (history_of p past) e
     own past (Invoke x y z) h = (h.0, h)
-    own past (Got x y) h = absurd h
-    own past (Tick x) h = absurd h
-    own past (Sent x y) h = absurd h
-    own past (Executed x y z) h = absurd h
-    own past (Installed x y z) h = absurd h
-    own past (Accepted x y z) h = absurd h
+    own past _ h = absurd h
 
 -- ---- the points
 
@@ -160,11 +155,7 @@ module _ (c : Configuration) (trace : List Entry) (run : Run c trace) where
           ap (λ (o : OpenCall). read_of c trace (256 + cl) o a past x.vote) call ∙ ap (λ (v : Vote). read_of c trace (256 + cl) m.0 a past v) vote ∙ m.5 in
           subst (ReadFacts c trace) same (read_facts c trace run later past (Accepted cl t a) is (256 + cl) t a x in_mode)
       go later past (Invoke x z w) is m = absurd m
-      go later past (Got x z) is m = absurd m
-      go later past (Tick x) is m = absurd m
-      go later past (Sent x z) is m = absurd m
-      go later past (Executed x z w) is m = absurd m
-      go later past (Installed x z w) is m = absurd m
+      go later past _ is m = absurd m
 
   facts : AllOf (ReadFacts c trace) reads
   facts = all_weaker (λ y. Once (MadeAt c trace y) trace) (ReadFacts c trace) read_made reads (reads_made c trace trace)
@@ -295,11 +286,7 @@ module _ (c : Configuration) (trace : List Entry) (run : Run c trace) where
       go later past (Accepted cl time answer) is k =
           make past (subst (λ (i : ℕ). Shown i t a past) k.0 (subst (λ (i : ℕ). Shown (256 + cl) i a past) k.1 (subst (λ (b : Outcome). Shown (256 + cl) time b past) k.2 (shown later past cl time answer is))))
       go later past (Invoke x z w) is m = absurd m
-      go later past (Got x z) is m = absurd m
-      go later past (Tick x) is m = absurd m
-      go later past (Sent x z) is m = absurd m
-      go later past (Executed x z w) is m = absurd m
-      go later past (Installed x z w) is m = absurd m
+      go later past _ is m = absurd m
 
   -- no point of an accepted call is after its acceptance
   before_accepted : (x : Placing) → Has (λ y. y ≡ x) all_points → (a : Outcome) → Always (λ past e. Accepts x.item.client x.item.timestamp a past e → x.item.position ≤ length past) trace
@@ -311,11 +298,7 @@ module _ (c : Configuration) (trace : List Entry) (run : Run c trace) where
           let same : s.point ≡ x = differ_same all_points differ s.point x s.is_there has (s.client ∙ k.0) (s.time ∙ k.1) in
           subst (λ (y : Placing). y.item.position ≤ length past) same s.bound
       go later past (Invoke y z w) is m = absurd m
-      go later past (Got y z) is m = absurd m
-      go later past (Tick y) is m = absurd m
-      go later past (Sent y z) is m = absurd m
-      go later past (Executed y z w) is m = absurd m
-      go later past (Installed y z w) is m = absurd m
+      go later past _ is m = absurd m
 
   -- ---- together
 
@@ -375,11 +358,7 @@ levels_of_safe c setting trace right unforged apart = each trace (safe_run c set
     at past (Accepted k t a) run =
         let x = accepting c past k t a run in (x.vote, x.newest, accepted_level c past (256 + k) t a x, λ in_mode n above. read_before c past (256 + k) t a x in_mode n above)
     at past (Invoke x y z) run = tt
-    at past (Got x y) run = tt
-    at past (Tick x) run = tt
-    at past (Executed x y z) run = tt
-    at past (Installed x y z) run = tt
-    at past (Sent x y) run = tt
+    at past _ run = tt
 
     each : (xs : List Entry) → Run c xs → Always (AtItsLevel c) xs
     each [] run = tt

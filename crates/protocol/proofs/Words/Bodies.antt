@@ -7,7 +7,7 @@ use Rattle.std.specs.Bool.{then_some}
 use Rattle.tuple_codec.specs.Operations.{IsOperation, IsOutcome}
 use Rattle.tuple_codec.specs.Reading.{Reader, byte_at}
 use Rattle.tuple_codec.proofs.Readers.{bind_some, guard_holds}
-use Rattle.wire.specs.Messages.{BodyData as Body, MessageData as Message, request as Request, pre_prepare as PrePrepare, prepare as Prepare, commit as Commit, checkpoint as Checkpoint, view_change as ViewChange, new_view as NewView, reply as Reply, fetch as Fetch, meta as Meta, page as Page}
+use Rattle.wire.specs.Messages.{BodyData as Body, MessageData as Message, request as Request, reply as Reply}
 use Rattle.wire.specs.Spelling.{IsMessage}
 use Rattle.wire.specs.Reading.{passing, more_at, anyhow, piece_at, is_request, requests_at}
 use Rattle.wire.specs.Words.{requests_of, said}
@@ -28,15 +28,7 @@ FitsMessage _ = ⊤
 message_fits : (m : Message) → IsMessage m → FitsMessage m
 message_fits (Request t mode op) h = h
 message_fits (Reply client t mode number answer) h = h.4
-message_fits (PrePrepare v i batch) h = tt
-message_fits (Prepare v i digest) h = tt
-message_fits (Commit v i digest) h = tt
-message_fits (Checkpoint k root) h = tt
-message_fits (ViewChange vc) h = tt
-message_fits (NewView new) h = tt
-message_fits (Fetch k level index) h = tt
-message_fits (Meta k level index digests) h = tt
-message_fits (Page k index text) h = tt
+message_fits _ h = tt
 
 pub said_fits : (bytes : List ℕ) (body : Body) → said bytes ≡ Some body → FitsMessage body.message
 said_fits bytes body h =
@@ -88,8 +80,3 @@ requests_few batch = go (requests_at 0 batch) refl
     go None is = rw is (omega arith)
     go (Some (frames, [])) is = rw is (few_at batch [] frames is)
     go (Some (frames, b ∷ rest)) is = rw is (omega arith)
-
--- the null batch has none
-pub null_empty : requests_of (0 ∷ []) ≡ []
-unfolding requests_of requests_at
-null_empty = refl

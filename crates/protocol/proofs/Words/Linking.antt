@@ -7,7 +7,7 @@ use Rattle.signing.specs.Heard.{heard, signed_body}
 use Rattle.signing.proofs.Heard.{heard_was_opened, signed_was_signed}
 use Rattle.protocol.specs.System.Configuration.{Configuration, is_correct, members}
 use Rattle.protocol.specs.System.Trace.{Entry, party_of, history_of, Once, Always, SendsBody, IsUnforgedAt, Unforged, Hears}
-use Rattle.protocol.specs.System.Trace.Entry.{Invoke, Got, Tick, Executed, Installed, Sent, Accepted}
+use Rattle.protocol.specs.System.Trace.Entry.{Got, Sent}
 use Rattle.protocol.specs.Replica.Owed.{IsSaying}
 use Rattle.protocol.proofs.Words.Temporal.{once_weaker, once_always, once_once, once_in_history, once_in_trace}
 
@@ -19,12 +19,7 @@ Speaks body past _ = ⊥
 -- a message that the replica sends is spoken
 pub saying_speaks : (me : ℕ) (message : Message) (past : List Entry) (e : Entry) → IsSaying me message e → Speaks (record { sender = me; message = message }) past e
 saying_speaks me message past (Sent p bytes) h = h
-saying_speaks me message past (Invoke x y z) h = absurd h
-saying_speaks me message past (Got x y) h = absurd h
-saying_speaks me message past (Tick x) h = absurd h
-saying_speaks me message past (Executed x y z) h = absurd h
-saying_speaks me message past (Installed x y z) h = absurd h
-saying_speaks me message past (Accepted x y z) h = absurd h
+saying_speaks me message past _ h = absurd h
 
 -- a body that is heard is the body that the bytes say
 pub heard_said : (c : Configuration) (me : ℕ) (bytes : List ℕ) (body : Body) → heard (members c) me bytes ≡ Some body → said bytes ≡ Some body
@@ -36,12 +31,7 @@ signed_said c bytes body h = let s = signed_was_signed (members c) bytes body h 
 
 pub sent_spoken : (body : Body) (past : List Entry) (e : Entry) → SendsBody body past e → (party_of e ≡ body.sender) × Speaks body (history_of body.sender past) e
 sent_spoken body past (Sent p bytes) h = h
-sent_spoken body past (Invoke a b d) h = absurd h
-sent_spoken body past (Got a b) h = absurd h
-sent_spoken body past (Tick a) h = absurd h
-sent_spoken body past (Executed a b d) h = absurd h
-sent_spoken body past (Installed a b d) h = absurd h
-sent_spoken body past (Accepted a b d) h = absurd h
+sent_spoken body past _ h = absurd h
 
 pub heard_was_said : (c : Configuration) (trace : List Entry) (p : ℕ) (body : Body) → Unforged c trace → is_correct c p ≡ true → is_correct c body.sender ≡ true
     → Once (Hears c p body) (history_of p trace) → Once (Speaks body) (history_of body.sender trace)
@@ -62,8 +52,4 @@ heard_was_said c trace p body unforged correct from h =
         once_weaker (SendsBody body) (λ past e. (party_of e ≡ body.sender) × Speaks body (history_of body.sender past) e)
         (sent_spoken body) past ((t.0 mine).0.hears body hears from)
     step past (Sent a b) t = absurd t.1.1
-    step past (Invoke a b d) t = absurd t.1.1
-    step past (Tick a) t = absurd t.1.1
-    step past (Executed a b d) t = absurd t.1.1
-    step past (Installed a b d) t = absurd t.1.1
-    step past (Accepted a b d) t = absurd t.1.1
+    step past _ t = absurd t.1.1

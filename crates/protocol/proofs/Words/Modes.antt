@@ -4,10 +4,6 @@ use Rattle.terms.specs.declared.order.Mode.{Mode}
 use Rattle.terms.specs.declared.order.Mode.TheVariants as modes
 use Rattle.protocol.specs.System.Frames.{same_mode}
 
-pub same_mode-refl : (mode : Mode) → same_mode mode mode ≡ true
-same_mode-refl modes.Ordered = refl
-same_mode-refl modes.ReadOnly = refl
-
 pub same_mode-true : (mode other : Mode) → same_mode mode other ≡ true → mode ≡ other
 same_mode-true modes.Ordered modes.Ordered h = refl
 same_mode-true modes.ReadOnly modes.ReadOnly h = refl

@@ -11,7 +11,7 @@ use Rattle.protocol.specs.System.Configuration.{Configuration}
 use Rattle.wire.specs.Words.{receivers_of, frame_of, said}
 use Rattle.protocol.specs.System.Frames.{IsSealed, IsPosted, leaf_in, leaf_of}
 use Rattle.protocol.specs.System.Trace.{Entry}
-use Rattle.protocol.specs.System.Trace.Entry.{Invoke, Got, Tick, Executed, Installed, Sent, Accepted}
+use Rattle.protocol.specs.System.Trace.Entry.{Invoke, Sent}
 use Rattle.protocol.specs.Replica.RightReplica.{Point, Leaves, IsStep, MaySend, IsFor, IsAddressed, SendsBytes, SentBefore, HasOwnLeaf}
 use Rattle.protocol.specs.Laws.Histories.{PostedMaySend, LeavesSignOnce}
 use Rattle.protocol.proofs.Words.Options.{some_injective}
@@ -110,20 +110,11 @@ module _ (c : Configuration) (me leaf : ℕ) (one other : List ℕ) (by_one : le
       let m : MaySend c me past old (Sent p sent) sent = step.may in
       sym now ∙ sym (m.leaf leaf other (ap leaf_of now ∙ by_one) by_other before)
   sent_now past old new (Invoke x y z) step now before = absurd now
-  sent_now past old new (Got x y) step now before = absurd now
-  sent_now past old new (Tick x) step now before = absurd now
-  sent_now past old new (Executed x y z) step now before = absurd now
-  sent_now past old new (Installed x y z) step now before = absurd now
-  sent_now past old new (Accepted x y z) step now before = absurd now
+  sent_now past old new _ step now before = absurd now
 
 both_now : (one other : List ℕ) (past : List Entry) (e : Entry) → SendsBytes one past e → SendsBytes other past e → one ≡ other
 both_now one other past (Sent p sent) h k = sym h ∙ k
-both_now one other past (Invoke x y z) h k = absurd h
-both_now one other past (Got x y) h k = absurd h
-both_now one other past (Tick x) h k = absurd h
-both_now one other past (Executed x y z) h k = absurd h
-both_now one other past (Installed x y z) h k = absurd h
-both_now one other past (Accepted x y z) h k = absurd h
+both_now one other past _ h k = absurd h
 
 pub leaf_signs_once : (c : Configuration) (me leaf : ℕ) (one other : List ℕ) → leaf_of one ≡ Some leaf → leaf_of other ≡ Some leaf → (history : List Entry) (point : Point) → Leaves c me history point
     → SentBefore one history → SentBefore other history → one ≡ other

@@ -168,13 +168,9 @@ module _ (c : Configuration) (me : ℕ) where
       go false k = output_may e outputs (f ∷ past) (reaction c me (f ∷ past)) refl k.1
 
   input_may : (past : List Entry) (e : Entry) → MayInput past e → MayClient (MayAccept c me) me past e
-  input_may past (Invoke x y z) h = h
-  input_may past (Got x y) h = h
-  input_may past (Tick x) h = h
-  input_may past (Executed x y z) h = h
-  input_may past (Installed x y z) h = h
   input_may past (Sent x y) h = absurd h
   input_may past (Accepted x y z) h = absurd h
+  input_may past _ h = h
 
   reacts_right : (outputs xs : List Entry) → Reacts c me (reaction c me) outputs xs → SafeClient c me xs
   reacts_right outputs [] h = tt
@@ -227,11 +223,7 @@ is_replica_right c me (e ∷ past) (inr h) = go e h.0 h.1 (is_replica_right c me
     go (Got p bytes) own i r =
         (record r.0 { ran = []; waiting = waiting_after c me r.0 bytes }, (r.0, r.1, record { own = own; may = tt; moves = refl }))
     go (Tick p) own i r = (record r.0 { ran = [] }, (r.0, r.1, record { own = own; may = tt; moves = refl }))
-    go (Invoke x y z) own i r = absurd i
-    go (Executed x y z) own i r = absurd i
-    go (Installed x y z) own i r = absurd i
-    go (Sent x y) own i r = absurd i
-    go (Accepted x y z) own i r = absurd i
+    go _ own i r = absurd i
 
 leaves_own : (c : Configuration) (me : ℕ) (xs : List Entry) (point : Point) → Leaves c me xs point → Always (λ past e. party_of e ≡ me) xs
 leaves_own c me [] point h = tt

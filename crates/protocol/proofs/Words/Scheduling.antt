@@ -4,7 +4,7 @@ use Rattle.std.proofs.lemmas.List.{length-append, reverse-reverse}
 use mathlib.Core.List.{reverse_aux}
 use Rattle.protocol.specs.System.Configuration.{Configuration}
 use Rattle.protocol.specs.System.Trace.{Entry, Has}
-use Rattle.protocol.specs.System.Trace.Entry.{Invoke, Got, Tick, Executed, Installed, Sent, Accepted}
+use Rattle.protocol.specs.System.Trace.Entry.{Invoke, Got, Tick, Sent}
 use Rattle.protocol.specs.System.Schedule.{Step, Made, World, Goes, new_world, made_by}
 use Rattle.protocol.specs.System.Schedule.Step.{seal, sign, flush}
 use Rattle.protocol.specs.System.Schedule.Goes.{ends, gives, called, delivers, gets, ticked, seals, signs, flushes, flushed}
@@ -65,12 +65,7 @@ made_there c w e h = go e (length-append w.frames (made_by c e))
   where
     go : (e : Entry) → length (w.frames ++ made_by c e) ≡ length w.frames + length (made_by c e) → length (filter is_sent (e ∷ w.past)) ≤ length (w.frames ++ made_by c e)
     go (Sent p bytes) n = omega arith
-    go (Invoke x y z) n = omega arith
-    go (Got x y) n = omega arith
-    go (Tick x) n = omega arith
-    go (Executed x y z) n = omega arith
-    go (Installed x y z) n = omega arith
-    go (Accepted x y z) n = omega arith
+    go _ n = omega arith
 
 more_there : (frames : List Made) (made : Made) (n : ℕ) → n ≤ length frames → n ≤ length (frames ++ made ∷ [])
 more_there frames made n h = let l = length-append frames (made ∷ []) in omega arith

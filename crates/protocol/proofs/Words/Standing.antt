@@ -2,7 +2,7 @@
 use Rattle.std.proofs.Common.{◌≡◌, ℕ, List, [], ◌∷◌, refl, sym, ap, ◌∙◌, subst}
 use Rattle.protocol.specs.System.Configuration.{Configuration}
 use Rattle.protocol.specs.System.Trace.{Entry}
-use Rattle.protocol.specs.System.Trace.Entry.{Invoke, Got, Tick, Executed, Installed, Sent, Accepted}
+use Rattle.protocol.specs.System.Trace.Entry.{Installed}
 use Rattle.protocol.specs.Replica.State.{State, Call, Ran}
 use Rattle.protocol.specs.Replica.RightReplica.{Point, Moves, IsInstalled, still_waiting}
 use Rattle.protocol.specs.Laws.Histories.{PointsAreOne}
@@ -23,12 +23,7 @@ one_installed c me k root past old x y m n =
 
 one_move : (c : Configuration) (me : ℕ) (past : List Entry) (old : Point) (e : Entry) (x y : Point) → Moves c me past old e x → Moves c me past old e y → x ≡ y
 one_move c me past old (Installed r k root) x y m n = one_installed c me k root past old x y m n
-one_move c me past old (Got p bytes) x y m n = m ∙ sym n
-one_move c me past old (Tick p) x y m n = m ∙ sym n
-one_move c me past old (Executed r k batch) x y m n = m ∙ sym n
-one_move c me past old (Sent p bytes) x y m n = m ∙ sym n
-one_move c me past old (Invoke a b d) x y m n = m ∙ sym n
-one_move c me past old (Accepted a b d) x y m n = m ∙ sym n
+one_move c me past old _ x y m n = m ∙ sym n
 
 pub points_are_one : PointsAreOne
 points_are_one c me [] x y h k = h ∙ sym k

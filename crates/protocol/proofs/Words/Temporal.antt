@@ -39,9 +39,6 @@ once_stays_from P keep (e ∷ past) (inr h) = keep e past (once_stays_from P kee
 
 -- ---- histories
 
-AtParty : ℕ → (List Entry → Entry → Type 0) → List Entry → Entry → Type 0
-AtParty p Q past e = (party_of e ≡ p) × Q (history_of p past) e
-
 pub once_in_trace : (Q : List Entry → Entry → Type 0) (p : ℕ) (xs : List Entry) → Once Q (history_of p xs)
     → Once (λ past e. (party_of e ≡ p) × Q (history_of p past) e) xs
 once_in_trace Q p [] h = h
