@@ -20,7 +20,7 @@ use Rattle.signing.specs.Heard.{heard}
 use Rattle.wire.specs.Words.{said, receivers_of}
 use Rattle.protocol.specs.System.Frames.{same_mode}
 use Rattle.protocol.specs.System.Trace.{Entry, is_output, Once, Always, Has, AreOutputs, either}
-use Rattle.protocol.specs.System.Trace.Entry.{Invoke, Got, Tick, Executed, Installed, Sent, Accepted}
+use Rattle.protocol.specs.System.Trace.Entry.{Invoke, Got, Tick, Sent, Accepted}
 use Rattle.protocol.specs.Replica.Certificates.{view, target, is_active_in, taken}
 use Rattle.protocol.specs.Replica.RightReplica.{SafeReplica, MaySay, MaySend, MayViewChange, MayNewView, SendsBytes}
 use Rattle.protocol.specs.Client.RightClient.{OpenCall, Vote, newest_vote, latest, is_alike, count_alike, is_complete, is_ordered_request, went_ordered, is_answered, Reaction, fallback, on_reply, on_got, reaction, IsRequest, IsReaction, MayInput, Reacts, IsClient}
@@ -99,11 +99,6 @@ accepts_alike c me s number call mode answer bytes later from outputs past opene
 went_asked : (t : ℕ) (xs : List Entry) → went_ordered xs t ≡ true → Once (AsksOrdered t) xs
 went_asked t [] h = absurd cc
 went_asked t (Invoke x y z ∷ past) h = absurd cc
-went_asked t (Got x y ∷ past) h = inr (went_asked t past h)
-went_asked t (Tick x ∷ past) h = inr (went_asked t past h)
-went_asked t (Executed x y z ∷ past) h = inr (went_asked t past h)
-went_asked t (Installed x y z ∷ past) h = inr (went_asked t past h)
-went_asked t (Accepted x y z ∷ past) h = inr (went_asked t past h)
 went_asked t (Sent p bytes ∷ past) h = go (or_cases (option_map_or (is_ordered_request t) (said bytes) false) (went_ordered past t) h) (went_asked t past)
   where
     ordered : (sender timestamp : ℕ) (mode : Mode) (op : Operation) → ((timestamp == t) && same_mode mode modes.Ordered) ≡ true
@@ -125,6 +120,7 @@ went_asked t (Sent p bytes ∷ past) h = go (or_cases (option_map_or (is_ordered
     go : (option_map_or (is_ordered_request t) (said bytes) false ≡ true) ⊎ (went_ordered past t ≡ true) → (went_ordered past t ≡ true → Once (AsksOrdered t) past) → AsksOrdered t past (Sent p bytes) ⊎ Once (AsksOrdered t) past
     go (inl k) below = inl (spoken (said bytes) refl k)
     go (inr k) below = inr (below k)
+went_asked t (_ ∷ past) h = inr (went_asked t past h)
 
 all_below : (test : ℕ → Bool) (n : ℕ) → ((k : ℕ) → k < n → test k ≡ true) → count_below test n ≡ n
 all_below test zero h = refl

@@ -3,7 +3,7 @@ use Rattle.std.proofs.Common.{◌≡◌, ℕ, suc, ◌≤◌, ◌<◌, inl, inr,
 use Rattle.std.proofs.lemmas.List.{reverse-reverse}
 use mathlib.Core.List.{reverse_aux}
 use Rattle.protocol.specs.System.Trace.{Entry, Once, Has}
-use Rattle.protocol.specs.System.Trace.Entry.{Invoke, Got, Tick, Executed, Installed, Sent, Accepted}
+use Rattle.protocol.specs.System.Trace.Entry.{Invoke, Accepted}
 use Rattle.protocol.specs.Space.Linear.{points}
 use Rattle.protocol.specs.System.Schedule.{Acceptance, acceptances}
 use Rattle.evidence.specs.RefusedSteps.{ReportsExist, IsAcceptance, ReportsAll, ReportsNoOther, Rise, ReportsInOrder, ReportsAreLinear, FirstOperationIsReported}
@@ -21,29 +21,14 @@ listed : (a : Acceptance) (trace : List Entry) → Once (IsAcceptance a) trace �
 listed a [] h = h
 listed a (Accepted client timestamp answer ∷ past) (inl h) = inl (sym h)
 listed a (Accepted client timestamp answer ∷ past) (inr h) = inr (listed a past h)
-listed a (Invoke client timestamp op ∷ past) (inl h) = absurd h
-listed a (Invoke client timestamp op ∷ past) (inr h) = listed a past h
-listed a (Got party bytes ∷ past) (inl h) = absurd h
-listed a (Got party bytes ∷ past) (inr h) = listed a past h
-listed a (Tick party ∷ past) (inl h) = absurd h
-listed a (Tick party ∷ past) (inr h) = listed a past h
-listed a (Executed replica number batch ∷ past) (inl h) = absurd h
-listed a (Executed replica number batch ∷ past) (inr h) = listed a past h
-listed a (Installed replica number root ∷ past) (inl h) = absurd h
-listed a (Installed replica number root ∷ past) (inr h) = listed a past h
-listed a (Sent party bytes ∷ past) (inl h) = absurd h
-listed a (Sent party bytes ∷ past) (inr h) = listed a past h
+listed a (_ ∷ past) (inl h) = absurd h
+listed a (_ ∷ past) (inr h) = listed a past h
 
 there : (a : Acceptance) (trace : List Entry) → Has (λ x. x ≡ a) (acceptances trace) → Once (IsAcceptance a) trace
 there a [] h = h
 there a (Accepted client timestamp answer ∷ past) (inl h) = inl (sym h)
 there a (Accepted client timestamp answer ∷ past) (inr h) = inr (there a past h)
-there a (Invoke client timestamp op ∷ past) h = inr (there a past h)
-there a (Got party bytes ∷ past) h = inr (there a past h)
-there a (Tick party ∷ past) h = inr (there a past h)
-there a (Executed replica number batch ∷ past) h = inr (there a past h)
-there a (Installed replica number root ∷ past) h = inr (there a past h)
-there a (Sent party bytes ∷ past) h = inr (there a past h)
+there a (_ ∷ past) h = inr (there a past h)
 
 pub reports_all : ReportsAll
 reports_all c trace accepted items a report once =
@@ -72,11 +57,7 @@ rise [] later h l = h
 rise (Accepted client timestamp answer ∷ past) later h l =
     rise past (record { position = length past; client = client; timestamp = timestamp; answer = answer } ∷ later) (above (length past) later l, h) (omega arith, lower (length past) later l)
 rise (Invoke client timestamp op ∷ past) later h l = rise past later h (lower (length past) later l)
-rise (Got party bytes ∷ past) later h l = rise past later h (lower (length past) later l)
-rise (Tick party ∷ past) later h l = rise past later h (lower (length past) later l)
-rise (Executed replica number batch ∷ past) later h l = rise past later h (lower (length past) later l)
-rise (Installed replica number root ∷ past) later h l = rise past later h (lower (length past) later l)
-rise (Sent party bytes ∷ past) later h l = rise past later h (lower (length past) later l)
+rise (_ ∷ past) later h l = rise past later h (lower (length past) later l)
 
 pub reports_in_order : ReportsInOrder
 reports_in_order c trace accepted items report = subst Rise (sym report.accepted_are) (rise trace [] tt tt)

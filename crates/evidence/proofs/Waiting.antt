@@ -15,7 +15,7 @@ use Rattle.wire.specs.Messages.{BodyData as Body, MessageData as Message, reques
 use Rattle.signing.specs.Heard.{heard}
 use Rattle.wire.specs.Words.{said}
 use Rattle.protocol.specs.System.Trace.{Entry, party_of, Once}
-use Rattle.protocol.specs.System.Trace.Entry.{Invoke, Got, Tick, Executed, Installed, Sent, Accepted}
+use Rattle.protocol.specs.System.Trace.Entry.{Invoke, Got, Tick, Sent, Accepted}
 use Rattle.protocol.specs.Client.RightClient.{OpenCall, last_call, open_call, Vote, vote_of, newest_vote, latest, count_alike, is_complete, is_ordered_request, went_ordered, is_answered, Reaction, fallback, on_reply, on_got, reaction, IsReaction, IsClient, MayAccept, MayAsk, MayRequest, MayClient, SafeClient}
 use Rattle.protocol.specs.Client.RightClient.Reaction.{nothing, asks, accepts}
 use Rattle.evidence.specs.RefusedRuns.{going_on, AsksOrdered}
@@ -85,11 +85,7 @@ opened_last call (Invoke client t op ∷ past) h =
     let same : t ≡ call.timestamp = ap (λ (x : OpenCall). x.timestamp) e in
     omega arith
 opened_last call (Accepted client t answer ∷ past) h = absurd cc
-opened_last call (Got x y ∷ past) h = opened_last call past h
-opened_last call (Tick x ∷ past) h = opened_last call past h
-opened_last call (Sent x y ∷ past) h = opened_last call past h
-opened_last call (Executed x y z ∷ past) h = opened_last call past h
-opened_last call (Installed x y z ∷ past) h = opened_last call past h
+opened_last call (_ ∷ past) h = opened_last call past h
 
 module _ (c : Configuration) (me : ℕ) where
   -- the timestamps of the client's ordered requests are at most its last call's
@@ -100,19 +96,9 @@ module _ (c : Configuration) (me : ℕ) where
       let is = some_injective m.0 (record { sender = h.0; message = Request t modes.Ordered h.1 }) (sym m.1 ∙ h.2) in
       let ask : MayRequest past t modes.Ordered h.1 = subst (λ (b : Body). MayAsk past b.message) is m.3 in
       opened_last (record { timestamp = t; op = h.1 }) past ask.0
-  asked_last t (Sent p bytes ∷ past) right (inr h) = asked_last t past right.1 h
-  asked_last t (Invoke x y z ∷ past) right (inl h) = absurd h
   asked_last t (Invoke x y z ∷ past) right (inr h) = let l = asked_last t past right.1 h in let n = right.0.1.0 in omega arith
-  asked_last t (Got x y ∷ past) right (inl h) = absurd h
-  asked_last t (Got x y ∷ past) right (inr h) = asked_last t past right.1 h
-  asked_last t (Tick x ∷ past) right (inl h) = absurd h
-  asked_last t (Tick x ∷ past) right (inr h) = asked_last t past right.1 h
-  asked_last t (Executed x y z ∷ past) right (inl h) = absurd h
-  asked_last t (Executed x y z ∷ past) right (inr h) = asked_last t past right.1 h
-  asked_last t (Installed x y z ∷ past) right (inl h) = absurd h
-  asked_last t (Installed x y z ∷ past) right (inr h) = asked_last t past right.1 h
-  asked_last t (Accepted x y z ∷ past) right (inl h) = absurd h
-  asked_last t (Accepted x y z ∷ past) right (inr h) = asked_last t past right.1 h
+  asked_last t (_ ∷ past) right (inr h) = asked_last t past right.1 h
+  asked_last t (_ ∷ past) right (inl h) = absurd h
 
   or_right : (a b : Bool) → b ≡ true → (a || b) ≡ true
   or_right true b e = refl
@@ -130,7 +116,6 @@ module _ (c : Configuration) (me : ℕ) where
       (ap (λ (o : Option Body). option_map_or (is_ordered_request call.timestamp) o false) h.2 ∙ ap (λ (b : Bool). b && true) (eq-eqb call.timestamp call.timestamp refl))
   asked_went call (Sent p bytes ∷ past) right opened (inr h) =
       or_right (option_map_or (is_ordered_request call.timestamp) (said bytes) false) (went_ordered past call.timestamp) (asked_went call past right.1 opened h)
-  asked_went call (Invoke x y z ∷ past) right opened (inl h) = absurd h
   asked_went call (Invoke x y z ∷ past) right opened (inr h) =
       let e : ◌≡◌ {A = OpenCall} (record { timestamp = y; op = z }) call = some_injective {A = OpenCall} (record { timestamp = y; op = z }) call opened in
       let same : y ≡ call.timestamp = ap (λ (o : OpenCall). o.timestamp) e in
@@ -138,14 +123,8 @@ module _ (c : Configuration) (me : ℕ) where
       let n = right.0.1.0 in
       absurd (omega arith)
   asked_went call (Accepted x y z ∷ past) right opened h = absurd cc
-  asked_went call (Got x y ∷ past) right opened (inl h) = absurd h
-  asked_went call (Got x y ∷ past) right opened (inr h) = asked_went call past right.1 opened h
-  asked_went call (Tick x ∷ past) right opened (inl h) = absurd h
-  asked_went call (Tick x ∷ past) right opened (inr h) = asked_went call past right.1 opened h
-  asked_went call (Executed x y z ∷ past) right opened (inl h) = absurd h
-  asked_went call (Executed x y z ∷ past) right opened (inr h) = asked_went call past right.1 opened h
-  asked_went call (Installed x y z ∷ past) right opened (inl h) = absurd h
-  asked_went call (Installed x y z ∷ past) right opened (inr h) = asked_went call past right.1 opened h
+  asked_went call (_ ∷ past) right opened (inl h) = absurd h
+  asked_went call (_ ∷ past) right opened (inr h) = asked_went call past right.1 opened h
 
 pub falls_back_once : FallsBackOnce
 falls_back_once c me s number call mode answer bytes later outputs past opened hears few before are h =

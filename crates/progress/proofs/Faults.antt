@@ -8,7 +8,7 @@ use Rattle.signing.specs.Heard.{heard, signed_body}
 use Rattle.signing.proofs.Heard.{signed_was_signed}
 use Rattle.protocol.specs.System.Configuration.{Configuration, IsConfiguration, primary, is_replica, is_faulty_replica, is_correct_replica, members}
 use Rattle.protocol.specs.System.Trace.{Entry, history_of, Once, Always, Has, Unforged, frames_in, carried_by}
-use Rattle.protocol.specs.System.Trace.Entry.{Invoke, Got, Tick, Executed, Installed, Sent, Accepted}
+use Rattle.protocol.specs.System.Trace.Entry.{Invoke, Got, Sent}
 use Rattle.protocol.specs.System.Texts.{NoCollision}
 use Rattle.protocol.specs.System.Run.{IsRun, OnlyTheseStopped}
 use Rattle.protocol.specs.Replica.Selection.{change_by}
@@ -103,10 +103,7 @@ module _ (c : Configuration) (trace : List Entry) (silent : AreFaultySilent c tr
       let seen : Once (HasSeen bytes) past = each_has (λ frame. Once (HasSeen frame) past) (carried m.body.message) bytes m.seen has in
       seen_of_none q correct past (λ x k. inside x (inr k)) right.1 bytes seen body signed
   seen_of_none q correct (Invoke x y z ∷ past) inside right bytes (inl h) body signed = absurd h
-  seen_of_none q correct (Tick x ∷ past) inside right bytes (inl h) body signed = absurd h
-  seen_of_none q correct (Executed x y z ∷ past) inside right bytes (inl h) body signed = absurd h
-  seen_of_none q correct (Installed x y z ∷ past) inside right bytes (inl h) body signed = absurd h
-  seen_of_none q correct (Accepted x y z ∷ past) inside right bytes (inl h) body signed = absurd h
+  seen_of_none q correct (_ ∷ past) inside right bytes (inl h) body signed = absurd h
 
 carried_seen : (new : NewViewData) (bytes : List ℕ) (whole : List ℕ) (body : Body) → said whole ≡ Some body → body.message ≡ NewView new → Has (λ x. x ≡ bytes) new.changes → Has (λ x. x ≡ bytes) (carried_by whole)
 carried_seen new bytes whole body is message h = rw is (rw message (has_left (λ y. y ≡ bytes) new.changes (requests_of_all new.batches) h))

@@ -9,7 +9,7 @@ use Rattle.reply_cache.specs.Replies.{Kept}
 use Rattle.protocol.specs.Replica.RightReplica
 use Rattle.protocol.specs.System.Configuration.{Configuration, IsConfiguration, is_correct_replica, is_correct_client}
 use Rattle.protocol.specs.System.Trace.{Entry, history_of, Once, Has}
-use Rattle.protocol.specs.System.Trace.Entry.{Invoke, Got, Tick, Executed, Installed, Sent, Accepted}
+use Rattle.protocol.specs.System.Trace.Entry.{Invoke, Accepted}
 use Rattle.protocol.specs.Replica.State.{State, Call, Ran, opening, runs, run_call, ran_call, call_of, run_frame, execute, ran_in, kept_of, last_time}
 use Rattle.protocol.specs.Replica.RightReplica.{Leaves}
 use Rattle.protocol.specs.Client.RightClient.{OpenCall, open_call, last_call, SafeClient}
@@ -98,28 +98,14 @@ pub invoked_last : (c : Configuration) (p t : ℕ) (op : Operation) (xs : List E
 invoked_last c p t op [] r h = absurd h
 invoked_last c p t op (Invoke x y z ∷ past) r (inl h) = let e = h.1 in omega arith
 invoked_last c p t op (Invoke x y z ∷ past) r (inr h) = let a = invoked_last c p t op past r.1 h in let n = r.0.1.0 in omega arith
-invoked_last c p t op (Got x y ∷ past) r (inl h) = absurd h
-invoked_last c p t op (Tick x ∷ past) r (inl h) = absurd h
-invoked_last c p t op (Executed x y z ∷ past) r (inl h) = absurd h
-invoked_last c p t op (Installed x y z ∷ past) r (inl h) = absurd h
-invoked_last c p t op (Sent x y ∷ past) r (inl h) = absurd h
-invoked_last c p t op (Accepted x y z ∷ past) r (inl h) = absurd h
-invoked_last c p t op (Got x y ∷ past) r (inr h) = invoked_last c p t op past r.1 h
-invoked_last c p t op (Tick x ∷ past) r (inr h) = invoked_last c p t op past r.1 h
-invoked_last c p t op (Executed x y z ∷ past) r (inr h) = invoked_last c p t op past r.1 h
-invoked_last c p t op (Installed x y z ∷ past) r (inr h) = invoked_last c p t op past r.1 h
-invoked_last c p t op (Sent x y ∷ past) r (inr h) = invoked_last c p t op past r.1 h
-invoked_last c p t op (Accepted x y z ∷ past) r (inr h) = invoked_last c p t op past r.1 h
+invoked_last c p t op (_ ∷ past) r (inl h) = absurd h
+invoked_last c p t op (_ ∷ past) r (inr h) = invoked_last c p t op past r.1 h
 
 pub open_last : (xs : List Entry) (call : OpenCall) → open_call xs ≡ Some call → last_call xs ≡ call.timestamp
 open_last [] call h = absurd cc
 open_last (Invoke x y z ∷ past) call h = ap (λ (o : OpenCall). o.timestamp) (some_injective {A = OpenCall} (record { timestamp = y; op = z }) call h)
 open_last (Accepted x y z ∷ past) call h = absurd cc
-open_last (Got x y ∷ past) call h = open_last past call h
-open_last (Tick x ∷ past) call h = open_last past call h
-open_last (Sent x y ∷ past) call h = open_last past call h
-open_last (Executed x y z ∷ past) call h = open_last past call h
-open_last (Installed x y z ∷ past) call h = open_last past call h
+open_last (_ ∷ past) call h = open_last past call h
 
 pub open_positive : (c : Configuration) (p : ℕ) (xs : List Entry) (call : OpenCall) → SafeClient c p xs → open_call xs ≡ Some call → 1 ≤ call.timestamp
 open_positive c p [] call r h = absurd cc
@@ -128,11 +114,7 @@ open_positive c p (Invoke x y z ∷ past) call r h =
     let n = r.0.1.0 in
     omega arith
 open_positive c p (Accepted x y z ∷ past) call r h = absurd cc
-open_positive c p (Got x y ∷ past) call r h = open_positive c p past call r.1 h
-open_positive c p (Tick x ∷ past) call r h = open_positive c p past call r.1 h
-open_positive c p (Sent x y ∷ past) call r h = open_positive c p past call r.1 h
-open_positive c p (Executed x y z ∷ past) call r h = open_positive c p past call r.1 h
-open_positive c p (Installed x y z ∷ past) call r h = open_positive c p past call r.1 h
+open_positive c p (_ ∷ past) call r h = open_positive c p past call r.1 h
 
 -- the state of a correct replica at some time
 pub by_at : (c : Configuration) (trace : List Entry) → Run c trace → (r : ℕ) (later past : List Entry) (point : RightReplica.Point) → is_correct_replica c r ≡ true → history_of r trace ≡ later ++ past → Leaves c r past point

@@ -11,7 +11,7 @@ use Rattle.authenticator.specs.Membership.{has_sender}
 use Rattle.signing.specs.Heard.{has_signature, is_signed_frame, signed_body}
 use Rattle.protocol.specs.System.Configuration.{Configuration, replicas, primary, is_replica, members}
 use Rattle.protocol.specs.System.Trace.{Entry, is_output, history_of, Once}
-use Rattle.protocol.specs.System.Trace.Entry.{Invoke, Got, Tick, Executed, Installed, Sent, Accepted}
+use Rattle.protocol.specs.System.Trace.Entry.{Got, Tick, Sent}
 use Rattle.protocol.specs.Replica.Selection.{is_within, change_in, signed_change, changes_of}
 use Rattle.protocol.specs.Replica.Certificates.{view, target}
 use Rattle.protocol.specs.Replica.RightReplica.{Point, Leaves, MaySend, sought_view, IsNewViewChange, SafeReplica}
@@ -209,12 +209,7 @@ pub came_bytes : (c : Configuration) (s : ℕ) (vc : ViewChangeData) (xs : List 
 came_bytes c s vc [] h = absurd h
 came_bytes c s vc (e ∷ past) (inr h) = came_bytes c s vc past h
 came_bytes c s vc (Got p bytes ∷ past) (inl h) = record { bytes = bytes; signed = change_bytes c s vc bytes h.0 }
-came_bytes c s vc (Sent x y ∷ past) (inl h) = absurd h
-came_bytes c s vc (Invoke x y z ∷ past) (inl h) = absurd h
-came_bytes c s vc (Tick x ∷ past) (inl h) = absurd h
-came_bytes c s vc (Executed x y z ∷ past) (inl h) = absurd h
-came_bytes c s vc (Installed x y z ∷ past) (inl h) = absurd h
-came_bytes c s vc (Accepted x y z ∷ past) (inl h) = absurd h
+came_bytes c s vc (_ ∷ past) (inl h) = absurd h
 
 pub own_bytes : (c : Configuration) (me : ℕ) (vc : ViewChangeData) (xs : List Entry) (point : Point) → is_replica c me ≡ true → Leaves c me xs point → Once (λ earlier e. IsSaying me (ViewChange vc) e) xs → Bytes c me vc
 own_bytes c me vc [] point known leaves h = absurd h
@@ -223,11 +218,7 @@ own_bytes c me vc (Sent p bytes ∷ past) point known leaves (inl h) =
     let may : MaySend c me past leaves.0 (Sent me bytes) bytes = subst (λ (x : ℕ). MaySend c me past leaves.0 (Sent x bytes) bytes) leaves.2.own leaves.2.may in
     record { bytes = bytes; signed = signed_by c me bytes (changing me vc) past leaves.0 may h refl known }
 own_bytes c me vc (Got x y ∷ past) point known leaves (inl h) = absurd h
-own_bytes c me vc (Invoke x y z ∷ past) point known leaves (inl h) = absurd h
-own_bytes c me vc (Tick x ∷ past) point known leaves (inl h) = absurd h
-own_bytes c me vc (Executed x y z ∷ past) point known leaves (inl h) = absurd h
-own_bytes c me vc (Installed x y z ∷ past) point known leaves (inl h) = absurd h
-own_bytes c me vc (Accepted x y z ∷ past) point known leaves (inl h) = absurd h
+own_bytes c me vc (_ ∷ past) point known leaves (inl h) = absurd h
 
 -- ---- nothing is prepared above a checkpoint
 

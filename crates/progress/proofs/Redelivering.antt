@@ -6,7 +6,7 @@ use Rattle.wire.specs.Messages.{BodyData as Body, pre_prepare as PrePrepare}
 use Rattle.wire.specs.Words.{said}
 use Rattle.protocol.specs.System.Configuration.{Configuration, IsConfiguration, replicas, primary, is_replica, is_correct_replica}
 use Rattle.protocol.specs.System.Trace.{Entry, history_of, Once, SendsBody, Unforged}
-use Rattle.protocol.specs.System.Trace.Entry.{Invoke, Got, Tick, Executed, Installed, Sent, Accepted}
+use Rattle.protocol.specs.System.Trace.Entry.{Got, Sent}
 use Rattle.protocol.specs.System.Run.{IsRun, OnlyTheseStopped}
 use Rattle.protocol.specs.Replica.Certificates.{is_active_in, low, is_in_marks, are_genuine, logged, Committed}
 use Rattle.protocol.specs.Replica.RightReplica.{Point, Leaves, MaySay}
@@ -36,12 +36,7 @@ frame_sent : (body : Body) (xs : List Entry) → Once (SendsBody body) xs → Fr
 frame_sent body [] h = absurd h
 frame_sent body (e ∷ past) (inr h) = let f = frame_sent body past h in record { bytes = f.bytes; is_there = inr f.is_there; says = f.says }
 frame_sent body (Sent p bytes ∷ past) (inl h) = record { bytes = bytes; is_there = inl (ap (λ (x : ℕ). Sent x bytes) h.0); says = h.1 }
-frame_sent body (Invoke x y z ∷ past) (inl h) = absurd h
-frame_sent body (Got x y ∷ past) (inl h) = absurd h
-frame_sent body (Tick x ∷ past) (inl h) = absurd h
-frame_sent body (Executed x y z ∷ past) (inl h) = absurd h
-frame_sent body (Installed x y z ∷ past) (inl h) = absurd h
-frame_sent body (Accepted x y z ∷ past) (inl h) = absurd h
+frame_sent body (_ ∷ past) (inl h) = absurd h
 
 module _ (c : Configuration) (setting : IsConfiguration c) (later start : List Entry) (is_run : IsRun c (later ++ start)) (goes : OnlyTheseStopped c [] (later ++ start))
     (unforged : Unforged c (later ++ start)) (v : ℕ) (from : is_correct_replica c (primary c v) ≡ true)

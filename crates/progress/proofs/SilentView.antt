@@ -12,7 +12,7 @@ use Rattle.signing.proofs.Signed.{signature_of-verifies}
 use Rattle.authenticator.specs.Keys.{signing_seed}
 use Rattle.protocol.specs.System.Configuration.{Configuration, IsConfiguration, replicas, primary, is_replica, is_correct_replica, members}
 use Rattle.protocol.specs.System.Trace.{Entry, history_of, Once, Always, Unforged}
-use Rattle.protocol.specs.System.Trace.Entry.{Invoke, Got, Tick, Executed, Installed, Sent, Accepted}
+use Rattle.protocol.specs.System.Trace.Entry.{Got, Tick, Sent}
 use Rattle.protocol.specs.System.Texts.{NoCollision}
 use Rattle.protocol.specs.System.Run.{IsRun, OnlyTheseStopped}
 use Rattle.protocol.specs.System.Schedule.{signed_bytes}
@@ -96,12 +96,7 @@ pub spoken_frame : (s : ℕ) (body : Body) (xs : List Entry) → Once (Speaks bo
 spoken_frame s body [] h = absurd h
 spoken_frame s body (e ∷ past) (inr h) = let f = spoken_frame s body past h in record { bytes = f.bytes; party = f.party; is_there = inr f.is_there; says = f.says }
 spoken_frame s body (Sent p bytes ∷ past) (inl h) = record { bytes = bytes; party = p; is_there = inl refl; says = h }
-spoken_frame s body (Got x y ∷ past) (inl h) = absurd h
-spoken_frame s body (Invoke x y z ∷ past) (inl h) = absurd h
-spoken_frame s body (Tick x ∷ past) (inl h) = absurd h
-spoken_frame s body (Executed x y z ∷ past) (inl h) = absurd h
-spoken_frame s body (Installed x y z ∷ past) (inl h) = absurd h
-spoken_frame s body (Accepted x y z ∷ past) (inl h) = absurd h
+spoken_frame s body (_ ∷ past) (inl h) = absurd h
 
 pub speaks_saying : (s : ℕ) (message : Message) (past : List Entry) (e : Entry) → Speaks (record { sender = s; message = message }) past e → IsSaying s message e
 speaks_saying s message past (Sent p bytes) h = h

@@ -13,7 +13,7 @@ use Rattle.signing.specs.Heard.{heard}
 use Rattle.terms.specs.declared.order.Mode.TheVariants as modes
 use Rattle.protocol.specs.System.Frames.{same_mode}
 use Rattle.protocol.specs.System.Trace.{Entry, party_of, history_of, Once, Always, Unforged, frames_in, carried_by, Has}
-use Rattle.protocol.specs.System.Trace.Entry.{Invoke, Got, Tick, Executed, Installed, Sent, Accepted}
+use Rattle.protocol.specs.System.Trace.Entry.{Invoke, Got, Sent}
 use Rattle.protocol.specs.Replica.Certificates.{proposal, begun_proposal, entry_proposal, logged, taken, batch_begun, are_genuine, is_in_marks, low}
 use Rattle.protocol.specs.Replica.Selection.{changes_of, count_in, passes_by, vouches, may_select, may_stand, may_stand_at, may_be_null, is_null, is_weak_quorum, is_quorum, agrees}
 use Rattle.protocol.specs.Replica.RightReplica.{HasSeen}
@@ -84,10 +84,7 @@ seen_asked c setting r correct frame call is genuine (Sent p bytes ∷ past) rig
     let has : Has (λ x. x ≡ frame) (carried m.body.message) = rw m.says at h in
     inr (seen_asked c setting r correct frame call is genuine past right.1 (each_has (λ x. Once (HasSeen x) past) (carried m.body.message) frame m.seen has))
 seen_asked c setting r correct frame call is genuine (Invoke x y z ∷ past) right (inl h) = absurd h
-seen_asked c setting r correct frame call is genuine (Tick x ∷ past) right (inl h) = absurd h
-seen_asked c setting r correct frame call is genuine (Executed x y z ∷ past) right (inl h) = absurd h
-seen_asked c setting r correct frame call is genuine (Installed x y z ∷ past) right (inl h) = absurd h
-seen_asked c setting r correct frame call is genuine (Accepted x y z ∷ past) right (inl h) = absurd h
+seen_asked c setting r correct frame call is genuine (_ ∷ past) right (inl h) = absurd h
 
 -- a correct replica received each call of the batch, authentic to itself
 abbrev pub Asked : Configuration → List Entry → List ℕ → Type 0

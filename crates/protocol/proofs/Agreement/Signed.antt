@@ -6,7 +6,7 @@ use Rattle.wire.specs.Messages.{BodyData as Body, MessageData as Message, NewVie
 use Rattle.wire.specs.Words.{carried, requests_of_all, said}
 use Rattle.signing.specs.Heard.{heard, signed_body}
 use Rattle.protocol.specs.System.Trace.{Entry, party_of, history_of, Once, Always, SendsBody, IsFromSender, IsUnforgedAt, Unforged, frames_in, carried_by, Has}
-use Rattle.protocol.specs.System.Trace.Entry.{Invoke, Got, Tick, Executed, Installed, Sent, Accepted}
+use Rattle.protocol.specs.System.Trace.Entry.{Invoke, Got, Sent}
 use Rattle.protocol.specs.Replica.Certificates.{new_view_in, new_view_from, taken}
 use Rattle.protocol.specs.Replica.Selection.{changes_of, signed_change, change_in, change_by, list_of}
 use Rattle.protocol.specs.Replica.RightReplica.{HasSeen}
@@ -59,11 +59,7 @@ seen_was_said c trace q (Sent p whole ∷ past) emb right gots bytes (inl (inr h
     let has : Has (λ x. x ≡ bytes) (carried m.body.message) = rw m.says at h in
     let seen : Once (HasSeen bytes) past = each_has (λ frame. Once (HasSeen frame) past) (carried m.body.message) bytes m.seen has in
     seen_was_said c trace q past (λ R k. emb R (inr k)) right.1 gots.1 bytes seen
-seen_was_said c trace q (Invoke x y z ∷ past) emb right gots bytes (inl h) = absurd h
-seen_was_said c trace q (Tick x ∷ past) emb right gots bytes (inl h) = absurd h
-seen_was_said c trace q (Executed x y z ∷ past) emb right gots bytes (inl h) = absurd h
-seen_was_said c trace q (Installed x y z ∷ past) emb right gots bytes (inl h) = absurd h
-seen_was_said c trace q (Accepted x y z ∷ past) emb right gots bytes (inl h) = absurd h
+seen_was_said c trace q (_ ∷ past) emb right gots bytes (inl h) = absurd h
 
 -- ---- the view changes of a new view
 

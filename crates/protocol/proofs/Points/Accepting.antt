@@ -12,7 +12,7 @@ use Rattle.terms.specs.declared.order.Mode.TheVariants as modes
 use Rattle.wire.specs.Messages.{BodyData as Body, MessageData as Message, reply as Reply}
 use Rattle.signing.specs.Heard.{heard}
 use Rattle.protocol.specs.System.Trace.{Entry, party_of, history_of, Once, Always, Hears}
-use Rattle.protocol.specs.System.Trace.Entry.{Invoke, Got, Tick, Executed, Installed, Sent, Accepted}
+use Rattle.protocol.specs.System.Trace.Entry.{Invoke, Got, Executed, Sent, Accepted}
 use Rattle.space.specs.Applying.{is_read_only, outcome}
 use Rattle.protocol.specs.Replica.State.{State, Ran, opening, tuples, kept_of, execute}
 use Rattle.reply_cache.specs.Replies.{Kept}
@@ -94,45 +94,22 @@ open_last : (xs : List Entry) (call : OpenCall) → open_call xs ≡ Some call �
 open_last [] call h = absurd cc
 open_last (Invoke x y z ∷ past) call h = ap (λ (o : OpenCall). o.timestamp) (some_injective {A = OpenCall} (record { timestamp = y; op = z }) call h)
 open_last (Accepted x y z ∷ past) call h = absurd cc
-open_last (Got x y ∷ past) call h = open_last past call h
-open_last (Tick x ∷ past) call h = open_last past call h
-open_last (Sent x y ∷ past) call h = open_last past call h
-open_last (Executed x y z ∷ past) call h = open_last past call h
-open_last (Installed x y z ∷ past) call h = open_last past call h
+open_last (_ ∷ past) call h = open_last past call h
 
 accepts_le : (c : Configuration) (p t : ℕ) (a : Outcome) (xs : List Entry) → SafeClient c p xs → Once (Accepts p t a) xs → t ≤ last_call xs
 accepts_le c p t a [] r h = absurd h
 accepts_le c p t a (Accepted x y z ∷ past) r (inl h) = let m = r.0.1 in let l = open_last past m.0 m.2 in let k = m.3 in let e = h.1 in omega arith
 accepts_le c p t a (Invoke x y z ∷ past) r (inr h) = let l = accepts_le c p t a past r.1 h in let n = r.0.1.0 in omega arith
-accepts_le c p t a (Invoke x y z ∷ past) r (inl h) = absurd h
-accepts_le c p t a (Got x y ∷ past) r (inl h) = absurd h
-accepts_le c p t a (Tick x ∷ past) r (inl h) = absurd h
-accepts_le c p t a (Sent x y ∷ past) r (inl h) = absurd h
-accepts_le c p t a (Executed x y z ∷ past) r (inl h) = absurd h
-accepts_le c p t a (Installed x y z ∷ past) r (inl h) = absurd h
-accepts_le c p t a (Got x y ∷ past) r (inr h) = accepts_le c p t a past r.1 h
-accepts_le c p t a (Tick x ∷ past) r (inr h) = accepts_le c p t a past r.1 h
-accepts_le c p t a (Sent x y ∷ past) r (inr h) = accepts_le c p t a past r.1 h
-accepts_le c p t a (Executed x y z ∷ past) r (inr h) = accepts_le c p t a past r.1 h
-accepts_le c p t a (Installed x y z ∷ past) r (inr h) = accepts_le c p t a past r.1 h
-accepts_le c p t a (Accepted x y z ∷ past) r (inr h) = accepts_le c p t a past r.1 h
+accepts_le c p t a (_ ∷ past) r (inl h) = absurd h
+accepts_le c p t a (_ ∷ past) r (inr h) = accepts_le c p t a past r.1 h
 
 accepts_lt : (c : Configuration) (p t : ℕ) (a : Outcome) (call : OpenCall) (xs : List Entry) → SafeClient c p xs → open_call xs ≡ Some call → Once (Accepts p t a) xs → t < call.timestamp
 accepts_lt c p t a call [] r o h = absurd h
 accepts_lt c p t a call (Accepted x y z ∷ past) r o h = absurd cc
 accepts_lt c p t a call (Invoke x y z ∷ past) r o (inr h) =
     let l = accepts_le c p t a past r.1 h in let n = r.0.1.0 in let e : y ≡ call.timestamp = ap (λ (o : OpenCall). o.timestamp) (some_injective {A = OpenCall} (record { timestamp = y; op = z }) call o) in omega arith
-accepts_lt c p t a call (Invoke x y z ∷ past) r o (inl h) = absurd h
-accepts_lt c p t a call (Got x y ∷ past) r o (inl h) = absurd h
-accepts_lt c p t a call (Tick x ∷ past) r o (inl h) = absurd h
-accepts_lt c p t a call (Sent x y ∷ past) r o (inl h) = absurd h
-accepts_lt c p t a call (Executed x y z ∷ past) r o (inl h) = absurd h
-accepts_lt c p t a call (Installed x y z ∷ past) r o (inl h) = absurd h
-accepts_lt c p t a call (Got x y ∷ past) r o (inr h) = accepts_lt c p t a call past r.1 o h
-accepts_lt c p t a call (Tick x ∷ past) r o (inr h) = accepts_lt c p t a call past r.1 o h
-accepts_lt c p t a call (Sent x y ∷ past) r o (inr h) = accepts_lt c p t a call past r.1 o h
-accepts_lt c p t a call (Executed x y z ∷ past) r o (inr h) = accepts_lt c p t a call past r.1 o h
-accepts_lt c p t a call (Installed x y z ∷ past) r o (inr h) = accepts_lt c p t a call past r.1 o h
+accepts_lt c p t a call (_ ∷ past) r o (inl h) = absurd h
+accepts_lt c p t a call (_ ∷ past) r o (inr h) = accepts_lt c p t a call past r.1 o h
 
 pub accepts_own : (p t : ℕ) (a : Outcome) (past : List Entry) (e : Entry) → Accepts p t a past e → (party_of e ≡ p) × Accepts p t a (history_of p past) e
 accepts_own p t a past (Accepted x y z) h = (h.0, h)
@@ -337,11 +314,7 @@ newest_answer c me t vote (Got p bytes ∷ past) h =
     let r = and_then_some (λ (body : Body). vote_of me t body.sender body) (heard (members c) me bytes) vote h in
     vote_answer me t r.0.sender vote r.0.sender r.0.message r.2 (heard_fits c me bytes r.0 r.1)
 newest_answer c me t vote (Invoke x y z ∷ past) h = absurd cc
-newest_answer c me t vote (Tick x ∷ past) h = absurd cc
-newest_answer c me t vote (Executed x y z ∷ past) h = absurd cc
-newest_answer c me t vote (Installed x y z ∷ past) h = absurd cc
-newest_answer c me t vote (Sent x y ∷ past) h = absurd cc
-newest_answer c me t vote (Accepted x y z ∷ past) h = absurd cc
+newest_answer c me t vote (_ ∷ past) h = absurd cc
 
 -- ---- among those that are alike one is correct
 

@@ -10,7 +10,7 @@ use Rattle.terms.specs.declared.order.Mode.{Mode}
 use Rattle.signing.specs.Heard.{heard}
 use Rattle.protocol.specs.System.Frames.{same_mode}
 use Rattle.protocol.specs.System.Trace.{Entry, party_of, history_of, Once, Always, frames_in, SendsBody, IsFromSender, IsUnforgedAt, Has}
-use Rattle.protocol.specs.System.Trace.Entry.{Invoke, Got, Tick, Executed, Installed, Sent, Accepted}
+use Rattle.protocol.specs.System.Trace.Entry.{Invoke, Got, Sent, Accepted}
 use Rattle.protocol.specs.Replica.State.{Call, call_in, call_of}
 use Rattle.protocol.specs.Client.RightClient.{SafeClient, MayAsk, MayRequest, OpenCall, open_call, last_call}
 use Rattle.protocol.specs.Laws.Histories.{ExecutesBatch}
@@ -60,11 +60,7 @@ opened_op p t op (Invoke client timestamp o ∷ past) own h =
     let e : ◌≡◌ {A = OpenCall} (record { timestamp = timestamp; op = o }) (record { timestamp = t; op = op }) = some_injective {A = OpenCall} (record { timestamp = timestamp; op = o }) (record { timestamp = t; op = op }) h in
     inl (own.0, ap (λ (x : OpenCall). x.timestamp) e, ap (λ (x : OpenCall). x.op) e)
 opened_op p t op (Accepted client timestamp answer ∷ past) own h = absurd cc
-opened_op p t op (Got x y ∷ past) own h = inr (opened_op p t op past own.1 h)
-opened_op p t op (Tick x ∷ past) own h = inr (opened_op p t op past own.1 h)
-opened_op p t op (Sent x y ∷ past) own h = inr (opened_op p t op past own.1 h)
-opened_op p t op (Executed x y z ∷ past) own h = inr (opened_op p t op past own.1 h)
-opened_op p t op (Installed x y z ∷ past) own h = inr (opened_op p t op past own.1 h)
+opened_op p t op (_ ∷ past) own h = inr (opened_op p t op past own.1 h)
 
 pub opened_invoked : (c : Configuration) (p : ℕ) (call : OpenCall) (xs : List Entry) → SafeClient c p xs → open_call xs ≡ Some call → Once (Invokes p call.timestamp call.op) xs
 opened_invoked c p call xs r h = opened_op p call.timestamp call.op xs (own_entries c p xs r) h
@@ -78,11 +74,7 @@ asked_op c p t mode text (Sent x bytes ∷ past) r (inl h) =
     let ask : MayRequest past t mode text = subst (λ (b : Body). MayAsk past b.message) is m.3 in
     inr (opened_op p t text past (own_entries c p past r.1) ask.0)
 asked_op c p t mode text (Invoke x y z ∷ past) r (inl h) = absurd h
-asked_op c p t mode text (Got x y ∷ past) r (inl h) = absurd h
-asked_op c p t mode text (Tick x ∷ past) r (inl h) = absurd h
-asked_op c p t mode text (Executed x y z ∷ past) r (inl h) = absurd h
-asked_op c p t mode text (Installed x y z ∷ past) r (inl h) = absurd h
-asked_op c p t mode text (Accepted x y z ∷ past) r (inl h) = absurd h
+asked_op c p t mode text (_ ∷ past) r (inl h) = absurd h
 
 invokes_any : (p t : ℕ) (op : Operation) (past other : List Entry) (e : Entry) → Invokes p t op past e → Invokes p t op other e
 invokes_any p t op past other (Invoke x y z) h = h
@@ -96,18 +88,8 @@ invokes_le : (c : Configuration) (p t : ℕ) (op : Operation) (xs : List Entry) 
 invokes_le c p t op [] r h = absurd h
 invokes_le c p t op (Invoke x y z ∷ past) r (inl h) = let e = h.1 in omega arith
 invokes_le c p t op (Invoke x y z ∷ past) r (inr h) = let a = invokes_le c p t op past r.1 h in let n = r.0.1.0 in omega arith
-invokes_le c p t op (Got x y ∷ past) r (inl h) = absurd h
-invokes_le c p t op (Tick x ∷ past) r (inl h) = absurd h
-invokes_le c p t op (Sent x y ∷ past) r (inl h) = absurd h
-invokes_le c p t op (Executed x y z ∷ past) r (inl h) = absurd h
-invokes_le c p t op (Installed x y z ∷ past) r (inl h) = absurd h
-invokes_le c p t op (Accepted x y z ∷ past) r (inl h) = absurd h
-invokes_le c p t op (Got x y ∷ past) r (inr h) = invokes_le c p t op past r.1 h
-invokes_le c p t op (Tick x ∷ past) r (inr h) = invokes_le c p t op past r.1 h
-invokes_le c p t op (Sent x y ∷ past) r (inr h) = invokes_le c p t op past r.1 h
-invokes_le c p t op (Executed x y z ∷ past) r (inr h) = invokes_le c p t op past r.1 h
-invokes_le c p t op (Installed x y z ∷ past) r (inr h) = invokes_le c p t op past r.1 h
-invokes_le c p t op (Accepted x y z ∷ past) r (inr h) = invokes_le c p t op past r.1 h
+invokes_le c p t op (_ ∷ past) r (inl h) = absurd h
+invokes_le c p t op (_ ∷ past) r (inr h) = invokes_le c p t op past r.1 h
 
 pub one_invocation : (c : Configuration) (p t : ℕ) (a b : Operation) (xs : List Entry) → SafeClient c p xs → Once (Invokes p t a) xs → Once (Invokes p t b) xs → a ≡ b
 one_invocation c p t a b [] r h k = absurd h
@@ -115,18 +97,8 @@ one_invocation c p t a b (e ∷ past) r (inr h) (inr k) = one_invocation c p t a
 one_invocation c p t a b (Invoke x y z ∷ past) r (inl h) (inl k) = sym h.2 ∙ k.2
 one_invocation c p t a b (Invoke x y z ∷ past) r (inl h) (inr k) = let l = invokes_le c p t b past r.1 k in let n = r.0.1.0 in let e = h.1 in absurd (omega arith)
 one_invocation c p t a b (Invoke x y z ∷ past) r (inr h) (inl k) = let l = invokes_le c p t a past r.1 h in let n = r.0.1.0 in let e = k.1 in absurd (omega arith)
-one_invocation c p t a b (Got x y ∷ past) r (inl h) k = absurd h
-one_invocation c p t a b (Tick x ∷ past) r (inl h) k = absurd h
-one_invocation c p t a b (Sent x y ∷ past) r (inl h) k = absurd h
-one_invocation c p t a b (Executed x y z ∷ past) r (inl h) k = absurd h
-one_invocation c p t a b (Installed x y z ∷ past) r (inl h) k = absurd h
-one_invocation c p t a b (Accepted x y z ∷ past) r (inl h) k = absurd h
-one_invocation c p t a b (Got x y ∷ past) r (inr h) (inl k) = absurd k
-one_invocation c p t a b (Tick x ∷ past) r (inr h) (inl k) = absurd k
-one_invocation c p t a b (Sent x y ∷ past) r (inr h) (inl k) = absurd k
-one_invocation c p t a b (Executed x y z ∷ past) r (inr h) (inl k) = absurd k
-one_invocation c p t a b (Installed x y z ∷ past) r (inr h) (inl k) = absurd k
-one_invocation c p t a b (Accepted x y z ∷ past) r (inr h) (inl k) = absurd k
+one_invocation c p t a b (_ ∷ past) r (inl h) k = absurd h
+one_invocation c p t a b (_ ∷ past) r (inr h) (inl k) = absurd k
 
 -- ---- a sender sent each carried frame that is authentic
 

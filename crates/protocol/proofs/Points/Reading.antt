@@ -69,11 +69,7 @@ opened p t op (Invoke client timestamp o ∷ past) own h =
     let e : ◌≡◌ {A = OpenCall} (record { timestamp = timestamp; op = o }) (record { timestamp = t; op = op }) = some_injective {A = OpenCall} (record { timestamp = timestamp; op = o }) (record { timestamp = t; op = op }) h in
     inl (own.0, ap (λ (x : OpenCall). x.timestamp) e)
 opened p t op (Accepted client timestamp answer ∷ past) own h = absurd cc
-opened p t op (Got x y ∷ past) own h = inr (opened p t op past own.1 h)
-opened p t op (Tick x ∷ past) own h = inr (opened p t op past own.1 h)
-opened p t op (Sent x y ∷ past) own h = inr (opened p t op past own.1 h)
-opened p t op (Executed x y z ∷ past) own h = inr (opened p t op past own.1 h)
-opened p t op (Installed x y z ∷ past) own h = inr (opened p t op past own.1 h)
+opened p t op (_ ∷ past) own h = inr (opened p t op past own.1 h)
 
 pub own_entries : (c : Configuration) (p : ℕ) (xs : List Entry) → SafeClient c p xs → Always (λ past e. party_of e ≡ p) xs
 own_entries c p [] r = tt
@@ -92,11 +88,7 @@ asked_invoked c p t mode text (Sent x bytes ∷ past) r (inl h) =
     let ask : MayRequest past t mode text = subst (λ (b : Body). MayAsk past b.message) is m.3 in
     inr (opened p t text past (own_entries c p past r.1) ask.0)
 asked_invoked c p t mode text (Invoke x y z ∷ past) r (inl h) = absurd h
-asked_invoked c p t mode text (Got x y ∷ past) r (inl h) = absurd h
-asked_invoked c p t mode text (Tick x ∷ past) r (inl h) = absurd h
-asked_invoked c p t mode text (Executed x y z ∷ past) r (inl h) = absurd h
-asked_invoked c p t mode text (Installed x y z ∷ past) r (inl h) = absurd h
-asked_invoked c p t mode text (Accepted x y z ∷ past) r (inl h) = absurd h
+asked_invoked c p t mode text (_ ∷ past) r (inl h) = absurd h
 
 -- ---- a read-only reply comes after its request's invocation, at the replica's number
 
@@ -179,11 +171,7 @@ latest_heard c me t mode s vote (Got p bytes ∷ past) own h = go (option_and_th
             let r = and_then_some (vote_of me t s) (heard (members c) me bytes) v is in
             let body = vote_body me t s v r.0.sender r.0.message r.2 in
             inl (r.1 ∙ ap Some body ∙ ap (λ (m : Mode). Some (replying s me t m v.number v.answer)) (same_mode-true v.mode mode e) ∙ ap (λ (x : Vote). Some (replying s me t mode x.number x.answer)) same)
-latest_heard c me t mode s vote (Tick x ∷ past) own h = inr (latest_heard c me t mode s vote past own.1 h)
-latest_heard c me t mode s vote (Sent x y ∷ past) own h = inr (latest_heard c me t mode s vote past own.1 h)
-latest_heard c me t mode s vote (Executed x y z ∷ past) own h = inr (latest_heard c me t mode s vote past own.1 h)
-latest_heard c me t mode s vote (Installed x y z ∷ past) own h = inr (latest_heard c me t mode s vote past own.1 h)
-latest_heard c me t mode s vote (Accepted x y z ∷ past) own h = inr (latest_heard c me t mode s vote past own.1 h)
+latest_heard c me t mode s vote (_ ∷ past) own h = inr (latest_heard c me t mode s vote past own.1 h)
 
 -- ---- the latest invocation
 
@@ -249,18 +237,13 @@ invoked_le c p t (Invoke x timestamp op ∷ past) runs client (inr h) = go (256 
     go : (b : Bool) → (256 + x == p) ≡ b → t ≤ last_of p past → t ≤ cond b timestamp (last_of p past)
     go true e k = let n = next_time c p x timestamp op past (runs.clients p client) e in omega arith
     go false e k = k
-invoked_le c p t (Got x y ∷ past) runs client (inl h) = absurd h
-invoked_le c p t (Tick x ∷ past) runs client (inl h) = absurd h
-invoked_le c p t (Sent x y ∷ past) runs client (inl h) = absurd h
-invoked_le c p t (Executed x y z ∷ past) runs client (inl h) = absurd h
-invoked_le c p t (Installed x y z ∷ past) runs client (inl h) = absurd h
-invoked_le c p t (Accepted x y z ∷ past) runs client (inl h) = absurd h
 invoked_le c p t (Got x y ∷ past) runs client (inr h) = invoked_le c p t past (runs_earlier c (Got x y) past runs) client h
 invoked_le c p t (Tick x ∷ past) runs client (inr h) = invoked_le c p t past (runs_earlier c (Tick x) past runs) client h
 invoked_le c p t (Sent x y ∷ past) runs client (inr h) = invoked_le c p t past (runs_earlier c (Sent x y) past runs) client h
 invoked_le c p t (Executed x y z ∷ past) runs client (inr h) = invoked_le c p t past (runs_earlier c (Executed x y z) past runs) client h
 invoked_le c p t (Installed x y z ∷ past) runs client (inr h) = invoked_le c p t past (runs_earlier c (Installed x y z) past runs) client h
 invoked_le c p t (Accepted x y z ∷ past) runs client (inr h) = invoked_le c p t past (runs_earlier c (Accepted x y z) past runs) client h
+invoked_le c p t (_ ∷ past) runs client (inl h) = absurd h
 
 pub InvokedLow : ℕ → ℕ → ℕ → ℕ → List Entry → Entry → Type 0
 InvokedLow s p t number past e = InvokesAt p t past e × (reached past s ≤ number)
@@ -278,18 +261,13 @@ at_latest c s p t number (Invoke x timestamp op ∷ past) runs client is (inr h)
         → reached (cond b past (invoke_past p past)) s ≤ number
     go true e k below le = let n = next_time c p x timestamp op past (runs.clients p client) e in absurd (omega arith)
     go false e k below le = below k h
-at_latest c s p t number (Got x y ∷ past) runs client is (inl h) = absurd h.0
-at_latest c s p t number (Tick x ∷ past) runs client is (inl h) = absurd h.0
-at_latest c s p t number (Sent x y ∷ past) runs client is (inl h) = absurd h.0
-at_latest c s p t number (Executed x y z ∷ past) runs client is (inl h) = absurd h.0
-at_latest c s p t number (Installed x y z ∷ past) runs client is (inl h) = absurd h.0
-at_latest c s p t number (Accepted x y z ∷ past) runs client is (inl h) = absurd h.0
 at_latest c s p t number (Got x y ∷ past) runs client is (inr h) = at_latest c s p t number past (runs_earlier c (Got x y) past runs) client is h
 at_latest c s p t number (Tick x ∷ past) runs client is (inr h) = at_latest c s p t number past (runs_earlier c (Tick x) past runs) client is h
 at_latest c s p t number (Sent x y ∷ past) runs client is (inr h) = at_latest c s p t number past (runs_earlier c (Sent x y) past runs) client is h
 at_latest c s p t number (Executed x y z ∷ past) runs client is (inr h) = at_latest c s p t number past (runs_earlier c (Executed x y z) past runs) client is h
 at_latest c s p t number (Installed x y z ∷ past) runs client is (inr h) = at_latest c s p t number past (runs_earlier c (Installed x y z) past runs) client is h
 at_latest c s p t number (Accepted x y z ∷ past) runs client is (inr h) = at_latest c s p t number past (runs_earlier c (Accepted x y z) past runs) client is h
+at_latest c s p t number (_ ∷ past) runs client is (inl h) = absurd h.0
 
 -- ---- the number of an answer lies between
 

@@ -91,18 +91,8 @@ pub made_read : (c : Configuration) (trace : List Entry) (y : Placing) (xs : Lis
 made_read c trace y [] h = h
 made_read c trace y (Accepted cl t a ∷ past) (inr h) = has_right (λ z. z ≡ y) _ _ (made_read c trace y past h)
 made_read c trace y (Accepted cl t a ∷ past) (inl h) = rw (here_made c trace y past cl t a h) (inl refl)
-made_read c trace y (Invoke a b d ∷ past) (inl h) = absurd h
-made_read c trace y (Got a b ∷ past) (inl h) = absurd h
-made_read c trace y (Tick a ∷ past) (inl h) = absurd h
-made_read c trace y (Sent a b ∷ past) (inl h) = absurd h
-made_read c trace y (Executed a b d ∷ past) (inl h) = absurd h
-made_read c trace y (Installed a b d ∷ past) (inl h) = absurd h
-made_read c trace y (Invoke a b d ∷ past) (inr h) = made_read c trace y past h
-made_read c trace y (Got a b ∷ past) (inr h) = made_read c trace y past h
-made_read c trace y (Tick a ∷ past) (inr h) = made_read c trace y past h
-made_read c trace y (Sent a b ∷ past) (inr h) = made_read c trace y past h
-made_read c trace y (Executed a b d ∷ past) (inr h) = made_read c trace y past h
-made_read c trace y (Installed a b d ∷ past) (inr h) = made_read c trace y past h
+made_read c trace y (_ ∷ past) (inl h) = absurd h
+made_read c trace y (_ ∷ past) (inr h) = made_read c trace y past h
 
 -- ---- modes of acceptances
 
@@ -115,12 +105,7 @@ mode_accepts : (c : Configuration) (mode : Mode) (p t : ℕ) (xs : List Entry) �
 mode_accepts c mode p t [] h = absurd h
 mode_accepts c mode p t (e ∷ past) (inr h) = let r = mode_accepts c mode p t past h in (r.0, inr r.1)
 mode_accepts c mode p t (Accepted x y z ∷ past) (inl h) = (z, inl (h.0, h.1, refl))
-mode_accepts c mode p t (Invoke x y z ∷ past) (inl h) = absurd h
-mode_accepts c mode p t (Got x y ∷ past) (inl h) = absurd h
-mode_accepts c mode p t (Tick x ∷ past) (inl h) = absurd h
-mode_accepts c mode p t (Sent x y ∷ past) (inl h) = absurd h
-mode_accepts c mode p t (Executed x y z ∷ past) (inl h) = absurd h
-mode_accepts c mode p t (Installed x y z ∷ past) (inl h) = absurd h
+mode_accepts c mode p t (_ ∷ past) (inl h) = absurd h
 
 not_again : (c : Configuration) (mode other : Mode) (p t : ℕ) (past : List Entry) (e : Entry) → Run c (e ∷ past) → ModeAt c mode p t past e → Once (ModeAt c other p t) past → ⊥
 not_again c mode other p t past (Accepted x y z) run h k =
@@ -233,18 +218,8 @@ invoked_by p t op (Invoke client time o ∷ past) (inr h) = inr (go (256 + clien
         → Once (λ past' e. Invokes p t op past' e × (length past' ≤ length (cond b past (invoke_past p past)))) past
     go true below near = once_weaker (λ past' e. Invokes p t op past' e × (length past' < length past)) (λ past' e. Invokes p t op past' e × (length past' ≤ length past)) (λ past' e u. (u.0, let l = u.1 in omega arith)) past near
     go false below near = below
-invoked_by p t op (Got x y ∷ past) (inl h) = absurd h
-invoked_by p t op (Tick x ∷ past) (inl h) = absurd h
-invoked_by p t op (Sent x y ∷ past) (inl h) = absurd h
-invoked_by p t op (Executed x y z ∷ past) (inl h) = absurd h
-invoked_by p t op (Installed x y z ∷ past) (inl h) = absurd h
-invoked_by p t op (Accepted x y z ∷ past) (inl h) = absurd h
-invoked_by p t op (Got x y ∷ past) (inr h) = inr (invoked_by p t op past h)
-invoked_by p t op (Tick x ∷ past) (inr h) = inr (invoked_by p t op past h)
-invoked_by p t op (Sent x y ∷ past) (inr h) = inr (invoked_by p t op past h)
-invoked_by p t op (Executed x y z ∷ past) (inr h) = inr (invoked_by p t op past h)
-invoked_by p t op (Installed x y z ∷ past) (inr h) = inr (invoked_by p t op past h)
-invoked_by p t op (Accepted x y z ∷ past) (inr h) = inr (invoked_by p t op past h)
+invoked_by p t op (_ ∷ past) (inl h) = absurd h
+invoked_by p t op (_ ∷ past) (inr h) = inr (invoked_by p t op past h)
 
 -- ---- an acceptance in a run
 

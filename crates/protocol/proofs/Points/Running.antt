@@ -8,7 +8,7 @@ use Rattle.protocol.specs.Replica.RightReplica
 use Rattle.quorum.specs.Quorum.{count_below}
 use Rattle.protocol.specs.System.Configuration.{Configuration, IsConfiguration, is_correct, is_correct_replica, is_correct_client}
 use Rattle.protocol.specs.System.Trace.{Entry, party_of, history_of, Once, Always}
-use Rattle.protocol.specs.System.Trace.Entry.{Invoke, Got, Tick, Executed, Installed, Sent, Accepted}
+use Rattle.protocol.specs.System.Trace.Entry.{Invoke, Executed}
 use Rattle.protocol.specs.Replica.Certificates.{first_given}
 use Rattle.std.specs.Bool.{then_some}
 use Rattle.quorum.specs.Votes.{or_else}
@@ -89,12 +89,7 @@ some_given c k b (Executed r number text ∷ past) (inl h) = go (first_given (λ
     go : (o : Option (List ℕ)) → (x : List ℕ) × (or_else o (then_some (number == k) text) ≡ Some x)
     go None = (text, rw (eq-eqb number k h.1) refl)
     go (Some y) = (y, refl)
-some_given c k b (Invoke x y z ∷ past) (inl h) = absurd h
-some_given c k b (Got x y ∷ past) (inl h) = absurd h
-some_given c k b (Tick x ∷ past) (inl h) = absurd h
-some_given c k b (Sent x y ∷ past) (inl h) = absurd h
-some_given c k b (Installed x y z ∷ past) (inl h) = absurd h
-some_given c k b (Accepted x y z ∷ past) (inl h) = absurd h
+some_given c k b (_ ∷ past) (inl h) = absurd h
 
 pub batch_is : (c : Configuration) (xs : List Entry) (k : ℕ) (b : List ℕ) → Run c xs → Once (ExecutesBatch c k b) xs → batch_of xs k ≡ b
 batch_is c xs k b run h =
@@ -187,10 +182,5 @@ level_executed c xs n run h k l m =
 pub executed_greatest : (c : Configuration) (k : ℕ) (b : List ℕ) (xs : List Entry) → Once (ExecutesBatch c k b) xs → k ≤ last_executed xs
 executed_greatest c k b [] h = absurd h
 executed_greatest c k b (Executed r number text ∷ past) (inl h) = let n = h.1 in omega arith
-executed_greatest c k b (Invoke x y z ∷ past) (inl h) = absurd h
-executed_greatest c k b (Got x y ∷ past) (inl h) = absurd h
-executed_greatest c k b (Tick x ∷ past) (inl h) = absurd h
-executed_greatest c k b (Sent x y ∷ past) (inl h) = absurd h
-executed_greatest c k b (Installed x y z ∷ past) (inl h) = absurd h
-executed_greatest c k b (Accepted x y z ∷ past) (inl h) = absurd h
 executed_greatest c k b (e ∷ past) (inr h) = let n = executed_greatest c k b past h in omega arith
+executed_greatest c k b (_ ∷ past) (inl h) = absurd h

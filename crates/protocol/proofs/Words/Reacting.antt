@@ -9,7 +9,7 @@ use Rattle.protocol.specs.System.Configuration.{Configuration}
 use Rattle.wire.specs.Messages.{MessageData as Message, request as Request}
 use Rattle.wire.specs.Words.{said}
 use Rattle.protocol.specs.System.Trace.{Entry, party_of, is_output, Always, either}
-use Rattle.protocol.specs.System.Trace.Entry.{Invoke, Got, Tick, Executed, Installed, Sent, Accepted}
+use Rattle.protocol.specs.System.Trace.Entry.{Invoke, Got, Tick, Sent, Accepted}
 use Rattle.protocol.specs.Client.RightClient.{OpenCall, open_call, Vote, newest_vote, is_complete, went_ordered, is_answered, Reaction, fallback, on_reply, on_got, first_mode, reaction, IsReaction, MayInput, Reacts, IsClient, MayAccept, MayAsk, MayClient, SafeClient}
 use Rattle.protocol.specs.Client.RightClient.Reaction.{nothing, asks, accepts}
 use Rattle.protocol.specs.Replica.RightReplica.{first_point, Point, Leaves, SafeReplica, waiting_after}
@@ -105,10 +105,7 @@ client_asks c me (Tick p ∷ past) mode call h = go (open_call past) h
 
         in_mode : asks modes.Ordered x ≡ asks mode call → modes.Ordered ≡ mode
         in_mode e = cc
-client_asks c me (Executed x y z ∷ past) mode call h = absurd cc
-client_asks c me (Installed x y z ∷ past) mode call h = absurd cc
-client_asks c me (Sent x y ∷ past) mode call h = absurd cc
-client_asks c me (Accepted x y z ∷ past) mode call h = absurd cc
+client_asks c me (_ ∷ past) mode call h = absurd cc
 
 accepted : (t u : ℕ) (a b : Outcome) → accepts t a ≡ accepts u b → (t ≡ u) × (a ≡ b)
 accepted t u a b e = (cc, cc)
@@ -130,16 +127,12 @@ client_accepts c me (Got p bytes ∷ past) t a h = go (open_call past) refl h
                 let s = accepted call.timestamp t vote.answer a h in
                 (call, vote, is, s.0, s.1, subst (λ (i : ℕ). newest_vote c me (Got p bytes ∷ past) i ≡ Some vote) s.0 e, f)
             test false f h = absurd (falls_not c me (Got p bytes ∷ past) call t a h)
-client_accepts c me (Invoke x y z ∷ past) t a h = absurd cc
 client_accepts c me (Tick x ∷ past) t a h = absurd (go (open_call past) h)
   where
     go : (o : Option OpenCall) → option_map_or (asks modes.Ordered) o nothing ≡ accepts t a → ⊥
     go None h = cc
     go (Some x) h = cc
-client_accepts c me (Executed x y z ∷ past) t a h = absurd cc
-client_accepts c me (Installed x y z ∷ past) t a h = absurd cc
-client_accepts c me (Sent x y ∷ past) t a h = absurd cc
-client_accepts c me (Accepted x y z ∷ past) t a h = absurd cc
+client_accepts c me (_ ∷ past) t a h = absurd cc
 
 -- ---- it may do what it gives
 
