@@ -36,7 +36,7 @@ use Rattle.protocol.specs.Replica.Selection.{is_batch_entry_within, is_checkpoin
 use Rattle.replica_histories.proofs.Cutting.{cut_same}
 use Rattle.view_change.specs.declared.changes.Selection.{Selection}
 use Rattle.view_change.specs.Sets.{texts_of}
-use Rattle.view_change.specs.ClaimsView.{ClaimsData, IsAmong}
+use Rattle.claims.specs.ClaimsView.{ClaimsData, IsAmong}
 use Rattle.view_change.specs.ReceivedData.{HeldData, AreHeldFrom, IsJoined, later_view, later_views}
 use Rattle.view_change.specs.ReceivedView.{ReceivedState, AreReceived, configuration_of}
 use Rattle.view_change.specs.Selecting.{AreFrom, IsFrom}

@@ -43,7 +43,7 @@ use Rattle.protocol.specs.System.Trace.{Entry}
 use Rattle.protocol.specs.System.Trace.Entry.{Got}
 use Rattle.protocol.specs.Replica.Certificates.{taken, are_genuine, brought, new_view_from, is_later, view, target}
 use Rattle.protocol.specs.Replica.State.{State, call_in}
-use Rattle.view_change.specs.ClaimsView.{ClaimsData}
+use Rattle.claims.specs.ClaimsView.{ClaimsData}
 use Rattle.replica_histories.specs.Questions.{has_question}
 use Rattle.replica_histories.specs.Events as histories
 use Rattle.replica_histories.specs.Events.{IsTaken}

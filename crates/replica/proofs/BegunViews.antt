@@ -16,7 +16,7 @@ use Rattle.protocol.specs.System.Trace.{Once}
 use Rattle.protocol.specs.Replica.Certificates.{taken}
 use Rattle.protocol.specs.Replica.State.{Call}
 use Rattle.protocol.proofs.Words.Options.{some_injective}
-use Rattle.view_change.specs.ClaimsView.{ClaimsData}
+use Rattle.claims.specs.ClaimsView.{ClaimsData}
 use Rattle.replica_histories.specs.Changes.{AddsBatches, BeginsClaims}
 use Rattle.replica_histories.specs.Desk.{Desk, desk_from}
 use Rattle.replica_histories.specs.Events.{Start, after_outputs}

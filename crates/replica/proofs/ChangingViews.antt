@@ -19,7 +19,7 @@ use Rattle.protocol.specs.Replica.State.{Call}
 use Rattle.protocol.specs.Replica.Selection.{signed_change}
 use Rattle.protocol.proofs.Words.Options.{some_injective}
 use Rattle.view_change.specs.declared.changes.Change.{Change}
-use Rattle.view_change.specs.ClaimsView.{ClaimsData}
+use Rattle.claims.specs.ClaimsView.{ClaimsData}
 use Rattle.view_change.specs.Sets.{change_pair}
 use Rattle.view_change.specs.ReceivedData.{HeldData, held_of, with_held, later_views, IsJoined}
 use Rattle.view_change.specs.ReceivedView.{configuration_of, held_as}

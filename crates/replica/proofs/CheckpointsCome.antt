@@ -32,7 +32,7 @@ use Rattle.replica_histories.proofs.Entering.{checkpoints_enter}
 use Rattle.replica_histories.proofs.Giving.{kept_are_above}
 use Rattle.replica_histories.proofs.Questions.{others_owe_none}
 use Rattle.replica.specs.declared.taking.Touched.TheVariants as touched
-use Rattle.view_change.specs.ClaimsView.{ClaimsData}
+use Rattle.claims.specs.ClaimsView.{ClaimsData}
 use Rattle.replica.specs.State.{OrdererData, JoinedData, AreOne}
 use Rattle.desk.specs.State.{DeskData}
 use Rattle.replica.specs.Checkpoints.{StartsTransferIfBehind, Settles, TakesCheckpoint, counting, said_entry}

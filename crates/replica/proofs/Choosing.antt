@@ -12,7 +12,7 @@ use Rattle.protocol.specs.System.Trace.{Has}
 use Rattle.protocol.proofs.Words.Elements.{has_filter}
 use Rattle.view_change.specs.declared.changes.Selection.{Selection}
 use Rattle.view_change.specs.declared.changes.Sizes.{Sizes}
-use Rattle.view_change.specs.ClaimsView.{ClaimsData}
+use Rattle.claims.specs.ClaimsView.{ClaimsData}
 use Rattle.view_change.specs.ReceivedView.{ReceivedState}
 use Rattle.view_change.specs.Selecting.{meets}
 use Rattle.view_change.specs.Sets.{sized}

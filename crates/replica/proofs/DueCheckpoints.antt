@@ -28,7 +28,7 @@ use Rattle.replica_histories.proofs.OwnCheckpoints.{checkpoints_are_latest}
 use Rattle.replica_histories.proofs.ChangesKept.{checkpoints_are_noted}
 use Rattle.replica_histories.proofs.ChangesPassing.{claims_are_above, outputs_pass}
 use Rattle.replica_histories.proofs.Giving.{checkpoints_fit, kept_are_above}
-use Rattle.view_change.specs.ClaimsView.{ClaimsData}
+use Rattle.claims.specs.ClaimsView.{ClaimsData}
 use Rattle.replica.specs.State.{OrdererData, JoinedData, AreOne}
 use Rattle.desk.specs.State.{DeskData}
 use Rattle.desk.specs.Waiting.{WaitingData}

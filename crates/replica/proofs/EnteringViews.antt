@@ -8,8 +8,8 @@ use Rattle.wire.specs.Lists.{Each}
 use Rattle.wire.specs.Messages.{BatchEntryData as Claim, CheckpointEntryData as CheckpointEntry}
 use Rattle.ordering.specs.Log.{Row, LogData, is_in_marks, with_batch}
 use Rattle.events.specs.declared.output.Output.{Output}
-use Rattle.view_change.specs.ClaimsView.{ClaimsData, claim_of, IsAmong}
-use Rattle.view_change.specs.Recording.{with_logged, with_all}
+use Rattle.claims.specs.ClaimsView.{ClaimsData, claim_of, IsAmong}
+use Rattle.claims.specs.Recording.{with_logged, with_all}
 use Rattle.view_change.specs.Sets.{texts_of}
 use Rattle.protocol.specs.System.Configuration.{Configuration}
 use Rattle.protocol.specs.Replica.State.{Call}

@@ -26,7 +26,7 @@ use Rattle.replica_histories.proofs.Cutting.{cut_low}
 use Rattle.replica_histories.proofs.Installing.{installations_fit}
 use Rattle.replica_histories.proofs.ChangesKept.{silent_keep}
 use Rattle.desk.specs.declared.waiting.WaitingRequest.{WaitingRequest}
-use Rattle.view_change.specs.ClaimsView.{ClaimsData}
+use Rattle.claims.specs.ClaimsView.{ClaimsData}
 use Rattle.replica.specs.State.{OrdererData, JoinedData, AreOne}
 use Rattle.desk.specs.State.{OpenData, DeskData}
 use Rattle.desk.specs.Waiting.{forgotten, frames_of, is_new}

@@ -2,8 +2,8 @@
 use Rattle.std.proofs.Common.{◌≡◌, ℕ, List, ◌∷◌, ap, ◌∙◌, subst}
 use Rattle.wire.specs.Lists.{Each}
 use Rattle.ordering.specs.Log.{with_batch}
-use Rattle.view_change.specs.ClaimsView.{ClaimsData, claim_of, IsAmong}
-use Rattle.view_change.specs.Recording.{with_logged}
+use Rattle.claims.specs.ClaimsView.{ClaimsData, claim_of, IsAmong}
+use Rattle.claims.specs.Recording.{with_logged}
 use Rattle.replica.specs.State.{OrdererData}
 use Rattle.replica.specs.Claiming.{LogsBatch}
 

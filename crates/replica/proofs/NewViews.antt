@@ -18,7 +18,7 @@ use Rattle.view_change.specs.declared.changes.Selection.{Selection}
 use Rattle.view_change.specs.declared.changes.Sizes.{Sizes}
 use Rattle.view_change.specs.ReceivedData.{pairs_for}
 use Rattle.view_change.specs.ReceivedView.{configuration_of}
-use Rattle.view_change.specs.ClaimsView.{digests_of}
+use Rattle.claims.specs.ClaimsView.{digests_of}
 use Rattle.view_change.specs.Selecting.{NothingSelects, Selects}
 use Rattle.view_change.specs.Sets.{sized, texts_of}
 use Rattle.protocol.specs.System.Configuration.{Configuration}

@@ -17,7 +17,7 @@ use Rattle.protocol.specs.Replica.RightReplica.{SendsBytes, SentBefore, HasSeen,
 use Rattle.protocol.specs.Replica.Certificates.{target, view, taken, is_later, low, is_in_marks, logged, prepare_of, commit_of, Prepared, Committed}
 use Rattle.protocol.specs.Replica.State.{State, Call}
 use Rattle.protocol.specs.Replica.Owed.{IsSaying, BeginsViewWith, BringsChange, HasLatestChange, HasBatch, CanBeginView, AreKeysSpent, StartsAhead}
-use Rattle.view_change.specs.ClaimsView.{ClaimsData}
+use Rattle.claims.specs.ClaimsView.{ClaimsData}
 use Rattle.view_change.specs.ReceivedData.{HeldData}
 use Rattle.replica_histories.specs.Logs.{FitsLog, IsVoted, above_mark}
 use Rattle.replica_histories.specs.Claims.{FitsClaims, WasLogged}

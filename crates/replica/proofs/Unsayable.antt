@@ -14,7 +14,7 @@ use Rattle.protocol.specs.Replica.Certificates.{view}
 use Rattle.protocol.specs.Replica.RightReplica.{Point, Leaves, IsNewViewChange, kept_states}
 use Rattle.protocol.specs.Replica.Selection.{is_within}
 use Rattle.view_change.specs.declared.changes.Change.{Change}
-use Rattle.view_change.specs.ClaimsView.{ClaimsData}
+use Rattle.claims.specs.ClaimsView.{ClaimsData}
 use Rattle.view_change.specs.Laws.{ChangesAreJudged}
 use Rattle.view_change.specs.Sets.{change_pair}
 use Rattle.view_change.specs.ReceivedData.{HeldData, held_of}

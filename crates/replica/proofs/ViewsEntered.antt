@@ -14,7 +14,7 @@ use Rattle.ordering.specs.Log.{LogData}
 use Rattle.ordering.specs.Keeping.{IsLog}
 use Rattle.ordering.proofs.Reading.{above_low}
 use Rattle.authenticator.specs.Membership.{Membership}
-use Rattle.view_change.specs.ClaimsView.{ClaimsData}
+use Rattle.claims.specs.ClaimsView.{ClaimsData}
 use Rattle.protocol.specs.System.Configuration.{Configuration, members}
 use Rattle.protocol.specs.System.Trace.{Entry, Once}
 use Rattle.protocol.specs.Replica.Certificates.{brought, taken}

@@ -11,7 +11,7 @@ use Rattle.protocol.specs.System.Frames.{IsPosted}
 use Rattle.protocol.specs.System.Trace.{Entry}
 use Rattle.protocol.specs.System.Trace.Entry.{Sent}
 use Rattle.protocol.proofs.Words.Options.{some_injective}
-use Rattle.view_change.specs.Recording.{with_prepared}
+use Rattle.claims.specs.Recording.{with_prepared}
 use Rattle.protocol.specs.Replica.RightReplica.{others}
 use Rattle.posting.proofs.Posting.{posted_for_others}
 use Rattle.events.specs.declared.output.Output.{Output}

@@ -7,8 +7,8 @@ use Rattle.events.specs.declared.output.Output.{Output}
 use Rattle.posting.specs.Endpoint.{IsOwnSigned, SendsToOthers, SignedExceeds, says}
 use Rattle.protocol.specs.System.Frames.{leaf_of}
 use Rattle.ordering.specs.Log as logs
-use Rattle.view_change.specs.ClaimsView.{ClaimsData, claim_of}
-use Rattle.view_change.specs.Recording.{with_prepared}
+use Rattle.claims.specs.ClaimsView.{ClaimsData, claim_of}
+use Rattle.claims.specs.Recording.{with_prepared}
 use Rattle.replica_histories.specs.Changes.{AddsLogged, CutsClaims}
 use Rattle.replica.specs.State.{OrdererData}
 

@@ -6,7 +6,7 @@ use Rattle.wire.specs.Messages.{CheckpointEntryData as CheckpointEntry, NewViewD
 use Rattle.events.specs.declared.output.Output.{Output}
 use Rattle.posting.specs.Endpoint.{IsOwnSigned}
 use Rattle.ordering.specs.Log as logs
-use Rattle.view_change.specs.ClaimsView.{ClaimsData}
+use Rattle.claims.specs.ClaimsView.{ClaimsData}
 use Rattle.view_change.specs.ReceivedData.{pairs_for, frames_for}
 use Rattle.view_change.specs.ReceivedView.{configuration_of}
 use Rattle.view_change.specs.Selecting.{meets, AreFrom}

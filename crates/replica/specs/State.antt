@@ -7,7 +7,7 @@ use Rattle.wire.specs.Messages.{CheckpointEntryData as CheckpointEntry}
 use Rattle.wire.specs.Spelling.{IsBatch}
 use Rattle.posting.specs.Endpoint.{EndpointState}
 use Rattle.ordering.specs.Log.{LogData, logged_batch}
-use Rattle.view_change.specs.ClaimsView.{ClaimsData}
+use Rattle.claims.specs.ClaimsView.{ClaimsData}
 use Rattle.view_change.specs.ReceivedView.{ReceivedState}
 use Rattle.desk.specs.State.{DeskData}
 

@@ -9,7 +9,7 @@ use Rattle.ordering.specs.Log.{new_log, with_prepare, with_commit}
 use Rattle.ordering.specs.Messages.{preprepare_fault_of, prepare_fault_of, commit_fault_of}
 use Rattle.posting.specs.Endpoint.{are_heard}
 use Rattle.protocol.specs.System.Configuration.{Configuration, members, replicas, span}
-use Rattle.view_change.specs.ClaimsView.{no_claims}
+use Rattle.claims.specs.ClaimsView.{no_claims}
 use Rattle.replica.specs.State.{OrdererData}
 use Rattle.replica.specs.Claiming.{LogsBatch}
 

@@ -12,11 +12,12 @@ ghost use Rattle.replica.specs.Saying.{PostsChange, SaysLastAlso};
 use crate::joined::Joined;
 use crate::orderer::Orderer;
 use crate::taking::Touched;
+use claims::make;
 use events::{Outputs, Stop};
 use posting::view_change_message;
 use std::alloc::Global;
 use terms::{NoMemory, View};
-use view_change::{Change, copy_change, make};
+use view_change::{Change, copy_change};
 use wire::CheckpointEntry;
 
 /// Views end below this.

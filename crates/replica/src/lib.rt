@@ -26,7 +26,7 @@
 //! one state and 33 times 1,024 bytes of digests. States share equal pages.
 //!
 //! For view changes it keeps the latest view change of each replica, with its frame; its own claims, which few views
-//! can make many (`view_change::Claims`); the frame of its own new view; at most 512 calls of the new view with which
+//! can make many (`claims::Claims`); the frame of its own new view; at most 512 calls of the new view with which
 //! its view began; and for each number within the marks the batch that was committed in an earlier view.
 //!
 //! # What it costs

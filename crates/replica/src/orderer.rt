@@ -11,6 +11,7 @@ ghost use Rattle.replica.specs.Changing.{AreChanges};
 ghost use Rattle.replica.specs.Taking.{IsNewOrderer, TakesBatch, TakesPrepare, TakesCommit};
 
 use authenticator::{Ring, signing_seed};
+use claims::Claims;
 use events::{Config, Stop};
 use ordering::{HashedBatch, Log};
 use posting::Endpoint;
@@ -19,7 +20,7 @@ use std::alloc::Global;
 use std::marker::Model;
 use std::sync::Arc;
 use terms::{NoMemory, Number, Party, ReplicaId, View};
-use view_change::{Claims, Received, Sizes};
+use view_change::{Received, Sizes};
 use wire::{Body, CheckpointEntry, Commit, PrePrepare, Prepare};
 
 /// The part of a replica that orders requests.

@@ -20,8 +20,8 @@ use Rattle.protocol.proofs.Words.Options.{some_injective}
 use Rattle.protocol.proofs.Words.Elements.{each_has, has_weaker}
 use Rattle.protocol.proofs.Agreement.Marks.{view_grows, takes}
 use Rattle.protocol.proofs.Agreement.Voting.{logged_stays}
-use Rattle.view_change.specs.ClaimsView.{claim_of, IsAmong}
-use Rattle.view_change.specs.Recording.{with_logged, with_all, above_mark, IsLoggedAs, Adds}
+use Rattle.claims.specs.ClaimsView.{claim_of, IsAmong}
+use Rattle.claims.specs.Recording.{with_logged, with_all, above_mark, IsLoggedAs, Adds}
 use Rattle.view_change.specs.ReceivedData.{HeldData, held_of, refusal_of, with_held}
 use Rattle.replica_histories.specs.Logs.{Stays}
 use Rattle.replica_histories.specs.Claims.{WasLogged}

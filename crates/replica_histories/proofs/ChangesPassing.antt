@@ -21,8 +21,8 @@ use Rattle.protocol.proofs.Words.Options.{some_injective, or_else_alone, or_else
 use Rattle.protocol.proofs.Words.Elements.{each_has}
 use Rattle.protocol.proofs.Words.Plain.{Plain, said_plain, taken_none, plain_target, plain_low}
 use Rattle.protocol.proofs.Words.Linking.{heard_said, signed_said}
-use Rattle.view_change.specs.ClaimsView.{ClaimsData, claim_of, IsAmong}
-use Rattle.view_change.specs.Recording.{with_prepared, with_logged, with_all, above_mark, IsLoggedAs, Adds}
+use Rattle.claims.specs.ClaimsView.{ClaimsData, claim_of, IsAmong}
+use Rattle.claims.specs.Recording.{with_prepared, with_logged, with_all, above_mark, IsLoggedAs, Adds}
 use Rattle.view_change.specs.ReceivedData.{HeldData, held_of}
 use Rattle.protocol.proofs.Words.Reacting.{proceeds_leaves}
 use Rattle.replica_histories.specs.Desk.{point_of}

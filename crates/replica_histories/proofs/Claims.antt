@@ -14,8 +14,8 @@ use Rattle.protocol.specs.Replica.RightReplica.{Point, Leaves}
 use Rattle.protocol.proofs.Words.Elements.{each_has}
 use Rattle.protocol.proofs.Agreement.Marks.{low_grows}
 use Rattle.protocol.proofs.Agreement.Voting.{logged_stays}
-use Rattle.view_change.specs.Recording.{IsPreparedAs, IsLoggedAs, AreDigests, MovesUp, IsLatest, IsEach, RecordsPrepared}
-use Rattle.view_change.proofs.Keeping.{latest_is_recorded, each_is_recorded, records_are_lists}
+use Rattle.claims.specs.Recording.{IsPreparedAs, IsLoggedAs, AreDigests, MovesUp, IsLatest, IsEach, RecordsPrepared}
+use Rattle.claims.proofs.Keeping.{latest_is_recorded, each_is_recorded, records_are_lists}
 use Rattle.replica_histories.specs.Logs.{FitsLog}
 use Rattle.replica_histories.specs.Claims.{SaidCommit, WasLogged, ClaimsBegin, ClaimsGrow, ClaimsAreLists}
 use Rattle.replica_histories.proofs.Words.{marks_are}

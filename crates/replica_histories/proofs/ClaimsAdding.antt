@@ -10,8 +10,8 @@ use Rattle.protocol.proofs.Words.Options.{some_injective}
 use Rattle.protocol.proofs.Agreement.Voting.{logged_stays}
 use Rattle.protocol.proofs.Agreement.Executing.{commit_stays}
 use Rattle.wire.specs.Messages.{BatchEntryData as Claim}
-use Rattle.view_change.specs.ClaimsView.{claim_of}
-use Rattle.view_change.specs.Recording.{IsLoggedAs}
+use Rattle.claims.specs.ClaimsView.{claim_of}
+use Rattle.claims.specs.Recording.{IsLoggedAs}
 use Rattle.replica_histories.specs.Claims.{SaidCommit, NoBatchAdds, NoCommitAdds, BatchAdds, CommitAdds}
 
 logged_on : (c : Configuration) (me : ℕ) (past : List Entry) (e : Entry) (v i : ℕ) (digest : List ℕ) → IsLoggedAs c me past v i digest → IsLoggedAs c me (e ∷ past) v i digest

@@ -14,8 +14,8 @@ use Rattle.protocol.specs.Replica.Certificates.{low, logged, is_in_marks, Prepar
 use Rattle.protocol.specs.Replica.RightReplica.{checkpoint_of, kept_states, IsPreparedList, IsPrePreparedList}
 use Rattle.protocol.proofs.Words.Elements.{each_has, has_some}
 use Rattle.protocol.proofs.Words.Options.{some_injective}
-use Rattle.view_change.specs.Recording.{Ascends}
-use Rattle.view_change.proofs.Ranking.{bytes_irreflexive, bytes_trans}
+use Rattle.claims.specs.Recording.{Ascends}
+use Rattle.claims.proofs.ByteOrder.{bytes_irreflexive, bytes_trans}
 use Rattle.replica_histories.specs.Views.{entries_of, NewChangesAreOne}
 use Rattle.replica_histories.proofs.Changing.{entries_are}
 use Rattle.replica_histories.proofs.Claims.{claims_are_lists}

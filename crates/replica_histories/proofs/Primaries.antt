@@ -19,7 +19,7 @@ use Rattle.protocol.specs.Replica.Owed.{IsSaying, AreKeysSpent, HasLatestChange,
 use Rattle.protocol.proofs.Words.Options.{some_injective}
 use Rattle.protocol.proofs.Words.Elements.{has_weaker, has_some, has_map, has_mapped, each_weaker, each_of_all}
 use Rattle.protocol.proofs.Words.Temporal.{once_weaker}
-use Rattle.view_change.specs.ClaimsView.{ClaimsData, digests_of}
+use Rattle.claims.specs.ClaimsView.{ClaimsData, digests_of}
 use Rattle.view_change.specs.ReceivedData.{HeldData, held_of, held_for, pairs_for}
 use Rattle.view_change.specs.Selecting.{are_for, is_set_for, how_many_from, meets, IsPart, IsFrom, AreFrom}
 use Rattle.view_change.proofs.Larger.{selects_by_set}

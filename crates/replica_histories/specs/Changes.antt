@@ -16,8 +16,8 @@ use Rattle.protocol.specs.Replica.Selection.{signed_change}
 use Rattle.protocol.specs.Replica.Certificates.{brought, view, target, taken, logged, commit_of, latest_change}
 use Rattle.protocol.specs.Replica.RightReplica.{Point, Leaves, SendsBytes, SentBefore, HasOwnLeaf, MayCheckpoint}
 use Rattle.protocol.specs.Replica.Owed.{AreKeysSpent, latest_checkpoint}
-use Rattle.view_change.specs.ClaimsView.{ClaimsData, no_claims, claim_of, IsAmong}
-use Rattle.view_change.specs.Recording.{with_prepared, with_logged, with_all, above_mark}
+use Rattle.claims.specs.ClaimsView.{ClaimsData, no_claims, claim_of, IsAmong}
+use Rattle.claims.specs.Recording.{with_prepared, with_logged, with_all, above_mark}
 use Rattle.view_change.specs.ReceivedData.{HeldData, held_of, refusal_of, with_held}
 use Rattle.replica_histories.specs.Desk.{Desk}
 use Rattle.replica_histories.specs.Logs.{FitsLog}

@@ -11,8 +11,8 @@ use Rattle.protocol.specs.System.Configuration.{Configuration}
 use Rattle.protocol.specs.System.Trace.{Entry, Once, Has}
 use Rattle.protocol.specs.Replica.Certificates.{low, is_in_marks, logged, commit_of}
 use Rattle.protocol.specs.Replica.RightReplica.{Point, Leaves, HasSeen, IsPreparedList, IsPrePreparedList}
-use Rattle.view_change.specs.ClaimsView.{ClaimsData, no_claims, claim_of}
-use Rattle.view_change.specs.Recording.{with_prepared, with_logged, with_all, above_mark, IsLoggedAs, Adds, IsLatest, RecordsLogged}
+use Rattle.claims.specs.ClaimsView.{ClaimsData, no_claims, claim_of}
+use Rattle.claims.specs.Recording.{with_prepared, with_logged, with_all, above_mark, IsLoggedAs, Adds, IsLatest, RecordsLogged}
 use Rattle.replica_histories.specs.Logs.{FitsLog}
 
 -- the replica's own commit in the view, at the number, is of this digest

@@ -10,7 +10,7 @@ use Rattle.protocol.specs.System.Configuration.{Configuration}
 use Rattle.protocol.specs.System.Trace.{Entry, Has}
 use Rattle.protocol.specs.Replica.Selection.{ascending, null_batch}
 use Rattle.protocol.specs.Replica.RightReplica.{Point, Leaves}
-use Rattle.view_change.specs.ClaimsView.{ClaimsData, digests_of}
+use Rattle.claims.specs.ClaimsView.{ClaimsData, digests_of}
 use Rattle.view_change.specs.ReceivedData.{HeldData, pairs_for}
 use Rattle.view_change.specs.Selecting.{meets, IsPart, NothingSelects}
 use Rattle.replica_histories.specs.Logs.{FitsLog}

@@ -17,7 +17,7 @@ use Rattle.protocol.specs.Replica.Selection.{is_within}
 use Rattle.protocol.specs.Replica.Certificates.{view, target, taken, latest_change}
 use Rattle.protocol.specs.Replica.RightReplica.{Point, HasSeen, SentBefore, HasOwnLeaf, IsPreparedList, IsPrePreparedList, TimesOut, JoinsOthers, sought_view, Leaves, IsNewViewChange, kept_states}
 use Rattle.protocol.specs.Replica.Owed.{SendsMessage, Counts}
-use Rattle.view_change.specs.ClaimsView.{ClaimsData}
+use Rattle.claims.specs.ClaimsView.{ClaimsData}
 use Rattle.replica_histories.specs.Claims.{FitsClaims}
 use Rattle.replica_histories.specs.Desk.{Desk, Snapshot, desk_from, snapshot_of}
 use Rattle.replica_histories.specs.Logs.{FitsLog}

@@ -1,13 +1,10 @@
 pub mod Bounds
 pub mod Checking
-pub mod ClaimsView
 pub mod Filling
 pub mod Finding
 pub mod Laws
-pub mod Places
 pub mod ReceivedData
 pub mod ReceivedView
-pub mod Recording
 pub mod Refusing
 pub mod Selecting
 pub mod Sets

@@ -11,8 +11,8 @@ ghost use Rattle.wire.specs.Spelling.{IsBatch, IsNewView};
 ghost use Rattle.wire.specs.Views.{batch_text, new_view_data};
 
 use crate::changes::Selection;
-use crate::entries::note_digest;
 use crate::received::Received;
+use claims::note_digest;
 use ordering::HashedBatch;
 use std::alloc::Global;
 use std::sync::Arc;

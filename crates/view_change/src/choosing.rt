@@ -13,6 +13,7 @@ ghost use Rattle.view_change.specs.Sets.{sized, pairs, texts_of};
 
 use crate::changes::{Change, Sizes};
 use crate::rules::{may_be_null, may_stand_at};
+use claims::is_less;
 use ordering::HashedBatch;
 use std::sync::Arc;
 use terms::{Digest, Number, View};
@@ -146,19 +147,6 @@ fn is_prepared_in(set: &[Change], number: Number, digest: &Digest) -> bool
     } else {
         is_prepared_in(rest, number, digest)
     }
-}
-
-/// Whether the one comes before the other, by the first byte that differs.
-pub(crate) fn is_less(digest: &[u8], other: &[u8]) -> bool
-    ensures { result ≡ bytes_before digest.now other.now }
-{
-    let [x, xs @ ..] = digest else {
-        return false;
-    };
-    let [y, ys @ ..] = other else {
-        return false;
-    };
-    *x < *y || (*x == *y && is_less(xs, ys))
 }
 
 // Of two digests a prepared one goes first, else the lesser one.

@@ -1,6 +1,5 @@
 //! Laws of the selection over a set of view changes.
 
-ghost use Rattle.view_change.specs.Recording.{RecordsBegin, PreparedIsRecorded, LoggedIsRecorded, RecordsAreLists};
 ghost use Rattle.view_change.specs.Laws.{SelectsBySet, LargerSetsAllow, EntriesDecide, GapsForbid, StartsAreListed, SizesDecide, NewViewsAreJudged, ChangesAreJudged};
 
 /// A new view may be selected by its set of view changes alone.
@@ -33,12 +32,4 @@ pub fn sizes_decide()
 pub fn refusals_decide()
     ensures new_views { NewViewsAreJudged }
     ensures changes { ChangesAreJudged }
-{}
-
-/// A replica's claims stay what its history says, and are what a view change lists.
-pub fn claims_are_recorded()
-    ensures begin { RecordsBegin }
-    ensures prepared { PreparedIsRecorded }
-    ensures logged { LoggedIsRecorded }
-    ensures lists { RecordsAreLists }
 {}

@@ -1,6 +1,6 @@
 //! View changes (Castro and Liskov, Practical Byzantine fault tolerance and proactive recovery, TOCS 2002, on view
-//! changes): which view changes of others a replica stores, which selection they allow, which new views a replica
-//! takes, and the sets P and Q of its own view changes. Nothing here signs, sends or authenticates.
+//! changes): which view changes a replica stores, which selection they allow, and which new views a replica takes. The
+//! sets P and Q of its own view changes are in `claims`. Nothing here signs, sends or authenticates.
 //!
 //! # What is proved
 //!
@@ -14,12 +14,9 @@
 //! - `assemble` makes the new view of a selection. It satisfies the rules, and may be sent.
 //! - `check_new_view` is Ok exactly if the new view is by its primary, of a later view, and satisfies the rules; else
 //!   it returns the first refusal that applies.
-//! - `Claims` has for each number the batch that was prepared in the latest view, and for each number and digest the
-//!   latest view in which it was logged, in the order of a view change, with the texts of the batches. `make` makes a
-//!   view change of them, which may be sent; None only if a list has more claims than a frame counts.
 //! - The laws: a new view is selected by its set; a larger set allows all that a smaller one does; entries decide which
-//!   digests may stand; the rules depend on two sizes and the seed of the keys alone; a replica takes exactly what it
-//!   does not refuse; and the claims noted of a history are those of its view change.
+//!   digests may stand; the rules depend on two sizes and the seed of the keys alone; and a replica takes exactly what
+//!   it does not refuse.
 //!
 //! If memory runs out, a call that takes memory returns an error and leaves all as it was.
 //!
@@ -30,8 +27,6 @@
 //! - `refusal` in `specs/Checking.antt` is the first refusal of a new view. `Selects` and `NothingSelects` in
 //!   `specs/Selecting.antt` say what `select` returns.
 //! - A rule is an enum (`Rule`), and one loop counts who passes it. That is the counting of the definitions themselves.
-//! - By laws over any relation of views, numbers and digests, the notes of `Claims` stay what the history says. The
-//!   laws are `claims_are_recorded`, and `latest_is_recorded` and `each_is_recorded` in `proofs/Keeping.antt`.
 #![tactic(auto)]
 
 mod assembling;
@@ -41,13 +36,9 @@ mod change_fault;
 mod changes;
 mod checking;
 mod choosing;
-mod claim;
-mod claims;
 mod copying;
-mod entries;
 mod fault;
 mod laws;
-mod making;
 mod received;
 mod rules;
 mod selecting;
@@ -57,13 +48,10 @@ pub use bounds::is_set;
 pub use change_fault::ChangeFault;
 pub use changes::{Change, Selection, SignedChange, Sizes};
 pub use checking::check_new_view;
-pub use claims::Claims;
 pub use copying::copy_change;
 pub use fault::NewViewFault;
 pub use laws::{
-    claims_are_recorded, entries_decide, gaps_forbid, larger_sets_allow, refusals_decide,
-    selects_by_set, sizes_decide,
+    entries_decide, gaps_forbid, larger_sets_allow, refusals_decide, selects_by_set, sizes_decide,
 };
-pub use making::make;
 pub use received::Received;
 pub use selecting::select;

@@ -1,6 +1,6 @@
 use Rattle.std.proofs.Common.{◌≡◌, ℕ, ap, ◌∙◌}
 use Rattle.ordering.specs.Log.{LogData, cut_to}
-use Rattle.view_change.specs.Recording.{above_mark}
+use Rattle.claims.specs.Recording.{above_mark}
 use Rattle.replica.specs.State.{OrdererData}
 use Rattle.replica.specs.OrdererView.{orderer_data}
 use Rattle.replica.proofs.Batches.{log_cut}

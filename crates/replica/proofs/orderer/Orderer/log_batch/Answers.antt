@@ -9,7 +9,7 @@ use Rattle.std.proofs.Common.{◌<◌, ◌∷◌, ℕ, List, true, sym, subst}
 use Rattle.ordering.specs.Log as logs
 use Rattle.wire.specs.Lists.{Each}
 use Rattle.wire.specs.Spelling.{IsBatch}
-use Rattle.view_change.specs.ClaimsView.{IsAmong}
+use Rattle.claims.specs.ClaimsView.{IsAmong}
 use Rattle.replica.proofs.orderer.Orderer.log_batch.Goals as goal
 
 pub returns-clause-ok : goal.returns-clause-ok

@@ -1,0 +1,3 @@
+pub mod ClaimsView
+pub mod Places
+pub mod Recording
