@@ -11,7 +11,7 @@ use Rattle.ordering.specs.Log.{LogData}
 use Rattle.ordering.specs.Votes.{vote_of}
 use Rattle.protocol.specs.System.Configuration.{Configuration, primary, is_number}
 use Rattle.protocol.specs.System.Trace.{Entry, Once, Always}
-use Rattle.protocol.specs.System.Trace.Entry.{Invoke, Got, Tick, Executed, Installed, Sent, Accepted}
+use Rattle.protocol.specs.System.Trace.Entry.{Invoke, Got, Sent}
 use Rattle.protocol.specs.Replica.Certificates.{are_genuine, counts_at, taken, checkpoint_from, with_checkpoint, insert_checkpoint, checkpoints_of, batch_from, prepare_from, commit_from, batch_begun, brought, low, is_in_marks, begun_proposal, entry_proposal, proposal, logged, prepare_of, commit_of}
 use Rattle.protocol.specs.Replica.RightReplica.{Point, Leaves, HasSeen, MayCheckpoint, others}
 use Rattle.protocol.specs.Replica.Owed.{NumbersOnce, IsBegunBelow}
@@ -137,10 +137,7 @@ proposes c me v i batch own past (Sent p bytes) r h =
     let message_is : r.may.body.message ≡ PrePrepare v i batch = ap (λ (x : Body). x.message) (some_injective r.may.body h.0 (sym r.may.says ∙ h.1)) ∙ b.0 in
     (b.2, subst (λ (m : Message). Each (λ frame. Once (HasSeen frame) past) (carried m)) message_is r.may.seen)
 proposes c me v i batch own past (Invoke x y z) r h = absurd (let bad : None ≡ Some h.0 = h.1 in cc)
-proposes c me v i batch own past (Tick x) r h = absurd (let bad : None ≡ Some h.0 = h.1 in cc)
-proposes c me v i batch own past (Executed x y z) r h = absurd (let bad : None ≡ Some h.0 = h.1 in cc)
-proposes c me v i batch own past (Installed x y z) r h = absurd (let bad : None ≡ Some h.0 = h.1 in cc)
-proposes c me v i batch own past (Accepted x y z) r h = absurd (let bad : None ≡ Some h.0 = h.1 in cc)
+proposes c me v i batch own past _ r h = absurd (let bad : None ≡ Some h.0 = h.1 in cc)
 
 -- a new view that the replica takes proposes the batch for the number
 abbrev BegunAt : Configuration → ℕ → ℕ → List ℕ → List Entry → Entry → Type 0

@@ -14,7 +14,7 @@ use Rattle.ordering.specs.Log.{LogData}
 use Rattle.ordering.proofs.Reading.{above_low}
 use Rattle.protocol.specs.System.Configuration.{Configuration, replicas}
 use Rattle.protocol.specs.System.Trace.{Entry, Once}
-use Rattle.protocol.specs.System.Trace.Entry.{Invoke, Got, Tick, Executed, Installed, Sent, Accepted}
+use Rattle.protocol.specs.System.Trace.Entry.{Installed}
 use Rattle.protocol.specs.Replica.Selection.{is_quorum, is_weak_quorum, changes_of, passes_by, count_in, is_within, may_select}
 use Rattle.protocol.specs.Replica.Certificates.{brought, target, taken, installed_at, checkpoint_in, checkpoint_from, checkpoints_of, with_checkpoint, is_stable, stable_at, started_at, low, is_in_marks, counts_at, batch_from, batch_begun, begun_proposal, entry_proposal, proposal, logged, prepare_from, prepare_of, commit_from, commit_of, vote_in, Prepared, Committed}
 use Rattle.protocol.specs.Replica.Owed.{BeginsViewWith}
@@ -47,12 +47,7 @@ IsOfViews message = elim message [ ViewChange vc ↦ ⊤ | NewView new ↦ ⊤ |
 
 installs_nothing : (c : Configuration) (body : Body) (e : Entry) → brought c e ≡ Some body → installed_at e ≡ 0
 installs_nothing c body (Installed x y z) h = absurd (let bad : None ≡ Some body = h in cc)
-installs_nothing c body (Sent p bytes) h = refl
-installs_nothing c body (Got p bytes) h = refl
-installs_nothing c body (Tick p) h = refl
-installs_nothing c body (Executed x y z) h = refl
-installs_nothing c body (Invoke x y z) h = refl
-installs_nothing c body (Accepted x y z) h = refl
+installs_nothing c body _ h = refl
 
 pub still_brings : (c : Configuration) (me : ℕ) (past : List Entry) (e : Entry) (sender : ℕ) (message : Message) → IsOfViews message → brought c e ≡ Some (record { sender = sender; message = message }) → Still c me past e
 still_brings c me past e sender message is h = record {

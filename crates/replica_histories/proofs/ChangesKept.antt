@@ -14,7 +14,7 @@ use Rattle.ordering.specs.Log as logs
 use Rattle.protocol.specs.System.Configuration.{Configuration, replicas, primary, members}
 use Rattle.protocol.specs.System.Frames.{IsSealed}
 use Rattle.protocol.specs.System.Trace.{Entry}
-use Rattle.protocol.specs.System.Trace.Entry.{Invoke, Got, Tick, Executed, Installed, Sent, Accepted}
+use Rattle.protocol.specs.System.Trace.Entry.{Got, Tick, Executed, Installed, Sent}
 use Rattle.protocol.specs.Replica.Selection.{may_select, change_in, signed_change}
 use Rattle.protocol.specs.Replica.Certificates.{brought, checkpoint_from, view, target, taken, is_later, new_view_from, change_sent, change_from, is_active_in, low, is_in_marks, proposal, logged, commit_from, commit_of, change_taken, latest_change}
 use Rattle.protocol.proofs.Words.Options.{some_injective, or_else_second, and_then_some}
@@ -141,10 +141,7 @@ pub silent_keep : SilentKeep
 silent_keep c me past (Executed p k batch) h = nothing_keeps c me past (Executed p k batch) refl refl (λ s. omega arith) (λ sent now. now)
 silent_keep c me past (Installed p k root) h = nothing_keeps c me past (Installed p k root) refl refl (λ s. omega arith) (λ sent now. now)
 silent_keep c me past (Tick p) h = nothing_keeps c me past (Tick p) refl refl (λ s. omega arith) (λ sent now. now)
-silent_keep c me past (Invoke x y z) h = absurd h
-silent_keep c me past (Got x y) h = absurd h
-silent_keep c me past (Sent x y) h = absurd h
-silent_keep c me past (Accepted x y z) h = absurd h
+silent_keep c me past _ h = absurd h
 
 -- ---- received bytes
 

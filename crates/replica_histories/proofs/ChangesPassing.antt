@@ -13,7 +13,7 @@ use Rattle.ordering.specs.Log.{LogData}
 use Rattle.ordering.proofs.Reading.{batches_are_logged}
 use Rattle.protocol.specs.System.Configuration.{Configuration, primary, replicas, span, members}
 use Rattle.protocol.specs.System.Trace.{Entry, Once, Has}
-use Rattle.protocol.specs.System.Trace.Entry.{Invoke, Got, Tick, Executed, Installed, Sent, Accepted}
+use Rattle.protocol.specs.System.Trace.Entry.{Got, Sent}
 use Rattle.protocol.specs.Replica.Selection.{change_in, signed_change}
 use Rattle.protocol.specs.Replica.Certificates.{brought, checkpoint_from, taken, new_view_from, change_sent, change_from, counts_at, low, is_in_marks, logged, commit_from, commit_of, vote_in, latest_change}
 use Rattle.protocol.specs.Replica.Owed.{latest_checkpoint}
@@ -202,21 +202,12 @@ said_no_change c bytes body says none = go (signed_body (members c) bytes) refl
 pub changes_nothing : (c : Configuration) (past : List Entry) (e : Entry) (body : Body) (s : ℕ) → brought c e ≡ Some body → change_in body ≡ None → latest_change c (e ∷ past) s ≡ latest_change c past s
 changes_nothing c past (Got p bytes) body s h none = unsigned_bring_none c p s bytes past (said_no_change c bytes body (heard_said c p bytes body h) none)
 changes_nothing c past (Sent p bytes) body s h none = sent_bring_none c p s bytes past
-changes_nothing c past (Invoke x y z) body s h none = omega arith
-changes_nothing c past (Tick x) body s h none = omega arith
-changes_nothing c past (Executed x y z) body s h none = omega arith
-changes_nothing c past (Installed x y z) body s h none = omega arith
-changes_nothing c past (Accepted x y z) body s h none = omega arith
+changes_nothing c past _ body s h none = omega arith
 
 -- no view change of the replica's own
 pub sends_none : (c : Configuration) (e : Entry) (sender : ℕ) (message : Message) → brought c e ≡ Some (record { sender = sender; message = message }) → change_from (record { sender = sender; message = message }) ≡ 0 → change_sent e ≡ 0
 sends_none c (Sent p bytes) sender message h none = ap (λ (o : Option Body). option_map_or change_from o 0) h ∙ none
-sends_none c (Got p bytes) sender message h none = refl
-sends_none c (Invoke x y z) sender message h none = refl
-sends_none c (Tick x) sender message h none = refl
-sends_none c (Executed x y z) sender message h none = refl
-sends_none c (Installed x y z) sender message h none = refl
-sends_none c (Accepted x y z) sender message h none = refl
+sends_none c _ sender message h none = refl
 
 -- ---- the replica's own commit
 

@@ -13,7 +13,7 @@ use Rattle.ordering.specs.Log.{LogData}
 use Rattle.ordering.proofs.Reading.{above_low}
 use Rattle.protocol.specs.System.Configuration.{Configuration, primary}
 use Rattle.protocol.specs.System.Trace.{Entry, Once, Has, frames_in}
-use Rattle.protocol.specs.System.Trace.Entry.{Invoke, Got, Tick, Executed, Installed, Sent, Accepted}
+use Rattle.protocol.specs.System.Trace.Entry.{Sent}
 use Rattle.protocol.specs.Replica.Selection.{may_select}
 use Rattle.protocol.specs.Replica.Certificates.{view, target, taken, is_later, new_view_from, change_sent, change_from, is_stable, stable_at, started_at, low, proposal, logged, commit_of, Prepared, Committed, is_active_in}
 use Rattle.protocol.specs.Replica.State.{State}
@@ -210,12 +210,7 @@ seen_again me message bytes past says before =
 
     seen : (frame : List ℕ) → Has (λ x. x ≡ frame) (carried message) → (earlier : List Entry) (e : Entry) → SendsBytes bytes earlier e → HasSeen frame earlier e
     seen frame has earlier (Sent p sent) h = subst (λ (x : List ℕ). Has (λ y. y ≡ frame) (frames_in x)) (sym h) (carries frame has)
-    seen frame has earlier (Invoke x y z) h = absurd h
-    seen frame has earlier (Got x y) h = absurd h
-    seen frame has earlier (Tick x) h = absurd h
-    seen frame has earlier (Executed x y z) h = absurd h
-    seen frame has earlier (Installed x y z) h = absurd h
-    seen frame has earlier (Accepted x y z) h = absurd h
+    seen frame has earlier _ h = absurd h
 
 -- a frame that was sent before still has its leaf
 leaf_again : (c : Configuration) (me : ℕ) (s : Start) (desk : Desk) (log : LogData) (due : List Message) (outputs : List Entry) (bytes : List ℕ) (f : Fits c me s desk log due outputs) → SentBefore bytes (after_outputs s outputs)

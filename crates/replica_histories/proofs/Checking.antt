@@ -13,7 +13,7 @@ use Rattle.ordering.specs.Log as logs
 use Rattle.ordering.specs.Log.{LogData}
 use Rattle.protocol.specs.System.Configuration.{Configuration, replicas, is_number}
 use Rattle.protocol.specs.System.Trace.{Entry, Once, Has}
-use Rattle.protocol.specs.System.Trace.Entry.{Invoke, Got, Tick, Executed, Installed, Sent, Accepted}
+use Rattle.protocol.specs.System.Trace.Entry.{Invoke, Got, Executed, Installed, Sent, Accepted}
 use Rattle.protocol.specs.Replica.Selection.{is_quorum}
 use Rattle.protocol.specs.Replica.Certificates.{brought, checkpoint_from, checkpoint_in, with_checkpoint, checkpoints_of, says_checkpoint, count_checkpoints, is_stable, stable_at, low}
 use Rattle.protocol.specs.Replica.State.{State, execute, root_of}
@@ -177,9 +177,6 @@ own_said c me m history point leaves h =
 
 -- a snapshot is never removed from the point
 snapshots_stay : (c : Configuration) (me : ℕ) (P : State → Type 0) (past : List Entry) (e : Entry) (old new : Point) → May c me past old e → Moves c me past old e new → Has P old.snapshots → Has P new.snapshots
-snapshots_stay c me P past (Got p bytes) old new may moves h = subst (λ (q : Point). Has P q.snapshots) (sym moves) h
-snapshots_stay c me P past (Tick p) old new may moves h = subst (λ (q : Point). Has P q.snapshots) (sym moves) h
-snapshots_stay c me P past (Sent p bytes) old new may moves h = subst (λ (q : Point). Has P q.snapshots) (sym moves) h
 snapshots_stay c me P past (Executed p k batch) old new may moves h = subst (λ (q : Point). Has P q.snapshots) (sym moves) (go ((execute c old.state batch).number % c.period == 0))
   where
     go : (b : Bool) → Has P (cond b (execute c old.state batch ∷ old.snapshots) old.snapshots)
@@ -188,6 +185,7 @@ snapshots_stay c me P past (Executed p k batch) old new may moves h = subst (λ 
 snapshots_stay c me P past (Installed p k root) old new may moves h = subst (Has P) (sym moves.snapshots) (inr h)
 snapshots_stay c me P past (Invoke x y z) old new may moves h = absurd may
 snapshots_stay c me P past (Accepted x y z) old new may moves h = absurd may
+snapshots_stay c me P past _ old new may moves h = subst (λ (q : Point). Has P q.snapshots) (sym moves) h
 
 -- so a checkpoint that may be sent stays so
 pub checkpoint_stays : (c : Configuration) (me k : ℕ) (root : List ℕ) (past : List Entry) (e : Entry) (old new : Point) → IsStep c me past old e new → MayCheckpoint c past old k root → MayCheckpoint c (e ∷ past) new k root
@@ -199,11 +197,7 @@ saying_may c me k root past (Sent p bytes) old may h =
     let is : may.body ≡ checking me k root = some_injective may.body (checking me k root) (sym may.says ∙ h) in
     subst (λ (b : Body). MaySay c me past old (Sent p bytes) bytes b.message) is may.say
 saying_may c me k root past (Got p bytes) old may h = absurd h
-saying_may c me k root past (Tick p) old may h = absurd h
-saying_may c me k root past (Executed x y z) old may h = absurd h
-saying_may c me k root past (Installed x y z) old may h = absurd h
-saying_may c me k root past (Invoke x y z) old may h = absurd h
-saying_may c me k root past (Accepted x y z) old may h = absurd h
+saying_may c me k root past _ old may h = absurd h
 
 pub said_may : (c : Configuration) (me k : ℕ) (root : List ℕ) (history : List Entry) (point : Point) → Leaves c me history point → Once (λ earlier e. IsSaying me (Checkpoint k root) e) history
     → MayCheckpoint c history point k root
@@ -214,22 +208,15 @@ said_may c me k root (e ∷ past) point leaves (inr h) = checkpoint_stays c me k
 -- ---- an executed number is at most the state's
 
 state_grows : (c : Configuration) (me : ℕ) (past : List Entry) (e : Entry) (old new : Point) → May c me past old e → Moves c me past old e new → old.state.number ≤ new.state.number
-state_grows c me past (Got p bytes) old new may moves = let same = ap (λ (q : Point). q.state.number) moves in omega arith
-state_grows c me past (Tick p) old new may moves = let same = ap (λ (q : Point). q.state.number) moves in omega arith
-state_grows c me past (Sent p bytes) old new may moves = let same = ap (λ (q : Point). q.state.number) moves in omega arith
 state_grows c me past (Executed p k batch) old new may moves = let n = ap (λ (q : Point). q.state.number) moves ∙ executed_number c old.state batch in omega arith
 state_grows c me past (Installed p k root) old new may moves = let n = moves.number in let above = may.0 in omega arith
 state_grows c me past (Invoke x y z) old new may moves = absurd may
 state_grows c me past (Accepted x y z) old new may moves = absurd may
+state_grows c me past _ old new may moves = let same = ap (λ (q : Point). q.state.number) moves in omega arith
 
 executes_it : (c : Configuration) (me k : ℕ) (past : List Entry) (e : Entry) (old new : Point) → May c me past old e → Moves c me past old e new → Executes k past e → k ≤ new.state.number
 executes_it c me k past (Executed p i batch) old new may moves h = let n = ap (λ (q : Point). q.state.number) moves ∙ executed_number c old.state batch in let next = may.next in let same = h in omega arith
-executes_it c me k past (Got p bytes) old new may moves h = absurd h
-executes_it c me k past (Tick p) old new may moves h = absurd h
-executes_it c me k past (Sent p bytes) old new may moves h = absurd h
-executes_it c me k past (Installed x y z) old new may moves h = absurd h
-executes_it c me k past (Invoke x y z) old new may moves h = absurd h
-executes_it c me k past (Accepted x y z) old new may moves h = absurd h
+executes_it c me k past _ old new may moves h = absurd h
 
 pub executed_at_most : (c : Configuration) (me k : ℕ) (history : List Entry) (point : Point) → Leaves c me history point → Once (Executes k) history → k ≤ point.state.number
 executed_at_most c me k [] point leaves h = absurd h
@@ -248,12 +235,7 @@ own_at_most c me m history point leaves h =
 
 pub said_listed : (c : Configuration) (me k : ℕ) (root : List ℕ) (e : Entry) → is_number k ≡ true → IsSaying me (Checkpoint k root) e → checkpoint_in c e ≡ Some (me, record { number = k; digest = root })
 said_listed c me k root (Sent p bytes) n h = ap (option_and_then checkpoint_from) h ∙ ap (λ (b : Bool). then_some b (let y : ℕ × CheckpointEntry = (me, record { number = k; digest = root }) in y)) n
-said_listed c me k root (Got p bytes) n h = absurd h
-said_listed c me k root (Tick p) n h = absurd h
-said_listed c me k root (Executed x y z) n h = absurd h
-said_listed c me k root (Installed x y z) n h = absurd h
-said_listed c me k root (Invoke x y z) n h = absurd h
-said_listed c me k root (Accepted x y z) n h = absurd h
+said_listed c me k root _ n h = absurd h
 
 pub said_passed : (c : Configuration) (me k : ℕ) (root : List ℕ) (history : List Entry) → is_number k ≡ true → Once (λ earlier e. IsSaying me (Checkpoint k root) e) history → IsPassed 3 k (checkpoints_of c history me)
 unfolding checkpoints_of

@@ -15,7 +15,7 @@ use Rattle.ordering.proofs.Reading.{above_low}
 use Rattle.ordering.proofs.Moving.{cuts_keep}
 use Rattle.protocol.specs.System.Configuration.{Configuration}
 use Rattle.protocol.specs.System.Trace.{Entry, Has}
-use Rattle.protocol.specs.System.Trace.Entry.{Invoke, Got, Tick, Executed, Installed, Sent, Accepted}
+use Rattle.protocol.specs.System.Trace.Entry.{Installed, Sent}
 use Rattle.protocol.specs.Replica.Certificates.{brought, taken, new_view_from, change_sent, change_from, installed_at, checkpoint_in, checkpoint_from, checkpoints_of, with_checkpoint, insert_checkpoint, is_stable, stable_at, started_at, low, counts_at, batch_from, entry_proposal, proposal, logged, prepare_from, prepare_of, commit_from, commit_of, vote_in}
 use Rattle.protocol.specs.Replica.Owed.{IsSaying}
 use Rattle.protocol.proofs.Words.Options.{or_else_alone}
@@ -278,21 +278,11 @@ module _ (c : Configuration) (me : ℕ) (log : LogData) (past : List Entry) (e :
 
 changes_nothing : (c : Configuration) (s k : ℕ) (root : List ℕ) (e : Entry) → brought c e ≡ Some (checking s k root) → change_sent e ≡ 0
 changes_nothing c s k root (Sent p bytes) h = ap (λ (o : Option Body). option_map_or change_from o 0) h
-changes_nothing c s k root (Got p bytes) h = refl
-changes_nothing c s k root (Tick p) h = refl
-changes_nothing c s k root (Executed x y z) h = refl
-changes_nothing c s k root (Installed x y z) h = refl
-changes_nothing c s k root (Invoke x y z) h = refl
-changes_nothing c s k root (Accepted x y z) h = refl
+changes_nothing c s k root _ h = refl
 
 installs_nothing : (c : Configuration) (body : Body) (e : Entry) → brought c e ≡ Some body → installed_at e ≡ 0
 installs_nothing c body (Installed x y z) h = absurd (let bad : None ≡ Some body = h in cc)
-installs_nothing c body (Sent p bytes) h = refl
-installs_nothing c body (Got p bytes) h = refl
-installs_nothing c body (Tick p) h = refl
-installs_nothing c body (Executed x y z) h = refl
-installs_nothing c body (Invoke x y z) h = refl
-installs_nothing c body (Accepted x y z) h = refl
+installs_nothing c body _ h = refl
 
 -- the checkpoints of each sender with one more
 pub counts_one : (log : LogData) (s x : ℕ) (entry : CheckpointEntry) → IsLog log → s < logs.replicas log → logs.checkpoints_of (logs.with_checkpoint_of log s entry) x ≡ with_checkpoint x (Some (s, entry)) (logs.checkpoints_of log x)

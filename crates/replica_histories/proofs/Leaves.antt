@@ -7,7 +7,7 @@ use Rattle.wire.specs.Spelling.{is_signed}
 use Rattle.protocol.specs.System.Configuration.{Configuration}
 use Rattle.protocol.specs.System.Frames.{leaf_of}
 use Rattle.protocol.specs.System.Trace.{Entry}
-use Rattle.protocol.specs.System.Trace.Entry.{Invoke, Got, Tick, Executed, Installed, Sent, Accepted}
+use Rattle.protocol.specs.System.Trace.Entry.{Got, Sent}
 use Rattle.protocol.specs.Replica.Certificates.{brought}
 use Rattle.protocol.specs.Replica.RightReplica.{SendsBytes, SentBefore}
 use Rattle.protocol.proofs.Words.Options.{some_injective}
@@ -30,11 +30,7 @@ unsigned_sends_none c past (Sent p bytes) body says unsigned sent leaf is now =
     let none : leaf_of bytes ≡ None = unsigned_no_leaf bytes body says unsigned in
     absurd (let bad : None ≡ Some leaf = sym none ∙ ap leaf_of now ∙ is in cc)
 unsigned_sends_none c past (Got x y) body says unsigned sent leaf is now = absurd now
-unsigned_sends_none c past (Invoke x y z) body says unsigned sent leaf is now = absurd now
-unsigned_sends_none c past (Tick x) body says unsigned sent leaf is now = absurd now
-unsigned_sends_none c past (Executed x y z) body says unsigned sent leaf is now = absurd now
-unsigned_sends_none c past (Installed x y z) body says unsigned sent leaf is now = absurd now
-unsigned_sends_none c past (Accepted x y z) body says unsigned sent leaf is now = absurd now
+unsigned_sends_none c past _ body says unsigned sent leaf is now = absurd now
 
 -- Leaves that have signed what was sent have signed it later too.
 pub leaves_remain : (spent : ℕ) (past : List Entry) (e : Entry) → AreLeavesSent spent past → AreLeavesSent spent (e ∷ past)

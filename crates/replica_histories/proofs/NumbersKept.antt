@@ -8,7 +8,7 @@ use Rattle.wire.specs.Messages.{BodyData as Body, MessageData as Message, pre_pr
 use Rattle.wire.specs.Words.{said}
 use Rattle.protocol.specs.System.Configuration.{Configuration, primary}
 use Rattle.protocol.specs.System.Trace.{Entry, party_of}
-use Rattle.protocol.specs.System.Trace.Entry.{Invoke, Got, Tick, Executed, Installed, Sent, Accepted}
+use Rattle.protocol.specs.System.Trace.Entry.{Got, Sent}
 use Rattle.protocol.specs.Replica.Certificates.{brought, taken, low, is_in_marks, are_genuine, counts_at, batch_from, batch_begun, begun_proposal, entry_proposal, proposal, logged}
 use Rattle.protocol.specs.Replica.Owed.{IsNumbered}
 use Rattle.protocol.proofs.Words.Options.{and_then_some, then_some_gives, some_injective, or_else_second}
@@ -95,11 +95,7 @@ proposed_by_other c me v i batch (Sent p bytes) own here none body brings messag
     let is : is_pre_prepare body.message ≡ false = ap (λ (o : Option Body). option_map_or (λ (b : Body). is_pre_prepare b.message) o false) (sym brings) ∙ none in
     let bad : true ≡ false = ap is_pre_prepare (sym message) ∙ is in
     cc
-proposed_by_other c me v i batch (Invoke x y z) own here none body brings message sender = cc
-proposed_by_other c me v i batch (Tick x) own here none body brings message sender = cc
-proposed_by_other c me v i batch (Executed x y z) own here none body brings message sender = cc
-proposed_by_other c me v i batch (Installed x y z) own here none body brings message sender = cc
-proposed_by_other c me v i batch (Accepted x y z) own here none body brings message sender = cc
+proposed_by_other c me v i batch _ own here none body brings message sender = cc
 
 pub others_keep_numbers : OthersKeepNumbers
 others_keep_numbers c me v past e own here none sends = keeps c me v past e none same

@@ -11,7 +11,7 @@ use Rattle.ordering.specs.Log as logs
 use Rattle.ordering.specs.Log.{LogData}
 use Rattle.protocol.specs.System.Configuration.{Configuration, primary}
 use Rattle.protocol.specs.System.Trace.{Entry, Once, Has}
-use Rattle.protocol.specs.System.Trace.Entry.{Invoke, Got, Tick, Executed, Installed, Sent, Accepted}
+use Rattle.protocol.specs.System.Trace.Entry.{Sent}
 use Rattle.protocol.specs.Replica.Selection.{ascending, changes_of, count_in, is_quorum, is_start, is_within, is_null, is_some_below, may_be_null, may_stand, may_stand_at, may_all_stand, null_batch}
 use Rattle.protocol.specs.Replica.Certificates.{change_from, change_sent, target, view}
 use Rattle.protocol.specs.Replica.RightReplica.{Point, Leaves, IsStep, MaySay, MaySend, MayViewChange, SendsBytes}
@@ -125,12 +125,7 @@ Says me vc past e = IsSaying me (ViewChange vc) e
 
 says_view : (me : ℕ) (vc : ViewChangeData) (past : List Entry) (e : Entry) → Says me vc past e → change_sent e ≡ vc.view
 says_view me vc past (Sent p bytes) h = ap (λ (o : Option Body). option_map_or change_from o 0) h
-says_view me vc past (Invoke x y z) h = absurd h
-says_view me vc past (Got x y) h = absurd h
-says_view me vc past (Tick x) h = absurd h
-says_view me vc past (Executed x y z) h = absurd h
-says_view me vc past (Installed x y z) h = absurd h
-says_view me vc past (Accepted x y z) h = absurd h
+says_view me vc past _ h = absurd h
 
 said_below : (me : ℕ) (vc : ViewChangeData) (history : List Entry) → Once (Says me vc) history → vc.view ≤ target history
 said_below me vc [] h = absurd h
@@ -143,12 +138,7 @@ change_in_body other body = elim body.message [ ViewChange vc ↦ vc | _ ↦ oth
 same_said : (me : ℕ) (a b : ViewChangeData) (past : List Entry) (e : Entry) → Says me a past e → Says me b past e → a ≡ b
 unfolding change_in_body
 same_said me a b past (Sent p bytes) h k = ap (change_in_body a) (some_injective (record { sender = me; message = ViewChange a }) (record { sender = me; message = ViewChange b }) (sym h ∙ k))
-same_said me a b past (Invoke x y z) h k = absurd h
-same_said me a b past (Got x y) h k = absurd h
-same_said me a b past (Tick x) h k = absurd h
-same_said me a b past (Executed x y z) h k = absurd h
-same_said me a b past (Installed x y z) h k = absurd h
-same_said me a b past (Accepted x y z) h k = absurd h
+same_said me a b past _ h k = absurd h
 
 -- it is for a later view than all before, or was sent before
 new_or_again : (c : Configuration) (me : ℕ) (vc : ViewChangeData) (past : List Entry) (e : Entry) (old new : Point) → IsStep c me past old e new → Says me vc past e
@@ -164,12 +154,7 @@ new_or_again c me vc past (Sent p bytes) old new step h = go (subst (λ (m : Mes
     go : MayViewChange c me past old bytes vc → (target past < vc.view) ⊎ ((vc.view ≡ target past) × Once (Says me vc) past)
     go (inl n) = inl n.newer
     go (inr again) = inr (again.1, once_weaker (SendsBytes bytes) (Says me vc) (λ earlier x sends. sends_says me (ViewChange vc) bytes earlier x h sends) past again.2)
-new_or_again c me vc past (Invoke x y z) old new step h = absurd h
-new_or_again c me vc past (Got x y) old new step h = absurd h
-new_or_again c me vc past (Tick x) old new step h = absurd h
-new_or_again c me vc past (Executed x y z) old new step h = absurd h
-new_or_again c me vc past (Installed x y z) old new step h = absurd h
-new_or_again c me vc past (Accepted x y z) old new step h = absurd h
+new_or_again c me vc past _ old new step h = absurd h
 
 -- the earlier of two is the later one, or below it
 earlier_change : (me : ℕ) (a b : ViewChangeData) (e : Entry) (past : List Entry) → b.view ≤ target past → target (e ∷ past) ≡ a.view → target (e ∷ past) ≡ b.view

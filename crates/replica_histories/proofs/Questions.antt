@@ -8,7 +8,7 @@ use Rattle.signing.specs.Heard.{heard}
 use Rattle.protocol.specs.System.Configuration.{Configuration, members}
 use Rattle.protocol.specs.System.Frames.{same_mode}
 use Rattle.protocol.specs.System.Trace.{Entry, Has, Hears}
-use Rattle.protocol.specs.System.Trace.Entry.{Invoke, Got, Tick, Executed, Installed, Sent, Accepted}
+use Rattle.protocol.specs.System.Trace.Entry.{Got}
 use Rattle.protocol.specs.Replica.Owed.{HasToMove}
 use Rattle.protocol.specs.Replica.RightReplica.{Point}
 use Rattle.protocol.specs.Replica.State.{Call}
@@ -19,29 +19,14 @@ use Rattle.replica_histories.specs.Questions.{is_question, is_part, has_question
 use Rattle.replica_histories.specs.TransfersAnswers.{AnswersFetches}
 use Rattle.replica_histories.proofs.TransfersAnswering.{hears_one}
 
--- the body of an input tells whether it asks
-asks_so : (c : Configuration) (me : ℕ) (body : Body) (before : List Entry) (input : Entry) → Hears c me body before input → brings_question c me input ≡ is_question body
-asks_so c me body before (Got p bytes) h = ap has_question h
-asks_so c me body before (Invoke x y z) h = absurd h
-asks_so c me body before (Tick x) h = absurd h
-asks_so c me body before (Executed x y z) h = absurd h
-asks_so c me body before (Installed x y z) h = absurd h
-asks_so c me body before (Sent x y) h = absurd h
-asks_so c me body before (Accepted x y z) h = absurd h
-
 -- a body is a view change
 abbrev pub is_change : Body → Bool
 is_change body = elim body.message [ ViewChange vc ↦ true | _ ↦ false ]
 
--- or whether it asks for a part, or is a request
+-- The body of an input tells whether it asks for a part, or is a request.
 part_so : (c : Configuration) (me : ℕ) (body : Body) (before : List Entry) (input : Entry) → Hears c me body before input → brings_part c me input ≡ asks_part body
 part_so c me body before (Got p bytes) h = ap has_part h
-part_so c me body before (Invoke x y z) h = absurd h
-part_so c me body before (Tick x) h = absurd h
-part_so c me body before (Executed x y z) h = absurd h
-part_so c me body before (Installed x y z) h = absurd h
-part_so c me body before (Sent x y) h = absurd h
-part_so c me body before (Accepted x y z) h = absurd h
+part_so c me body before _ h = absurd h
 
 pub others_owe_no_part : OthersOweNoPart
 others_owe_no_part c me before input outputs old executed none = (
@@ -59,12 +44,7 @@ no_question c me p before bytes waiting v none (inr (taken, joins)) = absurd (le
 
 pub no_move_owed : (c : Configuration) (me : ℕ) (before : List Entry) (input : Entry) (outputs : List Entry) (old : Point) → brings_question c me input ≡ false → MovesOn c me before input outputs old
 no_move_owed c me before (Got p bytes) outputs old none = λ vc other reason may within says. absurd (no_question c me p before bytes old.waiting vc.view none reason)
-no_move_owed c me before (Invoke x y z) outputs old none = absurd cc
-no_move_owed c me before (Tick x) outputs old none = absurd cc
-no_move_owed c me before (Executed x y z) outputs old none = absurd cc
-no_move_owed c me before (Installed x y z) outputs old none = absurd cc
-no_move_owed c me before (Sent x y) outputs old none = absurd cc
-no_move_owed c me before (Accepted x y z) outputs old none = absurd cc
+no_move_owed c me before _ outputs old none = absurd cc
 
 -- an input that asks nothing asks for no part
 part_of : (sender : ℕ) (message : Message) → is_question (record { sender = sender; message = message }) ≡ false → asks_part (record { sender = sender; message = message }) ≡ false

@@ -6,7 +6,7 @@ use Rattle.std.proofs.lemmas.Bool.{eqb-false, lt-ltb, ltb-true, ltb-false}
 use Rattle.wire.specs.Messages.{ViewChangeData}
 use Rattle.protocol.specs.System.Configuration.{Configuration}
 use Rattle.protocol.specs.System.Trace.{Entry, Once}
-use Rattle.protocol.specs.System.Trace.Entry.{Invoke, Got, Tick, Executed, Installed, Sent, Accepted}
+use Rattle.protocol.specs.System.Trace.Entry.{Got, Sent}
 use Rattle.protocol.specs.Replica.Selection.{is_within, signed_change}
 use Rattle.protocol.specs.Replica.Certificates.{view, change_taken, change_at, latest_change}
 use Rattle.protocol.specs.Replica.RightReplica.{HasSeen}
@@ -62,21 +62,11 @@ taken_is c v s bytes x signed = ap (λ (o : Option (ℕ × ViewChangeData)). opt
 -- an entry brings each one that counts
 pub brings_view : (c : Configuration) (x : ℕ × ViewChangeData) (past : List Entry) (e : Entry) → BringsChange c x past e → change_at c past e x.0 ≡ x.1.view
 brings_view c x past (Got p bytes) h = taken_is c (view c past) x.0 bytes x h.0 ∙ rw (eq-eqb x.0 x.0 refl, lt-ltb (view c past) x.1.view h.1.0, h.1.1) refl
-brings_view c x past (Invoke a b d) h = absurd h
-brings_view c x past (Tick a) h = absurd h
-brings_view c x past (Executed a b d) h = absurd h
-brings_view c x past (Installed a b d) h = absurd h
-brings_view c x past (Sent a b) h = absurd h
-brings_view c x past (Accepted a b d) h = absurd h
+brings_view c x past _ h = absurd h
 
 pub brings_newer : (c : Configuration) (x : ℕ × ViewChangeData) (past : List Entry) (e : Entry) → BringsChange c x past e → latest_change c past x.0 < x.1.view
 brings_newer c x past (Got p bytes) h = h.1.2
-brings_newer c x past (Invoke a b d) h = absurd h
-brings_newer c x past (Tick a) h = absurd h
-brings_newer c x past (Executed a b d) h = absurd h
-brings_newer c x past (Installed a b d) h = absurd h
-brings_newer c x past (Sent a b) h = absurd h
-brings_newer c x past (Accepted a b d) h = absurd h
+brings_newer c x past _ h = absurd h
 
 -- and the latest is no earlier
 once_latest : (c : Configuration) (x : ℕ × ViewChangeData) (history : List Entry) → Once (BringsChange c x) history → x.1.view ≤ latest_change c history x.0

@@ -16,7 +16,7 @@ use Rattle.ordering.specs.Log.{LogData}
 use Rattle.protocol.specs.System.Configuration.{Configuration, is_client}
 use Rattle.protocol.specs.System.Frames.{same_mode}
 use Rattle.protocol.specs.System.Trace.{Entry, is_output, Once, Always, Has, either}
-use Rattle.protocol.specs.System.Trace.Entry.{Invoke, Got, Tick, Executed, Installed, Sent, Accepted}
+use Rattle.protocol.specs.System.Trace.Entry.{Sent}
 use Rattle.protocol.specs.Replica.Certificates.{greatest, first_given, change_from, change_sent, view, target, is_active_in, taken}
 use Rattle.protocol.specs.Replica.State.{State, Call, call_in, call_of, runs, kept_by, ran_call, run_call, run_frame, ran_by, ran_in, last_time}
 use Rattle.protocol.specs.Replica.RightReplica.{Point, Leaves, MaySay, MayNewView, MayFetch, IsAskedAgain, SendsBytes, SentBefore, SentInEvent, reply_of}
@@ -37,12 +37,7 @@ use Rattle.replica_histories.proofs.NumbersWaiting.{call_raises, frames_raise}
 
 pub sends_says : (me : ℕ) (message : Message) (bytes : List ℕ) (past : List Entry) (e : Entry) → said bytes ≡ Some (record { sender = me; message = message }) → SendsBytes bytes past e → IsSaying me message e
 sends_says me message bytes past (Sent p sent) says h = subst (λ (x : List ℕ). said x ≡ Some (record { sender = me; message = message })) (sym h) says
-sends_says me message bytes past (Invoke x y z) says h = h
-sends_says me message bytes past (Got x y) says h = h
-sends_says me message bytes past (Tick x) says h = h
-sends_says me message bytes past (Executed x y z) says h = h
-sends_says me message bytes past (Installed x y z) says h = h
-sends_says me message bytes past (Accepted x y z) says h = h
+sends_says me message bytes past _ says h = h
 
 -- the event has not sent a message that it didn't say
 pub unsent : (me : ℕ) (s : Start) (message : Message) (bytes : List ℕ) (outputs : List Entry) → is_output s.input ≡ false → said bytes ≡ Some (record { sender = me; message = message })
@@ -79,12 +74,7 @@ never_given give bytes gives (e ∷ past) none (inl h) = now e (both_none (first
   where
     now : (e : Entry) → give past e ≡ None → SendsBytes bytes past e → ⊥
     now (Sent p sent) given k = let g = gives past p in given_not (give past (Sent p bytes)) g.0 g.1 (subst (λ (x : List ℕ). give past (Sent p x) ≡ None) k given)
-    now (Invoke x y z) given k = k
-    now (Got x y) given k = k
-    now (Tick x) given k = k
-    now (Executed x y z) given k = k
-    now (Installed x y z) given k = k
-    now (Accepted x y z) given k = k
+    now _ given k = k
 
 pub new_by : {A : Type 0} (give : List Entry → Entry → Option A) (bytes : List ℕ) → ((past : List Entry) (p : ℕ) → (x : A) × (give past (Sent p bytes) ≡ Some x)) → (history : List Entry)
     → first_given give history ≡ None → SentInEvent bytes history → ⊥
@@ -98,12 +88,7 @@ at_most number bytes k is (e ∷ past) (inl h) = let same = now e h in omega ari
   where
     now : (e : Entry) → SendsBytes bytes past e → number e ≡ k
     now (Sent p sent) same = ap (λ (x : List ℕ). number (Sent p x)) same ∙ is p
-    now (Invoke x y z) same = absurd same
-    now (Got x y) same = absurd same
-    now (Tick x) same = absurd same
-    now (Executed x y z) same = absurd same
-    now (Installed x y z) same = absurd same
-    now (Accepted x y z) same = absurd same
+    now _ same = absurd same
 
 pub change_is_new : (me : ℕ) (vc : ViewChangeData) (bytes : List ℕ) (history : List Entry) → said bytes ≡ Some (record { sender = me; message = ViewChange vc }) → target history < vc.view → SentInEvent bytes history → ⊥
 change_is_new me vc bytes history says newer h =
@@ -120,12 +105,7 @@ none_asked bytes is (e ∷ past) none h = go (none_asked bytes is past) (is_outp
   where
     now : (e : Entry) → is_fetch e ≡ false → SendsBytes bytes past e → ⊥
     now (Sent p sent) other same = apart (is_fetch (Sent p bytes)) (is p) (subst (λ (x : List ℕ). is_fetch (Sent p x) ≡ false) same other)
-    now (Invoke x y z) other same = same
-    now (Got x y) other same = same
-    now (Tick x) other same = same
-    now (Executed x y z) other same = same
-    now (Installed x y z) other same = same
-    now (Accepted x y z) other same = same
+    now _ other same = same
 
     go : (NoneAsked past → SentInEvent bytes past → ⊥) → (b : Bool) → either b ((is_fetch e ≡ false) × NoneAsked past) ⊤ → either b (SendsBytes bytes past e ⊎ SentInEvent bytes past) ⊥ → ⊥
     go earlier true n (inl k) = now e n.0 k
@@ -171,12 +151,7 @@ view_is_new c me past point new bytes leaves says t h =
             let is = eqb-true (view c x) new.view (and_parts (view c x == new.view) (nat_le (target x) new.view) k.0).0 in
             let grows = view_grows c (Sent p sent) x in
             omega arith
-    begun x (Invoke a b d) r same = absurd same
-    begun x (Got a b) r same = absurd same
-    begun x (Tick a) r same = absurd same
-    begun x (Executed a b d) r same = absurd same
-    begun x (Installed a b d) r same = absurd same
-    begun x (Accepted a b d) r same = absurd same
+    begun x _ r same = absurd same
 
     there : new.view ≤ view c past
     there =

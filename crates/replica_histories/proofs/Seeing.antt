@@ -7,7 +7,7 @@ use Rattle.wire.specs.Words.{requests_of, requests_of_all, carried}
 use Rattle.wire.specs.Lists.{Each}
 use Rattle.protocol.specs.System.Configuration.{Configuration, primary}
 use Rattle.protocol.specs.System.Trace.{Entry, Once, Has}
-use Rattle.protocol.specs.System.Trace.Entry.{Invoke, Got, Tick, Executed, Installed, Sent, Accepted}
+use Rattle.protocol.specs.System.Trace.Entry.{Got, Sent}
 use Rattle.protocol.specs.Replica.Certificates.{brought, taken, new_view_from, low, is_in_marks, are_genuine, batch_from, batch_begun, begun_proposal, entry_proposal, proposal, logged}
 use Rattle.protocol.specs.Replica.RightReplica.{HasSeen}
 use Rattle.protocol.proofs.Words.Options.{or_else_cases, and_then_some, then_some_gives, given_once}
@@ -23,11 +23,7 @@ use Rattle.replica_histories.proofs.Words.{passed}
 brought_seen : (c : Configuration) (body : Body) (frame : List ℕ) (past : List Entry) (e : Entry) → brought c e ≡ Some body → Has (λ x. x ≡ frame) (carried body.message) → HasSeen frame past e
 brought_seen c body frame past (Got p bytes) h has = inr (subst (λ (o : Option Body). Has (λ x. x ≡ frame) (option_map_or (λ (b : Body). carried b.message) o [])) (sym (heard_said c p bytes body h)) has)
 brought_seen c body frame past (Sent p bytes) h has = inr (subst (λ (o : Option Body). Has (λ x. x ≡ frame) (option_map_or (λ (b : Body). carried b.message) o [])) (sym h) has)
-brought_seen c body frame past (Invoke x y z) h has = absurd (let bad : None ≡ Some body = h in cc)
-brought_seen c body frame past (Tick x) h has = absurd (let bad : None ≡ Some body = h in cc)
-brought_seen c body frame past (Executed x y z) h has = absurd (let bad : None ≡ Some body = h in cc)
-brought_seen c body frame past (Installed x y z) h has = absurd (let bad : None ≡ Some body = h in cc)
-brought_seen c body frame past (Accepted x y z) h has = absurd (let bad : None ≡ Some body = h in cc)
+brought_seen c body frame past _ h has = absurd (let bad : None ≡ Some body = h in cc)
 
 -- a pre-prepare carries the requests of its batch
 batch_carried : (c : Configuration) (me v i : ℕ) (text frame : List ℕ) (sender : ℕ) (message : Message) → batch_from c me v i (record { sender = sender; message = message }) ≡ Some text

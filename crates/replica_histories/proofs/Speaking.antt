@@ -8,7 +8,7 @@ use Rattle.signing.specs.Heard.{heard}
 use Rattle.signing.proofs.Heard.{heard_was_opened}
 use Rattle.protocol.specs.System.Configuration.{Configuration, primary, members}
 use Rattle.protocol.specs.System.Trace.{Entry, is_output, Once, Always}
-use Rattle.protocol.specs.System.Trace.Entry.{Invoke, Got, Tick, Executed, Installed, Sent, Accepted}
+use Rattle.protocol.specs.System.Trace.Entry.{Got, Sent}
 use Rattle.protocol.specs.Replica.Certificates.{prepare_from, commit_from, vote_in, prepare_of, commit_of, Prepared}
 use Rattle.protocol.specs.Replica.RightReplica.{Point, Leaves}
 use Rattle.protocol.specs.Replica.Owed.{IsSaying, SendsMessage}
@@ -27,11 +27,7 @@ heard_other c me bytes body h = (heard_was_opened (members c) me bytes body h).o
 own_said : (c : Configuration) (me : ℕ) (body : Body) → body.sender ≡ me → (past : List Entry) (e : Entry) → RightAt c me past e → Brings c body past e → Speaks body past e
 own_said c me body own past (Got p bytes) r h = absurd (heard_other c p bytes body h (own ∙ sym r.own))
 own_said c me body own past (Sent p bytes) r h = h
-own_said c me body own past (Invoke x y z) r h = absurd cc
-own_said c me body own past (Tick x) r h = absurd cc
-own_said c me body own past (Executed x y z) r h = absurd cc
-own_said c me body own past (Installed x y z) r h = absurd cc
-own_said c me body own past (Accepted x y z) r h = absurd cc
+own_said c me body own past _ r h = absurd cc
 
 pub own_spoken : (c : Configuration) (me : ℕ) (body : Body) (past : List Entry) (point : Point) → Leaves c me past point → body.sender ≡ me → Once (Brings c body) past → Once (Speaks body) past
 own_spoken c me body past point leaves own h =
@@ -108,21 +104,11 @@ spoken_certified c me v i d past point leaves h =
 
 pub says : (me : ℕ) (message : Message) (past : List Entry) (e : Entry) → Speaks (record { sender = me; message = message }) past e → IsSaying me message e
 says me message past (Sent p bytes) h = h
-says me message past (Invoke x y z) h = h
-says me message past (Got x y) h = h
-says me message past (Tick x) h = h
-says me message past (Executed x y z) h = h
-says me message past (Installed x y z) h = h
-says me message past (Accepted x y z) h = h
+says me message past _ h = h
 
 inputs_say_nothing : (me : ℕ) (message : Message) (e : Entry) → is_output e ≡ false → IsSaying me message e → ⊥
 inputs_say_nothing me message (Sent p bytes) o h = absurd cc
-inputs_say_nothing me message (Invoke x y z) o h = h
-inputs_say_nothing me message (Got x y) o h = h
-inputs_say_nothing me message (Tick x) o h = h
-inputs_say_nothing me message (Executed x y z) o h = h
-inputs_say_nothing me message (Installed x y z) o h = h
-inputs_say_nothing me message (Accepted x y z) o h = h
+inputs_say_nothing me message _ o h = h
 
 pub in_event : (me : ℕ) (message : Message) (s : Start) (outputs : List Entry) → is_output s.input ≡ false → Once (Speaks (record { sender = me; message = message })) (after_outputs s outputs)
     → SendsMessage me message outputs ⊎ Once (Speaks (record { sender = me; message = message })) s.before

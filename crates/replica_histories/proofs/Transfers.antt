@@ -121,21 +121,11 @@ none_from (Some body) h = no_number body.sender body.message h
 
 fetches_none : (e : Entry) → place_sent e ≡ None → fetch_sent e ≡ 0
 fetches_none (Sent p bytes) h = none_from (said bytes) h
-fetches_none (Invoke x y z) h = refl
-fetches_none (Got x y) h = refl
-fetches_none (Tick x) h = refl
-fetches_none (Executed x y z) h = refl
-fetches_none (Installed x y z) h = refl
-fetches_none (Accepted x y z) h = refl
+fetches_none _ h = refl
 
 last_same : (past : List Entry) (e : Entry) → place_sent e ≡ None → asked_last (e ∷ past) ≡ asked_last past
 last_same past (Sent p bytes) h = or_else_second (option_and_then place_from (said bytes)) (asked_last past) h
-last_same past (Invoke x y z) h = refl
-last_same past (Got x y) h = refl
-last_same past (Tick x) h = refl
-last_same past (Executed x y z) h = refl
-last_same past (Installed x y z) h = refl
-last_same past (Accepted x y z) h = refl
+last_same past _ h = refl
 
 pub asked_stays : AskedStays
 asked_stays past e h = (let none = fetches_none e h in omega arith, last_same past e h)

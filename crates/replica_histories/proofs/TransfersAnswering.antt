@@ -11,7 +11,7 @@ use Rattle.wire.specs.Words.{carried, frame_of, receivers_of}
 use Rattle.wire.proofs.Saying.{says_what_is_spelled, reads_frames}
 use Rattle.protocol.specs.System.Configuration.{Configuration}
 use Rattle.protocol.specs.System.Trace.{Entry, Has, Hears}
-use Rattle.protocol.specs.System.Trace.Entry.{Invoke, Got, Tick, Executed, Installed, Sent, Accepted}
+use Rattle.protocol.specs.System.Trace.Entry.{Invoke, Got, Executed, Installed, Accepted}
 use Rattle.protocol.specs.Replica.Certificates.{low}
 use Rattle.protocol.specs.Replica.State.{State, opening, execute, pages_of, page_text}
 use Rattle.protocol.specs.Replica.RightReplica.{Point, Leaves, IsStep, KeptState, kept_states, executed_point, MaySay, IsFor, WasAsked, digests_at}
@@ -60,17 +60,15 @@ distinct_executed c old k batch d = go (execute c old.state batch) (executed_num
     go st next false = distinct_higher old.snapshots old.state.number st.number (omega arith) d
 
 distinct_step : (c : Configuration) (me : ℕ) (past : List Entry) (old : Point) (e : Entry) (new : Point) → IsStep c me past old e new → IsDistinct old → IsDistinct new
-distinct_step c me past old (Got p bytes) new s d = subst IsDistinct (sym s.moves) d
-distinct_step c me past old (Tick p) new s d = subst IsDistinct (sym s.moves) d
 distinct_step c me past old (Executed r k batch) new s d = subst IsDistinct (sym s.moves) (distinct_executed c old k batch d)
 distinct_step c me past old (Installed r k root) new s d =
     let m = s.moves in
     let is = m.number in
     let above = s.may.0 in
     subst (λ (xs : List State). Distinct xs new.state.number) (sym m.snapshots) (distinct_with new.state old.snapshots old.state.number (omega arith) d)
-distinct_step c me past old (Sent p bytes) new s d = subst IsDistinct (sym s.moves) d
 distinct_step c me past old (Invoke x y z) new s d = absurd s.may
 distinct_step c me past old (Accepted x y z) new s d = absurd s.may
+distinct_step c me past old _ new s d = subst IsDistinct (sym s.moves) d
 
 pub distinct : (c : Configuration) (me : ℕ) (history : List Entry) (point : Point) → Leaves c me history point → IsDistinct point
 distinct c me [] point is = subst IsDistinct (sym is) (record { below = below; one = one })
@@ -139,12 +137,7 @@ answer_is st k levels.Page index within = ap (Page k index) (pages_read st index
 
 hears_within : (c : Configuration) (me s k : ℕ) (level : Level) (index : ℕ) (past : List Entry) (e : Entry) → Hears c me (record { sender = s; message = Fetch k level index }) past e → index ≤ last_index level
 hears_within c me s k level index past (Got p bytes) h = (heard_valid c me bytes (record { sender = s; message = Fetch k level index }) h).1
-hears_within c me s k level index past (Invoke x y z) h = absurd h
-hears_within c me s k level index past (Tick x) h = absurd h
-hears_within c me s k level index past (Executed x y z) h = absurd h
-hears_within c me s k level index past (Installed x y z) h = absurd h
-hears_within c me s k level index past (Sent x y) h = absurd h
-hears_within c me s k level index past (Accepted x y z) h = absurd h
+hears_within c me s k level index past _ h = absurd h
 
 asked_within : (c : Configuration) (me s k : ℕ) (level : Level) (index : ℕ) (past : List Entry) → WasAsked c me past s k level index → index ≤ last_index level
 asked_within c me s k level index past h =
@@ -199,12 +192,7 @@ posted_to_one c me s message bytes posted =
 -- an input has one body
 pub hears_one : (c : Configuration) (me : ℕ) (a b : Body) (past : List Entry) (e : Entry) → Hears c me a past e → Hears c me b past e → a ≡ b
 hears_one c me a b past (Got p bytes) h g = some_injective a b (sym h ∙ g)
-hears_one c me a b past (Invoke x y z) h g = absurd h
-hears_one c me a b past (Tick x) h g = absurd h
-hears_one c me a b past (Executed x y z) h g = absurd h
-hears_one c me a b past (Installed x y z) h g = absurd h
-hears_one c me a b past (Sent x y) h g = absurd h
-hears_one c me a b past (Accepted x y z) h g = absurd h
+hears_one c me a b past _ h g = absurd h
 
 -- the answer to one fetch of an input answers each
 answers_each : (c : Configuration) (me : ℕ) (before : List Entry) (input : Entry) (outputs : List Entry) (old : Point) (s k index : ℕ) (level : Level) → Hears c me (record { sender = s; message = Fetch k level index }) before input

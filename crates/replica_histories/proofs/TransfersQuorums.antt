@@ -12,7 +12,7 @@ use Rattle.wire.specs.Messages.{BodyData as Body, MessageData as Message, Checkp
 use Rattle.wire.specs.Words.{said}
 use Rattle.protocol.specs.System.Configuration.{Configuration, replicas, is_number}
 use Rattle.protocol.specs.System.Trace.{Entry, Has}
-use Rattle.protocol.specs.System.Trace.Entry.{Invoke, Got, Tick, Executed, Installed, Sent, Accepted}
+use Rattle.protocol.specs.System.Trace.Entry.{Sent}
 use Rattle.protocol.specs.Replica.Selection.{is_quorum}
 use Rattle.protocol.specs.Replica.Certificates.{checkpoint_from, checkpoint_in, insert_checkpoint, with_checkpoint, checkpoints_of, says_checkpoint, count_checkpoints, taken}
 use Rattle.protocol.specs.Replica.Transfers.{fetch_sent, fetching}
@@ -251,12 +251,7 @@ fetching_grows (e ∷ outputs) past = let l = fetching_grows outputs past in ome
 -- the number of a fetch that the replica sends
 pub says_number : (me k : ℕ) (e : Entry) → IsSaying me (Fetch k levels.Root 0) e → fetch_sent e ≡ k
 says_number me k (Sent p bytes) h = ap (λ (o : Option Body). option_map_or number_of o 0) h
-says_number me k (Invoke x y z) h = absurd h
-says_number me k (Got x y) h = absurd h
-says_number me k (Tick x) h = absurd h
-says_number me k (Executed x y z) h = absurd h
-says_number me k (Installed x y z) h = absurd h
-says_number me k (Accepted x y z) h = absurd h
+says_number me k _ h = absurd h
 
 given_fetched : (me k : ℕ) (outputs past : List Entry) → SendsMessage me (Fetch k levels.Root 0) outputs → k ≤ fetching (outputs ++ past)
 given_fetched me k [] past h = absurd h

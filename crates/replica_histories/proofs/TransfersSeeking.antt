@@ -16,7 +16,7 @@ use Rattle.partition_tree.specs.Digests.{digest_of_children, page_digests, inner
 use Rattle.wire.specs.Messages.{meta as Meta}
 use Rattle.protocol.specs.System.Configuration.{Configuration}
 use Rattle.protocol.specs.System.Trace.{Entry, Once, Hears}
-use Rattle.protocol.specs.System.Trace.Entry.{Invoke, Got, Tick, Executed, Installed, Sent, Accepted}
+use Rattle.protocol.specs.System.Trace.Entry.{Got}
 use Rattle.protocol.specs.Replica.State.{State, page_text, all_pages}
 use Rattle.protocol.specs.Replica.Transfers.{GotBelow, NoneAsked, IsFirstToDiffer, DiffersFirst, IsNext, in_place}
 use Rattle.protocol.proofs.Words.Options.{some_injective}
@@ -68,12 +68,7 @@ first_difference (suc n) (x ∷ xs) (y ∷ ys) a b other = go (cases_Bool (bytes
 -- are those of 32 children
 heard_full : (c : Configuration) (me s n index : ℕ) (level : Level) (digests : List (List ℕ)) (e : Entry) (past : List Entry) → Hears c me (record { sender = s; message = Meta n level index digests }) past e → length digests ≡ 32
 heard_full c me s n index level digests (Got p bytes) past h = (heard_valid c me bytes (record { sender = s; message = Meta n level index digests }) h).3
-heard_full c me s n index level digests (Invoke x y z) past h = absurd h
-heard_full c me s n index level digests (Tick x) past h = absurd h
-heard_full c me s n index level digests (Executed x y z) past h = absurd h
-heard_full c me s n index level digests (Installed x y z) past h = absurd h
-heard_full c me s n index level digests (Sent x y) past h = absurd h
-heard_full c me s n index level digests (Accepted x y z) past h = absurd h
+heard_full c me s n index level digests _ past h = absurd h
 
 once_full : (c : Configuration) (me s n index : ℕ) (level : Level) (digests : List (List ℕ)) (past : List Entry) → Once (Hears c me (record { sender = s; message = Meta n level index digests })) past → length digests ≡ 32
 once_full c me s n index level digests [] h = absurd h

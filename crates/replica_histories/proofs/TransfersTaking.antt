@@ -75,12 +75,9 @@ newer_taken c me k t past l taken i within = newer_takes_nothing c me k i past l
 pub took_stays : (c : Configuration) (me i : ℕ) (past : List Entry) (e : Entry) → place_sent e ≡ None → LeavesState e → took c me None (e ∷ past) i ≡ took c me None past i
 unfolding took
 took_stays c me i past (Sent p bytes) none leaves = Taken.outputs_tell_nothing c me p i None past bytes none
-took_stays c me i past (Got p bytes) none leaves = refl
-took_stays c me i past (Tick p) none leaves = refl
 took_stays c me i past (Executed r n batch) none leaves = absurd leaves
 took_stays c me i past (Installed r n root) none leaves = absurd leaves
-took_stays c me i past (Invoke x y z) none leaves = refl
-took_stays c me i past (Accepted x y z) none leaves = refl
+took_stays c me i past _ none leaves = refl
 
 pub nothing_at_first : (c : Configuration) (me : ℕ) → NoneTaken c me None []
 unfolding took
