@@ -38,7 +38,7 @@ fn has_read_only_mode(bytes: &[u8]) -> bool
 }
 
 /// The read-only request that the replica hears from bytes with these marks. They are judged in their place: nothing
-/// is decoded, and only the keys that the ring keeps take memory.
+/// is decoded, and only the keys and requests that the ring keeps take memory.
 pub fn hear_read<'b>(ring: &mut Ring, me: ReplicaId, bytes: &'b [u8]) -> Option<ReadRequest<'b>>
     requires marks { asks_read bytes.now ≡ true }
     ensures some { IfSome result

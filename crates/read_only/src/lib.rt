@@ -5,8 +5,8 @@
 //!
 //! `asks_read` looks at two bytes. If it says false, no party hears a read-only request from the bytes. From all
 //! other bytes `hear_read` hears the request that the definitions say, in their place: nothing is decoded, and only
-//! the keys that the ring keeps take memory. `answer` gives the reply to a read from the tuples of a [`Shelf`]. It
-//! refuses exactly the operations that may change a space, and memory runs out only for others.
+//! the keys and requests that the ring keeps take memory. `answer` gives the reply to a read from the tuples of a
+//! [`Shelf`]. It refuses exactly the operations that may change a space, and memory runs out only for others.
 //!
 //! The borrow checker ensures that no part of an operation outlives its read in the arena. `tools/refuses_to_compile`
 //! tries a text that keeps one.
