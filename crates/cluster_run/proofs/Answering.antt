@@ -1,13 +1,12 @@
 -- The answers of all clients' calls.
 use Rattle.std.proofs.Common.{◌≡◌, ℕ, zero, suc, ◌+◌, ◌-◌, ◌*◌, ◌/◌, ◌%◌, ◌<◌, ◌==◌, inl, inr, List, [], ◌∷◌, ◌++◌, length, map, refl, sym, ap, ◌∙◌, subst, arith}
-use Rattle.std.specs.Prelude.{Contains, IfOk, Result, Some, slice_get}
+use Rattle.std.specs.Prelude.{Contains, Some, slice_get}
 use Rattle.std.specs.Option.{option_map}
 use Rattle.std.specs.declared.alloc.Global.{Global}
 use Rattle.std.specs.declared.vec.Vec.{Vec}
 use Rattle.std.proofs.lemmas.List.{length_push, length-map}
 use Rattle.std.proofs.lemmas.List.Elements.{All-contains, All-contains_itself, All-filter, All-get_or, Contains-append_right}
 use Rattle.std.proofs.lemmas.Nat.{div-add-mod', mod_below}
-use Rattle.std.proofs.lemmas.Result.{IfOk-weaker}
 use Rattle.std.proofs.lemmas.Option.{get_or_from_slice_get, none-some, same_Some, slice_get-map, slice_get_within}
 use Rattle.tuple_codec.specs.Operations.{Operation, Outcome}
 use Rattle.tuple_codec.specs.OperationView.{operation_of, outcome_of}
@@ -139,10 +138,9 @@ call_more start old new ops answers op answer so_far call =
     (subst (λ vs. HasCalled start (map operation_of ops ++ operation_of op ∷ []) vs new) (sym (map_push outcome_of answers answer))
     (one_call start old new (map operation_of ops) (map outcome_of answers) (operation_of op) (outcome_of answer) so_far call))
 
-pub gathered_run : {E : Type 0} (r : Result (Vec (Answer Global) Global) E) (c : Configuration) (ops : List (Op Global)) (hands : Hands (Op Global)) (given : Hands (Answer Global))
+pub gathered_run : (answers : List (Answer Global)) (c : Configuration) (ops : List (Op Global)) (hands : Hands (Op Global)) (given : Hands (Answer Global))
     (clients : List Seated) (n count : ℕ) → n ≡ c.clients → count ≡ length ops → 0 < n → AreDealt ops n hands → HandsAreCalled hands clients given → HasTrace c clients
-    → IfOk r (λ answers. AreGathered given n count answers.items) → IfOk r (λ answers. AnswersRun c (map operation_of ops) (map outcome_of answers.items))
-gathered_run r c ops hands given clients n count so_many all some dealt called done gathered =
-    IfOk-weaker r (λ answers. AreGathered given n count answers.items) (λ answers. AnswersRun c (map operation_of ops) (map outcome_of answers.items))
-    (λ answers are. answers_run c ops answers.items hands given clients (subst (λ k. 0 < k) so_many some) (subst (λ k. AreDealt ops k hands) so_many dealt) called
-    (subst (λ k. AreGathered given k (length ops) answers.items) so_many (subst (λ k. AreGathered given n k answers.items) all are)) done) gathered
+    → AreGathered given n count answers → AnswersRun c (map operation_of ops) (map outcome_of answers)
+gathered_run answers c ops hands given clients n count so_many all some dealt called done are =
+    answers_run c ops answers hands given clients (subst (λ k. 0 < k) so_many some) (subst (λ k. AreDealt ops k hands) so_many dealt) called
+    (subst (λ k. AreGathered given k (length ops) answers) so_many (subst (λ k. AreGathered given n k answers) all are)) done

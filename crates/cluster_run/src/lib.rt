@@ -23,9 +23,11 @@ mod dealing;
 mod fault;
 mod patience;
 mod progress;
+mod report;
 mod running;
 
 pub use fault::RunFault;
 pub use progress::{Unwatched, Watch};
+pub use report::{Parties, Report};
 pub use running::run;
 pub use space_node::{Gate, Open, is_faultless};

@@ -11,18 +11,20 @@ use crate::calling::{AllCalled, Callers, Members, join_clients, start_clients, w
 use crate::dealing::{deal, gather};
 use crate::fault::{LateFault, RunFault};
 use crate::progress::{Progress, Watch};
+use crate::report::{Parties, Report};
 use events::Config;
 use journal::{Naming, Opened};
-use space_node::{ClientHandle, Cluster, FinishFault, Gate, StartFault, is_faultless};
+use space_node::{ClientHandle, Cluster, FinishFault, Gate, Run, StartFault, is_faultless};
 use std::alloc::Global;
 use std::sync::{Arc, Wait};
 use std::thread::Threads;
 use std::time::Clock;
-use tuple_codec::{Answer, Op};
+use tuple_codec::Op;
 
 /// Starts a cluster whose journal takes up to `limit` entries, 1 to 65,536 in the program, and has its clients call
 /// the operations. Client `i` modulo their number calls operation `i`, counted from 0. Each client calls its own in
-/// their order, in a thread of its own. The answers are in the order of the operations.
+/// their order, in a thread of its own. The answers are in the order of the operations, and the parties are as the run
+/// left them.
 ///
 /// About each second it tells each client that time went by, and then `watch` how many operations are answered. After
 /// three seconds without an answer, and each time after twice as many, it tells the replicas too. So they replace a
@@ -54,11 +56,11 @@ pub fn run<
     gate: G,
     ops: Vec<Op<Global>>,
     watch: &mut W,
-) -> Result<Vec<Answer<Global>>, RunFault>
+) -> Result<Report<N>, RunFault>
     requires config { config.now ≡ N.config }
     requires book { opened ≡ N.book }
     ensures answers { IfOk result
-        (λ answers. AnswersRun N.config (map operation_of ops.items) (map outcome_of answers.items)) }
+        (λ report. AnswersRun N.config (map operation_of ops.items) (map outcome_of report.answers.items)) }
     ensures faulty { (result ≡ Err RunFault.BadConfig) ↔ (¬ IsFaultless config.now) }
     ensures room { (result ≡ Err RunFault.NoRoom) ↔ (IsFaultless config.now × (limit < length ops.items * 2)) }
 {
@@ -96,12 +98,12 @@ fn run_faultless<
     gate: G,
     ops: Vec<Op<Global>>,
     watch: &mut W,
-) -> Result<Vec<Answer<Global>>, LateFault>
+) -> Result<Report<N>, LateFault>
     requires config { config.now ≡ N.config }
     requires book { opened ≡ N.book }
     requires faultless { IsFaultless config.now }
     ensures { IfOk result
-        (λ answers. AnswersRun N.config (map operation_of ops.items) (map outcome_of answers.items)) }
+        (λ report. AnswersRun N.config (map operation_of ops.items) (map outcome_of report.answers.items)) }
 {
     let clients = usize::from(config.clients());
     let count = ops.len();
@@ -128,10 +130,12 @@ fn run_faultless<
         clients: handles,
         answers,
     } = all;
-    let finished = finish(rt, alloc, cluster, handles);
+    let finished = finish(rt, alloc, cluster, handles.as_slice());
     called?;
-    finished?;
-    gather(alloc, clients, answers, count)
+    let run = finished?;
+    let answers = gather(alloc, clients, answers, count)?;
+    let parties = Parties { run, handles };
+    Ok(Report { answers, parties })
 }
 
 // Has the clients call all their operations. The caller has to finish the cluster, whatever the calls give.
@@ -174,13 +178,13 @@ fn finish<N: Naming + Send + Sync + 'static, R: Threads + Wait>(
     rt: &R,
     alloc: Global,
     cluster: Cluster<N>,
-    clients: Vec<ClientHandle<N>>,
-) -> Result<(), LateFault>
+    clients: &[ClientHandle<N>],
+) -> Result<Run<N>, LateFault>
     requires faultless { IsFaultless N.config }
-    ensures { OnOk result (HasTrace N.config clients.items) }
+    ensures { OnOk result (HasTrace N.config clients.now) }
 {
     match cluster.finish(rt, alloc, clients) {
-        Ok(_run) => Ok(()),
+        Ok(run) => Ok(run),
         Err(FinishFault::NotInJournal(_run, _party)) => Err(LateFault::NotInJournal),
         Err(FinishFault::NoMemory) => Err(LateFault::NoMemory),
     }

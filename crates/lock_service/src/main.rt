@@ -67,7 +67,7 @@ fn serve<N: Naming + Send + Sync + 'static, R: Print + Threads + Wait + Copy + S
     let mut cluster = Cluster::<N>::start(rt, alloc, opened, config, JOURNAL, Open)?;
     let mut clients = Vec::new(alloc);
     let played = play(rt, alloc, &mut cluster, &mut clients);
-    let finished = finish(rt, alloc, cluster, clients);
+    let finished = finish(rt, alloc, cluster, clients.as_slice());
     played.and(finished)
 }
 
@@ -76,7 +76,7 @@ fn finish<N: Naming + Send + Sync + 'static, R: Threads + Wait>(
     rt: &R,
     alloc: Global,
     cluster: Cluster<N>,
-    clients: Vec<ClientHandle<N>>,
+    clients: &[ClientHandle<N>],
 ) -> Result<(), Fault> {
     match cluster.finish(rt, alloc, clients) {
         Ok(_run) => Ok(()),

@@ -49,7 +49,7 @@ fn start_and_finish<N: Naming + Send + Sync + 'static, R: Threads + Wait + Copy 
     requires book { opened ≡ N.book }
 {
     match Cluster::<N>::start(rt, alloc, opened, config, LIMIT, Open) {
-        Ok(cluster) => end_of(&cluster.finish(rt, alloc, Vec::new(alloc))),
+        Ok(cluster) => end_of(&cluster.finish(rt, alloc, &[])),
         Err(StartFault::NoMemory | StartFault::NoThread) => Outcome::Refused,
         Err(StartFault::BadConfig) => Outcome::Wrong,
     }

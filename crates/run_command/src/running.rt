@@ -9,6 +9,7 @@ use journal::{Naming, Opened};
 use one_space::{Complaint, complain};
 use std::alloc::Global;
 use std::io::{self, Write};
+use std::mem::forget;
 use std::sync::Wait;
 use std::thread::Threads;
 use std::time::Clock;
@@ -85,7 +86,8 @@ pub fn most_operations(settings: &Settings) -> usize
 
 /// Runs the operations on a cluster of its own and writes the results, a line each, in their order. Client `i` modulo
 /// the number of clients calls operation `i`, counted from 0, and the line is the answer that this client accepted.
-/// Nothing is written unless each call was answered and the cluster finished.
+/// Nothing is written unless each call was answered and the cluster finished. The memory of a run that ended is left to
+/// the end of the process.
 pub fn run<
     N: Naming + Send + Sync + 'static,
     R: Threads + Wait + Clock + Copy + Send + 'static,
@@ -106,7 +108,7 @@ pub fn run<
     requires book { opened ≡ N.book }
     ensures { EndsCluster N.config ops.items result (W.contents writer.old) (W.contents writer.new) }
 {
-    let answers = cluster_run::run::<N, R, G, S>(
+    let report = cluster_run::run::<N, R, G, S>(
         rt,
         alloc,
         opened,
@@ -116,7 +118,10 @@ pub fn run<
         ops,
         watch,
     )?;
-    write_results(alloc, answers.as_slice(), writer)
+    let written = write_results(alloc, report.answers.as_slice(), writer);
+    // The command ends here, and its process with it: giving back each block of a run takes a thirtieth of its time.
+    forget(report);
+    written
 }
 
 /// Complains, and then tells on a line of its own why the run was stopped. Returns the status of the program.

@@ -162,9 +162,9 @@ impl<N: Naming + Send + Sync + 'static> Cluster<N> {
     }
 
     /// Ends the nodes and joins them, takes out the journal, and compares it with the replicas' shares and with the
-    /// given clients. A call that waits on another handle is refused. In the trace each of these parties does all
-    /// that it owes. The run names exactly those that had stopped: the replicas by their shares, by number, and then
-    /// the clients by their handles, in order. The trace has no later event of a stopped party.
+    /// given clients. A call that waits on another handle is refused, and so is each later call. In the trace each of
+    /// these parties does all that it owes. The run names exactly those that had stopped: the replicas by their shares,
+    /// by number, and then the clients by their handles, in order. The trace has no later event of a stopped party.
     ///
     /// # Errors
     ///
@@ -174,12 +174,12 @@ impl<N: Naming + Send + Sync + 'static> Cluster<N> {
         self,
         rt: &R,
         alloc: Global,
-        clients: Vec<ClientHandle<N>>,
+        clients: &[ClientHandle<N>],
     ) -> Result<Run<N>, FinishFault<N>>
         ensures finished { IfOk result
             (λ run. IsFinished N.config (reverse run.trace.items) run.shares.items
-            (map party_number run.stopped.items) clients.items) }
-        ensures fault { IfErr result (λ fault. TellsFault fault clients.items) }
+            (map party_number run.stopped.items) clients.now) }
+        ensures fault { IfErr result (λ fault. TellsFault fault clients.now) }
     {
         let Cluster {
             replicas,
@@ -193,7 +193,7 @@ impl<N: Naming + Send + Sync + 'static> Cluster<N> {
             return Err(FinishFault::NoMemory);
         };
         let mut journal = shared.journal.lock(rt);
-        settle(alloc, &mut journal, shares, clients.as_slice())
+        settle(alloc, &mut journal, shares, clients)
     }
 }
 

@@ -203,7 +203,7 @@ fn runs<N: Naming + Send + Sync + 'static, R: Threads + Wait + Clock + Sync>(
     let mut clients = Vec::new(alloc);
     let played = takes_and_plays(rt, alloc, &mut cluster, &mut clients, flags, &trial.play);
     flags.open();
-    let finished = cluster.finish(rt, alloc, clients);
+    let finished = cluster.finish(rt, alloc, clients.as_slice());
     end_of(played, &finished, flags, trial)
 }
 

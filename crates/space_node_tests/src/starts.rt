@@ -23,7 +23,7 @@ fn starts_and_ends<N: Naming + Send + Sync + 'static, R: Threads + Wait + Copy +
     requires book { opened ≡ N.book }
 {
     match Cluster::<N>::start(rt, alloc, opened, config, AMPLE, Open) {
-        Ok(cluster) => is_empty(&cluster.finish(rt, alloc, Vec::new(alloc))),
+        Ok(cluster) => is_empty(&cluster.finish(rt, alloc, &[])),
         Err(fault) => Err(fault),
     }
 }

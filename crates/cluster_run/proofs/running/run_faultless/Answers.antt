@@ -10,5 +10,5 @@ returns g c =
     let all = c.call_all-called.new.all in
     let called : HandsAreCalled hands all.clients.items all.answers.items = search rules in
     let done : HasTrace conf all.clients.items = search rules in
-    gathered_run c.gather.result conf c.args.ops.items hands all.answers.items all.clients.items c.from-clients.result c.len-count.result (search rules) (search rules) (search rules)
-    (search rules) called done c.gather.ensures
+    gathered_run c.in_ok-answers.answers.items conf c.args.ops.items hands all.answers.items all.clients.items c.from-clients.result c.len-count.result (search rules) (search rules) (search rules)
+    (search rules) called done c.in_ok-answers.ensures

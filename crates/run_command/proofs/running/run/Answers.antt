@@ -18,5 +18,5 @@ ends_cluster c ops answers (Err fault) old new accepted written = written
 
 pub returns : goal.returns
 returns g c =
-    ends_cluster g.N.Naming.config c.args.ops.items c.in_ok-answers.answers.items c.write_results.result _ _ c.in_ok-answers.ensures.answers
-    (subst (λ xs. WritesResults c.write_results.result xs (g.W.Write.contents c.args.writer.now) (g.W.Write.contents c.write_results.new.writer)) c.as_slice.ensures.value c.write_results.ensures)
+    ends_cluster g.N.Naming.config c.args.ops.items c.in_ok-report.report.answers.items c.write_results-written.result _ _ c.in_ok-report.ensures.answers
+    (subst (λ xs. WritesResults c.write_results-written.result xs (g.W.Write.contents c.args.writer.now) (g.W.Write.contents c.write_results-written.new.writer)) c.as_slice.ensures.value c.write_results-written.ensures)
