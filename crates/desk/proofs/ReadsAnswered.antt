@@ -13,7 +13,7 @@ use Rattle.events.specs.declared.output.Output.{Output}
 use Rattle.replica_histories.specs.Questions.{read_from, read_reply}
 use Rattle.desk.specs.State.{DeskData}
 use Rattle.desk.specs.Desking.{SaysTo, message_of}
-use Rattle.desk.specs.Reading.{AnswersRead, AnswersBytes}
+use Rattle.desk.specs.Reading.{AnswersBytes}
 
 -- the client that a reply is for
 abbrev named : Message → ℕ

@@ -5,7 +5,7 @@ use Rattle.desk.specs.State.{DeskData}
 abbrev pub desk_data : Inside → DeskData
 desk_data d = record {
   me = d.me.0;
-  membership = d.ring;
+  membership = d.ring.value;
   period = d.period;
   executed = d.executed.value;
   snapshots = d.snapshots;

@@ -28,7 +28,8 @@ use wire::Reply;
 #[derive(Drop)]
 pub struct Desk {
     pub(crate) me: ReplicaId,
-    pub(crate) ring: Ring,
+    /// It is some 400 bytes, with a state of SHA-256. So it stays in its place when a part moves.
+    pub(crate) ring: Box<Ring>,
     // The number of batches from one checkpoint to the next, 1 to 16.
     pub(crate) period: u8,
     /// It is over two kilobytes, with the digests of its tree. So it stays in its place when a part moves.
@@ -67,7 +68,7 @@ impl Desk {
         snapshots.keep(Number(0), pages_of(&mut executed)?)?;
         Ok(Desk {
             me,
-            ring,
+            ring: Box::new(alloc, ring)?,
             period: config.period(),
             executed: Box::new(alloc, executed)?,
             snapshots,
@@ -275,7 +276,7 @@ impl Desk {
         } = reply;
         let message = reply_message(client, timestamp, kind, number, answer);
         let party = Party::Client(client);
-        match seal_for_one(&mut self.ring, alloc, self.me, message, party) {
+        match seal_for_one(&mut *self.ring, alloc, self.me, message, party) {
             Ok(output) => give(outputs, output),
             Err(SealFault::NoMemory) => Err(Stop::NoMemory),
             // Each reply fits a frame.

@@ -35,7 +35,7 @@ impl Desk {
             return Ok(());
         };
         let party = Party::Replica(asker);
-        match seal_for_one(&mut self.ring, alloc, self.me, message, party) {
+        match seal_for_one(&mut *self.ring, alloc, self.me, message, party) {
             Ok(output) => give(outputs, output),
             Err(SealFault::NoMemory) => Err(Stop::NoMemory),
             // Each part of a state fits a frame.

@@ -24,7 +24,7 @@ impl Desk {
         ensures ok { OnOk result (AnswersBytes self.old bytes.now outputs.old.items outputs.new.items) }
         ensures same { self.new ≡ self.old }
     {
-        let Some(request) = hear_read(&mut self.ring, self.me, bytes) else {
+        let Some(request) = hear_read(&mut *self.ring, self.me, bytes) else {
             return Ok(());
         };
         let executed = &*self.executed;

@@ -17,6 +17,7 @@ use Rattle.desk.specs.contracts.desk.Desk as state
 use Rattle.desk.specs.contracts.desk.Desk.TheInside as in_state
 use Rattle.replica.specs.contracts.parted.Desk as desk
 use Rattle.replica.specs.contracts.parted.Desk.TheInside as in_desk
+use Rattle.authenticator.specs.contracts.ring.Ring as ring
 use Rattle.execution.specs.contracts.executed.Executed as executed
 use Rattle.space_node.proofs.Sends.{heap_send, heap_frees}
 use Rattle.space_node.proofs.StateSends.{executed_send}
@@ -25,11 +26,15 @@ boxed_send : IsSend (as_row (box.the_field executed.the_row heap.the_row ghosts)
 boxed_send = as_row_send (box.the_field executed.the_row heap.the_row ghosts)
     (box_send executed.the_row heap.the_row ghosts executed_send heap_send heap_frees)
 
+keys_send : IsSend (as_row (box.the_field ring.the_row heap.the_row ghosts))
+keys_send = as_row_send (box.the_field ring.the_row heap.the_row ghosts)
+    (box_send ring.the_row heap.the_row ghosts ring_send heap_send heap_frees)
+
 in_state_send : IsSend in_state.the_row
 in_state_send = declared_send in_state.the_type (
   search sendable,
   (
-    search (sendable, ring_send),
+    keys_send,
     (
       search sendable,
       (
