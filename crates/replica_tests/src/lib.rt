@@ -8,7 +8,7 @@ mod answers;
 #[cfg(test)]
 mod checkpoints;
 #[cfg(test)]
-mod claims;
+mod claims_in_views;
 #[cfg(test)]
 mod desks;
 #[cfg(test)]
