@@ -6,7 +6,7 @@ ghost use Rattle.std.specs.Prelude.{◌≡◌};
 use crate::left::{Outcome, Taken, Tally, assert_right, outcome_of};
 use events::{BadConfig, Config};
 use journal::{Naming, Opened};
-use space_node::{Cluster, FinishFault, Open, Run, StartFault};
+use space_node::{ClientHandle, Cluster, FinishFault, Open, Run, StartFault};
 use std::alloc::Global;
 use std::marker::Brand;
 use std::rt::Files;
@@ -49,7 +49,10 @@ fn start_and_finish<N: Naming + Send + Sync + 'static, R: Threads + Wait + Copy 
     requires book { opened ≡ N.book }
 {
     match Cluster::<N>::start(rt, alloc, opened, config, LIMIT, Open) {
-        Ok(cluster) => end_of(&cluster.finish(rt, alloc, &[])),
+        Ok(cluster) => {
+            let none: Vec<ClientHandle<N>> = Vec::new(alloc);
+            end_of(&cluster.finish(rt, alloc, none.as_slice()))
+        }
         Err(StartFault::NoMemory | StartFault::NoThread) => Outcome::Refused,
         Err(StartFault::BadConfig) => Outcome::Wrong,
     }

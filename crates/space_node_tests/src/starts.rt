@@ -5,7 +5,7 @@ ghost use Rattle.std.specs.Prelude.{◌≡◌};
 use crate::clusters::{AMPLE, config_of};
 use events::Config;
 use journal::{Naming, Opened};
-use space_node::{Cluster, FinishFault, Open, Run, StartFault};
+use space_node::{ClientHandle, Cluster, FinishFault, Open, Run, StartFault};
 use std::alloc::Global;
 use std::marker::Brand;
 use std::sync::Wait;
@@ -23,7 +23,10 @@ fn starts_and_ends<N: Naming + Send + Sync + 'static, R: Threads + Wait + Copy +
     requires book { opened ≡ N.book }
 {
     match Cluster::<N>::start(rt, alloc, opened, config, AMPLE, Open) {
-        Ok(cluster) => is_empty(&cluster.finish(rt, alloc, &[])),
+        Ok(cluster) => {
+            let none: Vec<ClientHandle<N>> = Vec::new(alloc);
+            is_empty(&cluster.finish(rt, alloc, none.as_slice()))
+        }
         Err(fault) => Err(fault),
     }
 }
