@@ -5,7 +5,7 @@ use Rattle.std.specs.Prelude.{slice_index}
 use Rattle.sha2.specs.Sha256.{sha256, digest_bytes}
 use Rattle.sha2.proofs.Facts256.{length-sha256}
 use Rattle.tuple_tree.specs.Values.{AreBytes}
-use Rattle.tuple_codec.proofs.Readers.{bytes_append}
+use Rattle.tuple_tree.proofs.Readers.{bytes_append}
 use Rattle.wire.specs.Lists.{Each}
 use Rattle.wire.specs.Spelling.{IsDigest}
 use Rattle.authenticator.specs.Mac.{hmac_of}

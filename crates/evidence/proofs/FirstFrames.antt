@@ -9,7 +9,7 @@ use Rattle.std.proofs.Math.Seq.{take-nil}
 use Rattle.tuple_tree.specs.Values.{TupleTree, AreBytes}
 use Rattle.tuple_codec.specs.Operations.{Operation, out, rdp, inp, cas, rd_all, in_all, upgrade, IsOperation, Outcome, all, refused, IsOutcome, is_version_2}
 use Rattle.tuple_codec.specs.Spelling.{outcome_spelling}
-use Rattle.tuple_codec.proofs.Readers.{bytes_append}
+use Rattle.tuple_tree.proofs.Readers.{bytes_append}
 use Rattle.space.specs.Applying.{is_read_only, is_forbidden, no_tuples, served_outcome}
 use Rattle.terms.specs.declared.order.Mode.TheVariants as modes
 use Rattle.wire.specs.Lists.{Each, ascends}
@@ -26,7 +26,8 @@ use Rattle.protocol.specs.System.Schedule.{sealed_bytes}
 use Rattle.evidence.specs.Examples.{four}
 use Rattle.protocol.specs.System.Trace.{Has}
 use Rattle.evidence.specs.FirstOperation.{FirstFrames, AreFirstFrames, first_answer, FirstFramesExist}
-use Rattle.tuple_codec.proofs.SpelledBytes.{no_bytes, bytes_4}
+use Rattle.tuple_tree.proofs.NumberBytes.{no_bytes}
+use Rattle.tuple_codec.proofs.SpelledBytes.{bytes_4}
 use Rattle.evidence.proofs.FirstFramesSealed.{MaySeal, sealed_length, sealed_spells, sealed_is_heard}
 
 -- the answer to an operation on the empty space

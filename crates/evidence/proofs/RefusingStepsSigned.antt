@@ -5,7 +5,7 @@ use Rattle.std.specs.List.{range_with_len}
 use Rattle.std.proofs.lemmas.Bool.{ltb-true, eq-eqb, ne_eqb}
 use Rattle.sha2.specs.Sha256.{sha256}
 use Rattle.tuple_tree.specs.Values.{AreBytes}
-use Rattle.tuple_codec.proofs.Readers.{bytes_append}
+use Rattle.tuple_tree.proofs.Readers.{bytes_append}
 use Rattle.wire.specs.Messages.{BodyData as Body, MessageData as Message, FrameData as Frame, signature, request as Request}
 use Rattle.wire.specs.Spelling.{is_signed, body_spelling, SpellsFrame}
 use Rattle.authenticator.specs.Keys.{signing_seed}
@@ -22,7 +22,7 @@ use Rattle.protocol.specs.System.Configuration.{Configuration, replicas, is_repl
 use Rattle.protocol.specs.System.Schedule.{meant_for, signed_bytes}
 use Rattle.protocol.specs.Replica.RightReplica.{others}
 use Rattle.evidence.specs.RefusedSteps.{SignedFramesAreHeard}
-use Rattle.tuple_codec.proofs.SpelledBytes.{no_bytes, bytes_more}
+use Rattle.tuple_tree.proofs.NumberBytes.{no_bytes, bytes_more}
 use Rattle.wire.proofs.Saying.{reads_frames, reads_said}
 use Rattle.evidence.proofs.FirstFrames.{is_digest}
 

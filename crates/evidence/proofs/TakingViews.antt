@@ -4,7 +4,7 @@ use Rattle.std.specs.Prelude.{◌==◌, nat_lt, nat_le, option_and_then}
 use Rattle.std.specs.Option.{option_map_or}
 use Rattle.std.proofs.lemmas.Bool.{and_parts, ltb-true}
 use Rattle.sha2.specs.Sha256.{sha256}
-use Rattle.tuple_codec.proofs.Readers.{guard_holds}
+use Rattle.tuple_tree.proofs.Readers.{guard_holds}
 use Rattle.quorum.specs.Quorum.{count_below, member}
 use Rattle.std.specs.Bool.{then_some}
 use Rattle.quorum.specs.Votes.{or_else, has_digest}

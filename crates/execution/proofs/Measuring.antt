@@ -6,7 +6,8 @@ use Rattle.std.proofs.lemmas.Bool.{cases_eq, ltb-true, ltb-false}
 use Rattle.std.proofs.lemmas.List.Elements.{All-head, All-tail, All-filter}
 use Rattle.std.proofs.lemmas.List.Sums.{length-filter}
 use Rattle.tuple_tree.specs.Values.{TupleTree, IsTuple}
-use Rattle.tuple_codec.specs.Spelling.{tuple_spelling, outcome_spelling}
+use Rattle.tuple_tree.specs.Spelling.{tuple_spelling}
+use Rattle.tuple_codec.specs.Spelling.{outcome_spelling}
 use Rattle.tuple_codec.proofs.Lengths.{tuple_short, outcome_short}
 use Rattle.space.specs.Births.{Entry, SpaceState, IsState as IsSpace}
 use Rattle.space.specs.Pages.{stored_text, entry_text, entries_text, on_page, page_text as tuple_page}

@@ -3,7 +3,7 @@ use Rattle.std.proofs.Common.{◌≡◌, ℕ, zero, suc, inl, inr, true, Option,
 use Rattle.std.specs.Prelude.{reverse, slice_get, MatchOption}
 use Rattle.std.specs.Option.{option_map_or}
 use Rattle.std.proofs.lemmas.List.{reverse-reverse}
-use Rattle.tuple_codec.specs.Reading.{◌>>=◌}
+use Rattle.tuple_tree.specs.Reading.{◌>>=◌}
 use Rattle.wire.specs.Lists.{Each}
 use Rattle.wire.specs.Messages.{FrameData}
 use Rattle.wire.specs.Spelling.{SpellsFrame}

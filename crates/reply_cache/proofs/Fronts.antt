@@ -9,9 +9,9 @@ use Rattle.byteorder.specs.Numbers.{big_from-lt}
 use Rattle.tuple_tree.specs.Values.{AreBytes}
 use Rattle.tuple_codec.specs.Operations.{Outcome}
 use Rattle.tuple_codec.specs.Spelling.{SpellsOutcome, outcome_spelling}
-use Rattle.tuple_codec.specs.Reading.{number_of}
-use Rattle.tuple_codec.proofs.Readers.{bytes_drop}
-use Rattle.tuple_codec.proofs.Numbers.{number_found}
+use Rattle.tuple_tree.specs.Reading.{number_of}
+use Rattle.tuple_tree.proofs.Readers.{bytes_drop}
+use Rattle.tuple_tree.proofs.Numbers.{number_found}
 use Rattle.reply_cache.specs.declared.cache.Reply.{Reply}
 use Rattle.reply_cache.specs.Replies.{Kept, Replies, last_of, IsReply}
 use Rattle.reply_cache.specs.ReplyView.{reply_of, padded, AreSlots}

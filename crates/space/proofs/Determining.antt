@@ -6,8 +6,8 @@ use Rattle.std.proofs.lemmas.List.{take_at, drop_at}
 use Rattle.std.proofs.lemmas.List.Elements.{All-cons, All-head, All-tail, All-filter, All-weaker}
 use Rattle.std.proofs.lemmas.Nat.{from_be_bytes-to_be_bytes_8}
 use Rattle.tuple_tree.specs.Values.{TupleTree, IsTuple}
-use Rattle.tuple_codec.specs.Spelling.{tuple_spelling}
-use Rattle.tuple_codec.specs.Reading.{tuple_at}
+use Rattle.tuple_tree.specs.Spelling.{tuple_spelling}
+use Rattle.tuple_tree.specs.Reading.{tuple_at}
 use Rattle.tuple_codec.proofs.Grammar.{one, tuple_reads}
 use Rattle.space.specs.Births.{Entry, SpaceState, IsState}
 use Rattle.space.specs.Reading.{IsEntry}

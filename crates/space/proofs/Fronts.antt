@@ -7,10 +7,11 @@ use Rattle.std.proofs.lemmas.List.{take_at, drop_at, take-append-drop, length-dr
 use Rattle.byteorder.specs.Endian.{big_number}
 use Rattle.byteorder.specs.Numbers.{big_number-reads_back, big_from-lt}
 use Rattle.tuple_tree.specs.Values.{TupleTree, AreBytes, IsTuple}
-use Rattle.tuple_codec.specs.Spelling.{SpellsTuple, tuple_spelling}
-use Rattle.tuple_codec.specs.Reading.{number_of}
-use Rattle.tuple_codec.proofs.Readers.{bytes_drop}
-use Rattle.tuple_codec.proofs.Numbers.{number_found}
+use Rattle.tuple_tree.specs.Spelling.{tuple_spelling}
+use Rattle.tuple_codec.specs.Spelling.{SpellsTuple}
+use Rattle.tuple_tree.specs.Reading.{number_of}
+use Rattle.tuple_tree.proofs.Readers.{bytes_drop}
+use Rattle.tuple_tree.proofs.Numbers.{number_found}
 use Rattle.space.specs.Births.{Entry}
 use Rattle.space.specs.Pages.{stored_text, entry_text}
 use Rattle.space.specs.Reading.{IsEntry, IsHeader}

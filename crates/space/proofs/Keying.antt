@@ -9,8 +9,8 @@ use Rattle.std.proofs.lemmas.Slice.Eq.{bytes_eq-Decides}
 use Rattle.tuple_tree.specs.Items.{Item, leaf, inner, none, item, how_many}
 use Rattle.tuple_tree.specs.Values.{Datum, number, text, bytes, truth, wide, Slot, actual, any, formal, TupleTree, TemplateTree, AreBytes, IsTuple, IsTemplate}
 use Rattle.tuple_codec.specs.Operations.{out}
-use Rattle.tuple_codec.specs.Spelling.{string, wide_bytes, datum_spelling, tuple_spelling}
-use Rattle.tuple_codec.specs.Reading.{tuple_at}
+use Rattle.tuple_tree.specs.Spelling.{string, wide_bytes, datum_spelling, tuple_spelling}
+use Rattle.tuple_tree.specs.Reading.{tuple_at}
 use Rattle.tuple_codec.proofs.Grammar.{one, tuple_reads}
 use Rattle.tuple_codec.proofs.SpelledBytes.{operation_bytes}
 use Rattle.template_match.specs.Tests.{is_match, is_field_match, datum_eq}

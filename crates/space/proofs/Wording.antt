@@ -5,7 +5,7 @@ use Rattle.std.proofs.lemmas.List.{length-drop, take-append-drop, take_all}
 use Rattle.byteorder.specs.Endian.{little_number}
 use Rattle.byteorder.specs.Numbers.{little_from-cons}
 use Rattle.tuple_tree.specs.Values.{AreBytes}
-use Rattle.tuple_codec.proofs.Readers.{bytes_drop}
+use Rattle.tuple_tree.proofs.Readers.{bytes_drop}
 use Rattle.space.specs.Keys.{last_word, words}
 
 -- So many bytes at the front are those that their number is made of.

@@ -4,7 +4,7 @@ use Rattle.std.specs.Int.{w64, to_be_bytes, cast_unsigned}
 use Rattle.byteorder.specs.Endian.{little_number}
 use Rattle.tuple_tree.specs.Items.{leaf, inner, none, item, how_many}
 use Rattle.tuple_tree.specs.Values.{Datum, number, text, bytes, truth, wide, actual, any, formal, TupleTree, TemplateTree}
-use Rattle.tuple_codec.specs.Spelling.{flag, wide_bytes}
+use Rattle.tuple_tree.specs.Spelling.{flag, wide_bytes}
 
 -- all bytes, if there are any, as one number
 abbrev pub last_word : List ℕ → List ℕ

@@ -6,7 +6,7 @@ use Rattle.std.specs.Prelude.{◌≡◌, ℕ, ◌*◌, ◌^◌, ◌≤◌, ◌<�
 use Rattle.std.specs.Borrow.{Bor}
 use Rattle.std.specs.Int.{w64, to_be_bytes}
 use Rattle.tuple_tree.specs.Values.{TupleTree}
-use Rattle.tuple_codec.specs.Spelling.{string, tuple_spelling}
+use Rattle.tuple_tree.specs.Spelling.{string, tuple_spelling}
 use Rattle.tuple_codec.specs.declared.bad.Bad.{Bad}
 use Rattle.tuple_codec.specs.declared.bad.Bad.TheVariants.{NoMemory}
 use Rattle.space.specs.Births.{Entry, SpaceState, IsState}

@@ -4,7 +4,7 @@ ghost use Rattle.std.specs.Prelude.{◌≡◌, ◌+◌, ◌*◌, ◌≤◌, ◌<
 ghost use Rattle.tuple_tree.specs.Items.{whole_length};
 ghost use Rattle.tuple_tree.specs.Values.{datum_length, slot_length, IsTemplate};
 ghost use Rattle.tuple_tree.specs.AtomView.{datum_of};
-ghost use Rattle.tuple_codec.specs.Spelling.{wide_bytes as wide_spelling};
+ghost use Rattle.tuple_tree.specs.Spelling.{wide_bytes as wide_spelling};
 ghost use Rattle.space.specs.Keys.{tuple_key, template_key, datum_key, key_of, words};
 
 use arrayvec::ArrayVec;
@@ -77,7 +77,7 @@ pub fn put_key<A: Allocator, const N: usize>(
     }
 }
 
-#[tactic(auto, unfolding(tuple_codec::specs::Spelling::wide_bytes))]
+#[tactic(auto, unfolding(tuple_tree::specs::Spelling::wide_bytes))]
 fn wide_bytes(number: i128) -> [u8; 16]
     ensures { result ≡ wide_spelling number }
 {

@@ -3,7 +3,7 @@
 ghost use Rattle.std.specs.Prelude.{◌≡◌, ◌++◌, ◌∷◌, length, IfOk, OnOk, IfSome, IsSome};
 ghost use Rattle.std.specs.Int.{w64, to_be_bytes};
 ghost use Rattle.space.specs.Found.{births_text};
-ghost use Rattle.tuple_codec.specs.Spelling.{tuple_spelling};
+ghost use Rattle.tuple_tree.specs.Spelling.{tuple_spelling};
 ghost use Rattle.space.specs.Pages.{stored_text, entry_text, version_byte};
 
 use crate::stored::Stored;

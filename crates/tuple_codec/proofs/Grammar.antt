@@ -2,14 +2,15 @@
 use Rattle.std.proofs.Common.{◌≡◌, ℕ, ◌-◌, ◌≤◌, List, [], ◌++◌, length, take, drop, Some, None, ap, sym, refl, ◌∙◌, arith, append-nil, length-append}
 use Rattle.std.proofs.lemmas.List.{take_at, take-append-drop, length-drop}
 use Rattle.tuple_tree.specs.Values.{AreBytes, IsDatum, IsSlot, datum_length, slot_length, IsTuple, IsTemplate}
-use Rattle.tuple_codec.specs.Reading.{Reader, datum_at, slot_at, tuple_at, template_at}
-use Rattle.tuple_codec.specs.Spelling.{Spells, FrontSpells, datum_spelling, slot_spelling, tuple_spelling, template_spelling}
+use Rattle.tuple_tree.specs.Reading.{Reader, datum_at, slot_at, tuple_at, template_at}
+use Rattle.tuple_tree.specs.Spelling.{datum_spelling, slot_spelling, tuple_spelling, template_spelling}
+use Rattle.tuple_codec.specs.Spelling.{Spells, FrontSpells}
 use Rattle.tuple_codec.specs.Gives.{Fails}
 use Rattle.tuple_codec.specs.declared.bad.Bad.{Bad}
 use Rattle.tuple_codec.specs.declared.bad.Bad.TheVariants as bad
-use Rattle.tuple_codec.proofs.Readers.{Found, Again, parts}
-use Rattle.tuple_codec.proofs.Leaves.{datum_leaves, slot_leaves}
-use Rattle.tuple_codec.proofs.Trees.{tree_found, tree_again}
+use Rattle.tuple_tree.proofs.Readers.{Found, Again, parts}
+use Rattle.tuple_tree.proofs.Leaves.{datum_leaves, slot_leaves}
+use Rattle.tuple_tree.proofs.Trees.{tree_found, tree_again}
 
 pub record Reads {V : Type 0} (IsValue : V → Type 0) (spelling : V → List ℕ) (at : Reader V) : Type 0 where
   pub found : Found IsValue spelling at

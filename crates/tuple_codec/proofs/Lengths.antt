@@ -3,10 +3,11 @@ use Rattle.std.proofs.Common.{◌≡◌, ◌*◌, ◌≤◌, List, [], ◌∷◌
 use Rattle.tuple_tree.specs.Items.{whole_length}
 use Rattle.tuple_tree.specs.Values.{IsDatum, IsSlot, datum_length, slot_length, TupleTree, TemplateTree, IsTuple, IsTemplate}
 use Rattle.tuple_codec.specs.Operations.{Operation, out, rdp, inp, cas, rd_all, in_all, upgrade, IsOperation, Outcome, done, found, absent, swapped, all, full, refused, IsOutcome, AreTuples}
-use Rattle.tuple_codec.specs.Reading.{datum_at, slot_at}
-use Rattle.tuple_codec.specs.Spelling.{datum_spelling, slot_spelling, tuple_spelling, template_spelling, tuples_spelling, operation_spelling, outcome_spelling}
-use Rattle.tuple_codec.proofs.Leaves.{datum_leaves, slot_leaves}
-use Rattle.tuple_codec.proofs.Trees.{whole_spelling_length}
+use Rattle.tuple_tree.specs.Reading.{datum_at, slot_at}
+use Rattle.tuple_tree.specs.Spelling.{datum_spelling, slot_spelling, tuple_spelling, template_spelling}
+use Rattle.tuple_codec.specs.Spelling.{tuples_spelling, operation_spelling, outcome_spelling}
+use Rattle.tuple_tree.proofs.Leaves.{datum_leaves, slot_leaves}
+use Rattle.tuple_tree.proofs.Trees.{whole_spelling_length}
 
 pub tuple_spelling_length : (t : TupleTree) → length (tuple_spelling t) ≡ whole_length datum_length t
 tuple_spelling_length t = whole_spelling_length IsDatum datum_length datum_spelling datum_at datum_leaves t

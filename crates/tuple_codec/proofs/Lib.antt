@@ -1,8 +1,4 @@
 pub mod Bounds
-pub mod Readers
-pub mod Numbers
-pub mod Leaves
-pub mod Trees
 pub mod Steps
 pub mod Grammar
 pub mod Lengths

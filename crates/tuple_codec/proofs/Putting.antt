@@ -4,8 +4,9 @@ use Rattle.std.proofs.lemmas.List.{take_at, take-take, take-append-le, length-ta
 use Rattle.tuple_tree.specs.Items.{Item, Items, how_many, items_of}
 use Rattle.tuple_tree.specs.Values.{TupleTree}
 use Rattle.tuple_tree.proofs.Viewing.{items_at}
-use Rattle.tuple_codec.specs.Puts.{Puts}
-use Rattle.tuple_codec.specs.Spelling.{item_spelling, items_spelling, whole_spelling, tuple_spelling, tuples_spelling}
+use Rattle.tuple_tree.specs.Puts.{Puts}
+use Rattle.tuple_tree.specs.Spelling.{item_spelling, items_spelling, whole_spelling, tuple_spelling}
+use Rattle.tuple_codec.specs.Spelling.{tuples_spelling}
 
 -- The old bytes still stand at the front.
 pub grown : (old new y : List ℕ) → new ≡ old ++ y → take (length old) new ≡ old

@@ -1,8 +1,8 @@
 -- Each spelling is a list of bytes.
-use Rattle.std.proofs.Common.{◌≡◌, ℕ, zero, suc, ◌+◌, ◌/◌, ◌<◌, ◌≤◌, Bool, true, false, cond, List, [], ◌∷◌, ◌++◌, length, refl, subst, arith}
+use Rattle.std.proofs.Common.{◌≡◌, ℕ, ◌+◌, ◌/◌, ◌<◌, ◌≤◌, Bool, true, false, cond, List, [], ◌∷◌, ◌++◌, length, refl, subst, arith}
 use Rattle.std.proofs.lemmas.Bool.{and_parts, ltb-true}
 use Rattle.std.specs.Prelude.{nat_lt}
-use Rattle.std.specs.Int.{w16, w32, w64, w128, to_be_bytes, bytes_high_first, byte_at, cast_unsigned}
+use Rattle.std.specs.Int.{w16, w32, w64, w128, to_be_bytes, cast_unsigned}
 use Rattle.std.specs.Str.{IsUtf8}
 use Rattle.std.proofs.Math.Utf8.{scalar, scalars, encode, encodes, next, scalar_cases}
 use Rattle.tuple_tree.specs.Items.{Item, leaf, inner, Items, none, item, how_many}
@@ -11,25 +11,10 @@ use Rattle.tuple_tree.specs.Values.{Datum, number, text, bytes, truth, wide, Slo
 use Rattle.tuple_tree.specs.declared.atoms.Kind.{Kind}
 use Rattle.tuple_tree.specs.declared.atoms.Kind.TheVariants as kinds
 use Rattle.tuple_codec.specs.Operations.{Operation, out, rdp, inp, cas, rd_all, in_all, upgrade, IsOperation, AreTuples, Outcome, done, found, absent, swapped, all, full, refused, IsOutcome}
-use Rattle.tuple_codec.specs.Spelling.{string, flag, wide_bytes, datum_spelling, formal_tag, slot_spelling, item_spelling, items_spelling, whole_spelling, tuple_spelling, template_spelling, operation_spelling, tuples_spelling, outcome_spelling}
-use Rattle.tuple_codec.proofs.Readers.{bytes_append}
-
-pub no_bytes : AreBytes []
-no_bytes i = omega arith
-
-pub bytes_more : (b : ℕ) (bs : List ℕ) → b < 256 → AreBytes bs → AreBytes (b ∷ bs)
-bytes_more b bs l h zero = l
-bytes_more b bs l h (suc i) = h i
-
--- ---- numbers
-
-byte_below : (k n : ℕ) → byte_at k n < 256
-byte_below zero n = omega arith
-byte_below (suc k) n = omega arith
-
-pub high_bytes : (k n : ℕ) → AreBytes (bytes_high_first k n)
-high_bytes zero n = no_bytes
-high_bytes (suc k) n = bytes_more (byte_at k n) (bytes_high_first k n) (byte_below k n) (high_bytes k n)
+use Rattle.tuple_tree.specs.Spelling.{string, flag, wide_bytes, datum_spelling, formal_tag, slot_spelling, item_spelling, items_spelling, whole_spelling, tuple_spelling, template_spelling}
+use Rattle.tuple_codec.specs.Spelling.{operation_spelling, tuples_spelling, outcome_spelling}
+use Rattle.tuple_tree.proofs.Readers.{bytes_append}
+use Rattle.tuple_tree.proofs.NumberBytes.{no_bytes, bytes_more, high_bytes}
 
 pub bytes_2 : (n : ℕ) → AreBytes (to_be_bytes w16 n)
 bytes_2 n = high_bytes 2 n

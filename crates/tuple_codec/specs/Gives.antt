@@ -3,10 +3,6 @@ use Rattle.std.specs.Prelude.{◌≡◌, ℕ, ◌≤◌, List, length, take, Opt
 use Rattle.tuple_codec.specs.declared.bad.Bad.{Bad}
 use Rattle.tuple_codec.specs.declared.bad.Bad.TheVariants as bad
 
-abbrev pub Yields : {X Y : Type 0} → (X → Y) → Option X → Option Y → Type 0
-Yields view (Some x) read = read ≡ Some (view x)
-Yields view None read = read ≡ None
-
 abbrev pub Fails : {Y : Type 0} → Bad → Option Y → Type 0
 Fails bad.NoMemory read = Unit {0}
 Fails bad.Malformed read = read ≡ None

@@ -5,5 +5,4 @@ pub mod OperationView
 pub mod OperationsCode
 pub mod Reading
 pub mod Gives
-pub mod Puts
 pub mod Laws

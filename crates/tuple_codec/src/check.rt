@@ -2,9 +2,10 @@
 
 ghost use Rattle.std.specs.Prelude.{◌≡◌, ◌+◌, ◌*◌, ◌≤◌, length, IsTrue, ◌↔◌};
 ghost use Rattle.tuple_codec.specs.Operations.{Operation, Outcome};
-ghost use Rattle.tuple_codec.specs.Gives.{Yields};
+ghost use Rattle.tuple_tree.specs.Gives.{Yields};
 ghost use Rattle.tuple_codec.specs.Spelling.{SpellsOperation, SpellsOutcome};
-ghost use Rattle.tuple_codec.specs.Reading.{rest_of, datum_at, slot_at, item_at, items_at, tuple_at, template_at, cas_at, counted_at, operation_behind, operation_at, tuples_at, outcome_behind, outcome_at};
+ghost use Rattle.tuple_tree.specs.Reading.{rest_of, datum_at, slot_at, item_at, items_at, tuple_at, template_at};
+ghost use Rattle.tuple_codec.specs.Reading.{cas_at, counted_at, operation_behind, operation_at, tuples_at, outcome_behind, outcome_at};
 
 use crate::operations::{MAX_ANSWERS, Max};
 use crate::reading::{frame, read_byte, read_flag, read_number, read_string, read_text, read_wide};
@@ -138,7 +139,7 @@ pub fn skip_template(bytes: &[u8]) -> Option<&[u8]>
 }
 
 // A tuple with at most so many levels below its own.
-#[tactic(auto, unfolding(crate::specs::Reading::items_with))]
+#[tactic(auto, unfolding(tuple_tree::specs::Reading::items_with))]
 #[cycle(skip_values)]
 fn skip_values(bytes: &[u8], levels: u8) -> Option<&[u8]>
     ensures { Yields (λ rest. rest.now) result (rest_of (items_at datum_at levels bytes.now)) }
@@ -154,7 +155,7 @@ fn skip_values(bytes: &[u8], levels: u8) -> Option<&[u8]>
     Some(rest)
 }
 
-#[tactic(auto, unfolding(crate::specs::Reading::item_with))]
+#[tactic(auto, unfolding(tuple_tree::specs::Reading::item_with))]
 #[cycle(skip_values)]
 fn skip_value(bytes: &[u8], levels: u8) -> Option<&[u8]>
     ensures { Yields (λ rest. rest.now) result (rest_of (item_at datum_at levels bytes.now)) }
@@ -170,7 +171,7 @@ fn skip_value(bytes: &[u8], levels: u8) -> Option<&[u8]>
 }
 
 // A template with at most so many levels below its own.
-#[tactic(auto, unfolding(crate::specs::Reading::items_with))]
+#[tactic(auto, unfolding(tuple_tree::specs::Reading::items_with))]
 #[cycle(skip_fields)]
 fn skip_fields(bytes: &[u8], levels: u8) -> Option<&[u8]>
     ensures { Yields (λ rest. rest.now) result (rest_of (items_at slot_at levels bytes.now)) }
@@ -186,7 +187,7 @@ fn skip_fields(bytes: &[u8], levels: u8) -> Option<&[u8]>
     Some(rest)
 }
 
-#[tactic(auto, unfolding(crate::specs::Reading::item_with))]
+#[tactic(auto, unfolding(tuple_tree::specs::Reading::item_with))]
 #[cycle(skip_fields)]
 fn skip_field(bytes: &[u8], levels: u8) -> Option<&[u8]>
     ensures { Yields (λ rest. rest.now) result (rest_of (item_at slot_at levels bytes.now)) }
@@ -201,7 +202,7 @@ fn skip_field(bytes: &[u8], levels: u8) -> Option<&[u8]>
     skip_fields(rest, levels - 1)
 }
 
-#[tactic(auto, unfolding(crate::specs::Reading::slot_at))]
+#[tactic(auto, unfolding(tuple_tree::specs::Reading::slot_at))]
 fn skip_slot(tag: u8, bytes: &[u8]) -> Option<&[u8]>
     ensures { Yields (λ rest. rest.now) result (rest_of (slot_at tag bytes.now)) }
 {
@@ -211,7 +212,7 @@ fn skip_slot(tag: u8, bytes: &[u8]) -> Option<&[u8]>
     }
 }
 
-#[tactic(auto, unfolding(crate::specs::Reading::datum_at))]
+#[tactic(auto, unfolding(tuple_tree::specs::Reading::datum_at))]
 fn skip_atom(tag: u8, bytes: &[u8]) -> Option<&[u8]>
     ensures { Yields (λ rest. rest.now) result (rest_of (datum_at tag bytes.now)) }
 {

@@ -9,7 +9,7 @@ ghost use Rattle.tuple_tree.specs.TupleView.{value_of};
 ghost use Rattle.tuple_tree.specs.TemplateView.{field_of};
 ghost use Rattle.tuple_codec.specs.Gives.{Gives, DecodesSpelled, DecodesEach};
 ghost use Rattle.tuple_codec.specs.Spelling.{SpellsTuple, SpellsTemplate, FrontSpellsTuple, FrontSpellsTemplate};
-ghost use Rattle.tuple_codec.specs.Reading.{read_as, byte_at, datum_at, slot_at, actual_at, item_at, items_at, tuple_at, template_at};
+ghost use Rattle.tuple_tree.specs.Reading.{read_as, byte_at, datum_at, slot_at, actual_at, item_at, items_at, tuple_at, template_at};
 
 use crate::bad::Bad;
 use crate::check::{skip_template, skip_tuple};
@@ -96,7 +96,7 @@ pub fn read_template<'b, A: Allocator + Clone>(
 }
 
 // A tuple with at most so many levels below its own.
-#[tactic(auto, unfolding(crate::specs::Reading::items_with))]
+#[tactic(auto, unfolding(tuple_tree::specs::Reading::items_with))]
 #[cycle(read_values)]
 fn read_values<'b, A: Allocator + Clone>(
     alloc: &A,
@@ -121,7 +121,7 @@ fn read_values<'b, A: Allocator + Clone>(
     Ok((tuple, rest))
 }
 
-#[tactic(auto, unfolding(crate::specs::Reading::item_with))]
+#[tactic(auto, unfolding(tuple_tree::specs::Reading::item_with))]
 #[cycle(read_values)]
 fn read_value<'b, A: Allocator + Clone>(
     alloc: &A,
@@ -180,7 +180,7 @@ fn push_value<A: Allocator>(tuple: &mut Tuple<A>, value: Value<A>) -> Result<(),
 }
 
 // A template with at most so many levels below its own.
-#[tactic(auto, unfolding(crate::specs::Reading::items_with))]
+#[tactic(auto, unfolding(tuple_tree::specs::Reading::items_with))]
 #[cycle(read_fields)]
 fn read_fields<'b, A: Allocator + Clone>(
     alloc: &A,
@@ -205,7 +205,7 @@ fn read_fields<'b, A: Allocator + Clone>(
     Ok((template, rest))
 }
 
-#[tactic(auto, unfolding(crate::specs::Reading::item_with))]
+#[tactic(auto, unfolding(tuple_tree::specs::Reading::item_with))]
 #[cycle(read_fields)]
 fn read_field<'b, A: Allocator + Clone>(
     alloc: &A,
@@ -227,7 +227,7 @@ fn read_field<'b, A: Allocator + Clone>(
     Ok((template.into_field(), rest))
 }
 
-#[tactic(auto, unfolding(crate::specs::Reading::slot_at))]
+#[tactic(auto, unfolding(tuple_tree::specs::Reading::slot_at))]
 fn read_slot<'b, A: Allocator + Clone>(
     alloc: &A,
     tag: u8,
@@ -275,7 +275,7 @@ fn push_field<A: Allocator>(template: &mut Template<A>, field: Field<A>) -> Resu
 }
 
 // The value after a tag. The bytes are few, so it asks for little memory.
-#[tactic(auto, unfolding(crate::specs::Reading::datum_at))]
+#[tactic(auto, unfolding(tuple_tree::specs::Reading::datum_at))]
 fn read_atom<'b, A: Allocator + Clone>(
     alloc: &A,
     tag: u8,

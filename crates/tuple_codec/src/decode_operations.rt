@@ -5,7 +5,8 @@ ghost use Rattle.tuple_codec.specs.Operations.{out, rdp, inp, rd_all, in_all};
 ghost use Rattle.tuple_codec.specs.OperationView.{operation_of, outcome_of};
 ghost use Rattle.tuple_codec.specs.Gives.{Gives, DecodesSpelled, DecodesEach};
 ghost use Rattle.tuple_codec.specs.Spelling.{SpellsOperation, SpellsOutcome, SpellsSomeOperation, FrontSpellsOperation, FrontSpellsOutcome};
-ghost use Rattle.tuple_codec.specs.Reading.{read_as, tuple_at, template_at, cas_at, counted_at, operation_behind, operation_at, tuples_at, found_at, swapped_at, all_at, outcome_behind, outcome_at, with_tuple};
+ghost use Rattle.tuple_tree.specs.Reading.{read_as, tuple_at, template_at};
+ghost use Rattle.tuple_codec.specs.Reading.{cas_at, counted_at, operation_behind, operation_at, tuples_at, found_at, swapped_at, all_at, outcome_behind, outcome_at, with_tuple};
 
 use crate::bad::Bad;
 use crate::check::{skip_answer, skip_op};

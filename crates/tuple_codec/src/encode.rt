@@ -6,11 +6,12 @@ ghost use Rattle.tuple_tree.specs.Values.{datum_length, slot_length};
 ghost use Rattle.tuple_tree.specs.AtomView.{datum_of};
 ghost use Rattle.tuple_tree.specs.TupleView.{value_of};
 ghost use Rattle.tuple_tree.specs.TemplateView.{field_of};
-ghost use Rattle.tuple_codec.specs.Puts.{Puts};
+ghost use Rattle.tuple_tree.specs.Puts.{Puts};
 ghost use Rattle.tuple_codec.specs.Operations.{all};
 ghost use Rattle.tuple_codec.specs.OperationView.{op_spelling, answer_spelling};
-ghost use Rattle.tuple_codec.specs.Spelling.{flag, datum_spelling, formal_tag, value_spelling, field_spelling, tuple_spelling, template_spelling, cas_spelling, counted_spelling, tuples_spelling, outcome_spelling};
-ghost use Rattle.tuple_codec.specs.Spelling as Spelling;
+ghost use Rattle.tuple_tree.specs.Spelling.{flag, datum_spelling, formal_tag, value_spelling, field_spelling, tuple_spelling, template_spelling};
+ghost use Rattle.tuple_codec.specs.Spelling.{cas_spelling, counted_spelling, tuples_spelling, outcome_spelling};
+ghost use Rattle.tuple_tree.specs.Spelling as Spelling;
 
 use crate::operations::{Answer, Max, Op, Tuples};
 use std::alloc::Allocator;
@@ -281,7 +282,7 @@ fn put_atom<A: Allocator, B: Allocator>(
     }
 }
 
-#[tactic(auto, unfolding(crate::specs::Spelling::wide_bytes))]
+#[tactic(auto, unfolding(tuple_tree::specs::Spelling::wide_bytes))]
 fn wide_bytes(number: i128) -> [u8; 16]
     ensures { result ≡ Spelling.wide_bytes number }
 {

@@ -2,7 +2,8 @@
 
 ghost use Rattle.tuple_tree.specs.Values.{IsTuple, IsTemplate};
 ghost use Rattle.tuple_codec.specs.Operations.{IsOperation, IsOutcome};
-ghost use Rattle.tuple_codec.specs.Spelling.{tuple_spelling, template_spelling, operation_spelling, outcome_spelling};
+ghost use Rattle.tuple_tree.specs.Spelling.{tuple_spelling, template_spelling};
+ghost use Rattle.tuple_codec.specs.Spelling.{operation_spelling, outcome_spelling};
 ghost use Rattle.tuple_codec.specs.Laws.{HasOneSpelling};
 
 /// No spelling begins another one of its sort, and each stands for one value. So the bytes after a spelling never

@@ -3,7 +3,8 @@
 ghost use Rattle.std.specs.Prelude.{◌≡◌, ◌+◌, ◌<◌, ◌≤◌, [], ◌∷◌, ◌++◌, length, map, OnOk, OnErr, IfOk, IfErr, IsTrue, SomeIff, IsSome, IfSome, ◌↔◌};
 ghost use Rattle.tuple_tree.specs.Values.{IsTuple, IsTemplate};
 ghost use Rattle.tuple_codec.specs.Operations.{AreTuples};
-ghost use Rattle.tuple_codec.specs.Spelling.{tuple_spelling, template_spelling, tuples_spelling};
+ghost use Rattle.tuple_tree.specs.Spelling.{tuple_spelling, template_spelling};
+ghost use Rattle.tuple_codec.specs.Spelling.{tuples_spelling};
 
 use std::alloc::{AllocFailed, Allocator};
 use std::marker::Model;

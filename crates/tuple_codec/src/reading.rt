@@ -2,8 +2,8 @@
 
 ghost use Rattle.std.specs.Prelude.{◌≡◌, ◌+◌, ◌≤◌, length, take, drop, Some};
 ghost use Rattle.tuple_tree.specs.Values.{number, wide};
-ghost use Rattle.tuple_codec.specs.Gives.{Yields};
-ghost use Rattle.tuple_codec.specs.Reading.{byte_at, bytes_at, number_of, signed_at, wide_at, string_at, text_at, flag_at};
+ghost use Rattle.tuple_tree.specs.Gives.{Yields};
+ghost use Rattle.tuple_tree.specs.Reading.{byte_at, bytes_at, number_of, signed_at, wide_at, string_at, text_at, flag_at};
 
 use byteorder::{BigEndian, ByteOrder};
 use std::str;
@@ -30,7 +30,7 @@ pub fn read_byte(bytes: &[u8]) -> Option<(u8, &[u8])>
     }
 }
 
-#[tactic(auto, unfolding(crate::specs::Reading::bytes_at))]
+#[tactic(auto, unfolding(tuple_tree::specs::Reading::bytes_at))]
 fn read_bytes(bytes: &[u8], n: usize) -> Option<(&[u8], &[u8])>
     ensures { Yields (λ x. (x.0.now, x.1.now)) result (bytes_at n bytes.now) }
 {
@@ -40,7 +40,7 @@ fn read_bytes(bytes: &[u8], n: usize) -> Option<(&[u8], &[u8])>
     Some(bytes.split_at(n))
 }
 
-#[tactic(auto, unfolding(crate::specs::Reading::number_of))]
+#[tactic(auto, unfolding(tuple_tree::specs::Reading::number_of))]
 fn read_length(bytes: &[u8]) -> Option<(u16, &[u8])>
     ensures { Yields (λ x. (x.0, x.1.now)) result (number_of 2 bytes.now) }
 {
@@ -51,7 +51,7 @@ fn read_length(bytes: &[u8]) -> Option<(u16, &[u8])>
 }
 
 /// A signed number of 64 bits.
-#[tactic(auto, unfolding(crate::specs::Reading::number_of))]
+#[tactic(auto, unfolding(tuple_tree::specs::Reading::number_of))]
 pub fn read_number(bytes: &[u8]) -> Option<(i64, &[u8])>
     ensures { Yields (λ x. (number x.0, x.1.now)) result (signed_at bytes.now) }
 {
@@ -80,7 +80,7 @@ fn wide_of(bytes: &[u8]) -> i128
 }
 
 /// A length, and then so many bytes.
-#[tactic(auto, unfolding(crate::specs::Reading::string_at))]
+#[tactic(auto, unfolding(tuple_tree::specs::Reading::string_at))]
 pub fn read_string(bytes: &[u8]) -> Option<(&[u8], &[u8])>
     ensures { Yields (λ x. (x.0.now, x.1.now)) result (string_at bytes.now) }
 {
@@ -89,7 +89,7 @@ pub fn read_string(bytes: &[u8]) -> Option<(&[u8], &[u8])>
 }
 
 /// A length, and then so many bytes of UTF-8.
-#[tactic(auto, unfolding(crate::specs::Reading::text_at))]
+#[tactic(auto, unfolding(tuple_tree::specs::Reading::text_at))]
 pub fn read_text(bytes: &[u8]) -> Option<(&str, &[u8])>
     ensures { Yields (λ x. (x.0.now, x.1.now)) result (text_at bytes.now) }
 {
@@ -101,7 +101,7 @@ pub fn read_text(bytes: &[u8]) -> Option<(&str, &[u8])>
 }
 
 /// 00 for false, 01 for true.
-#[tactic(auto, unfolding(crate::specs::Reading::flag_at))]
+#[tactic(auto, unfolding(tuple_tree::specs::Reading::flag_at))]
 pub fn read_flag(bytes: &[u8]) -> Option<(bool, &[u8])>
     ensures { Yields (λ x. (x.0, x.1.now)) result (flag_at bytes.now) }
 {

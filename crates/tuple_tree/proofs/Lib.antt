@@ -2,3 +2,10 @@ pub mod Growing
 pub mod Viewing
 pub mod Counting
 pub mod Apart
+pub mod Readers
+pub mod Numbers
+pub mod Leaves
+pub mod Trees
+pub mod NumberBytes
+pub mod Steps
+pub mod Skipping

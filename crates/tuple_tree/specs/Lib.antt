@@ -10,3 +10,7 @@ pub mod TupleView
 pub mod TupleFalls
 pub mod TemplateView
 pub mod TemplateFalls
+pub mod Puts
+pub mod Spelling
+pub mod Reading
+pub mod Gives

@@ -4,7 +4,7 @@ use Rattle.std.proofs.lemmas.List.{drop-drop}
 use Rattle.std.proofs.lemmas.Bool.{lt-ltb, le-ltb, le-leb, ltb-true, ltb-false}
 use lib.Dec.{ltb, leb}
 use Rattle.byteorder.specs.Endian.{big_number}
-use Rattle.tuple_codec.specs.Reading.{byte_at, bytes_at, number_of}
+use Rattle.tuple_tree.specs.Reading.{byte_at, bytes_at, number_of}
 use Rattle.wire.specs.Lists.{ascends}
 use Rattle.wire.specs.Messages.{MacData}
 use Rattle.wire.specs.Spelling.{mac_before}

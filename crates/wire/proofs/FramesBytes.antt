@@ -3,7 +3,7 @@ use Rattle.std.proofs.Common.{ℕ, ◌<◌, ◌≤◌, Bool, List, [], ◌∷◌
 use Rattle.std.specs.Int.{w16, w32, w64, to_be_bytes}
 use Rattle.tuple_tree.specs.Values.{AreBytes}
 use Rattle.tuple_codec.specs.Spelling.{operation_spelling, outcome_spelling}
-use Rattle.tuple_codec.proofs.Readers.{bytes_append}
+use Rattle.tuple_tree.proofs.Readers.{bytes_append}
 use Rattle.terms.specs.declared.order.Mode.{Mode}
 use Rattle.terms.specs.declared.order.Mode.TheVariants as modes
 use Rattle.terms.specs.declared.state.Level.{Level}
@@ -11,7 +11,8 @@ use Rattle.terms.specs.declared.state.Level.TheVariants as levels
 use Rattle.wire.specs.Lists.{Each, each_spelling}
 use Rattle.wire.specs.Messages.{CheckpointEntryData, BatchEntryData, ViewChangeData, NewViewData, MessageData, request, pre_prepare, prepare, commit, checkpoint, view_change, new_view, reply, fetch, meta, page, MacData, AuthenticatorData, macs, signature, FrameData}
 use Rattle.wire.specs.Spelling.{mode_byte, level_byte, checkpoint_entry_spelling, batch_entry_spelling, piece, pieces_spelling, checkpoint_entries_spelling, batch_entries_spelling, view_change_spelling, batches_spelling, new_view_spelling, message_type, fields_spelling, body_spelling, mac_spelling, authenticator_spelling, frame_spelling, IsDigest, IsCheckpointEntry, IsBatchEntry, IsViewChange, IsPlain, IsMac, IsAuthenticator, IsFrameOf, is_ordered_request, is_view_change, IsCarried, IsBatch, IsNewView, IsMessage, SpellsFrame}
-use Rattle.tuple_codec.proofs.SpelledBytes.{no_bytes, bytes_more, bytes_2, bytes_4, bytes_8, operation_bytes, outcome_bytes}
+use Rattle.tuple_tree.proofs.NumberBytes.{no_bytes, bytes_more}
+use Rattle.tuple_codec.proofs.SpelledBytes.{bytes_2, bytes_4, bytes_8, operation_bytes, outcome_bytes}
 
 -- ---- lists of parts
 

@@ -6,9 +6,10 @@ use lib.Dec.{eqb, leb}
 use Rattle.tuple_tree.specs.Values.{AreBytes}
 use Rattle.tuple_codec.specs.Operations.{Operation, IsOperation, Outcome, IsOutcome}
 use Rattle.tuple_codec.specs.Spelling.{SpellsOperation, operation_spelling, SpellsOutcome, outcome_spelling}
-use Rattle.tuple_codec.specs.Gives.{Yields}
-use Rattle.tuple_codec.specs.Reading.{◌>>=◌, Reader, read_as, rest_of, byte_at, number_of, operation_at, outcome_at}
-use Rattle.tuple_codec.proofs.Readers.{parts}
+use Rattle.tuple_tree.specs.Gives.{Yields}
+use Rattle.tuple_tree.specs.Reading.{◌>>=◌, Reader, read_as, rest_of, byte_at, number_of}
+use Rattle.tuple_codec.specs.Reading.{operation_at, outcome_at}
+use Rattle.tuple_tree.proofs.Readers.{parts}
 use Rattle.tuple_codec.proofs.OperationLaws.{operation_reads, outcome_reads}
 use Rattle.terms.specs.declared.order.Mode.{Mode}
 use Rattle.wire.specs.Messages.{MessageData, request, pre_prepare, prepare, commit, checkpoint, view_change, new_view, reply, fetch, meta, page, BodyData, AuthenticatorData}

@@ -3,8 +3,8 @@ use Rattle.std.proofs.Common.{◌≡◌, ℕ, zero, suc, ◌+◌, ◌≤◌, ◌
 use Rattle.std.specs.Prelude.{◌&&◌, nat_le}
 use Rattle.std.proofs.lemmas.Bool.{and_parts, and_from, le-leb, leb-true}
 use Rattle.std.specs.Bool.{then_some}
-use Rattle.tuple_codec.specs.Reading.{Reader, byte_at}
-use Rattle.tuple_codec.proofs.Readers.{bind_some, guard_holds, parts}
+use Rattle.tuple_tree.specs.Reading.{Reader, byte_at}
+use Rattle.tuple_tree.proofs.Readers.{bind_some, guard_holds, parts}
 use Rattle.wire.specs.Lists.{Each}
 use Rattle.wire.specs.Spelling.{IsBatch, IsCarried, is_ordered_request}
 use Rattle.wire.specs.Reading.{passing, more_at, anyhow, piece_at, is_request, requests_at}

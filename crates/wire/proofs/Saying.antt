@@ -4,8 +4,8 @@ use Rattle.std.specs.Prelude.{nat_lt}
 use Rattle.std.specs.List.{list_all}
 use Rattle.std.proofs.lemmas.Bool.{and_parts, and_from, ltb-true, lt-ltb}
 use Rattle.tuple_tree.specs.Values.{AreBytes}
-use Rattle.tuple_codec.specs.Reading.{◌>>=◌}
-use Rattle.tuple_codec.proofs.Readers.{bind_some, guard_holds}
+use Rattle.tuple_tree.specs.Reading.{◌>>=◌}
+use Rattle.tuple_tree.proofs.Readers.{bind_some, guard_holds}
 use Rattle.wire.specs.Messages.{FrameData}
 use Rattle.wire.specs.Spelling.{SpellsFrame}
 use Rattle.wire.specs.Reading.{frame_read}

@@ -2,8 +2,9 @@
 use Rattle.std.specs.Prelude.{ℕ, List, Option, Result}
 use Rattle.std.specs.Borrow.{Bor}
 use Rattle.tuple_codec.specs.declared.bad.Bad.{Bad}
-use Rattle.tuple_codec.specs.Gives.{Gives, Yields}
-use Rattle.tuple_codec.specs.Reading.{rest_of}
+use Rattle.tuple_tree.specs.Gives.{Yields}
+use Rattle.tuple_codec.specs.Gives.{Gives}
+use Rattle.tuple_tree.specs.Reading.{rest_of}
 
 -- the value at the front, and the bytes after it
 abbrev pub YieldsFront : {X Y : Type 0} → (X → Y) → Option (X × Bor (List ℕ))

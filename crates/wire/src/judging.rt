@@ -1,7 +1,7 @@
 //! Whether bytes spell a frame. Nothing here copies them or takes memory.
 
 ghost use Rattle.std.specs.Prelude.{◌≡◌, ◌≢◌, ◌≤◌, ◌&&◌, ◌<◌, is_some, length, option_map, IfOk, IfErr, IsOk, [], nat_le, ◌==◌, ◌||◌};
-ghost use Rattle.tuple_codec.specs.Gives.{Yields};
+ghost use Rattle.tuple_tree.specs.Gives.{Yields};
 ghost use Rattle.wire.specs.Messages.{FrameData};
 ghost use Rattle.wire.specs.Spelling as Spelling;
 ghost use Rattle.wire.specs.Spelling.{SpellsFrame};

@@ -5,8 +5,8 @@ use Rattle.std.specs.Prelude.{nat_le, ⊤}
 use Rattle.std.proofs.lemmas.Bool.{and_parts, leb-true}
 use Rattle.std.specs.Bool.{then_some}
 use Rattle.tuple_codec.specs.Operations.{IsOperation, IsOutcome}
-use Rattle.tuple_codec.specs.Reading.{Reader, byte_at}
-use Rattle.tuple_codec.proofs.Readers.{bind_some, guard_holds}
+use Rattle.tuple_tree.specs.Reading.{Reader, byte_at}
+use Rattle.tuple_tree.proofs.Readers.{bind_some, guard_holds}
 use Rattle.wire.specs.Messages.{BodyData as Body, MessageData as Message, request as Request, reply as Reply}
 use Rattle.wire.specs.Spelling.{IsMessage}
 use Rattle.wire.specs.Reading.{passing, more_at, anyhow, piece_at, is_request, requests_at}

@@ -1,5 +1,5 @@
 use Rattle.std.proofs.Common.{length}
-use Rattle.tuple_codec.specs.Spelling.{tuple_spelling}
+use Rattle.tuple_tree.specs.Spelling.{tuple_spelling}
 use Rattle.space.proofs.Fronts.{tuple_found, tuple_only, tuple_within, tuple_spelled}
 use Rattle.space.proofs.reading.read_tuple.Goals as goal
 

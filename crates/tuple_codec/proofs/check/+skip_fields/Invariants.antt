@@ -1,6 +1,6 @@
 use Rattle.std.proofs.Common.{◌≡◌, ◌+◌, ◌-◌, ◌*◌}
 use Rattle.tuple_tree.specs.Items.{none, with_last}
-use Rattle.tuple_codec.specs.Reading.{rest_of, more, slot_at, item_at}
+use Rattle.tuple_tree.specs.Reading.{rest_of, more, slot_at, item_at}
 use Rattle.tuple_codec.proofs.check.+skip_fields.Given as goal
 
 abbrev pub invariant-skip_fields-loop-i : goal.invariant-skip_fields-loop-i

@@ -1,8 +1,8 @@
 use Rattle.std.proofs.Common.{◌∙◌, ap, arith}
 use Rattle.tuple_tree.specs.Items.{none, with_last}
-use Rattle.tuple_codec.specs.Reading.{rest_of, datum_at, item_at, inner_at}
-use Rattle.tuple_codec.proofs.Steps.{at_five, no_levels}
-use Rattle.tuple_codec.proofs.Skipping.{skip_five, skip_goes_on}
+use Rattle.tuple_tree.specs.Reading.{rest_of, datum_at, item_at, inner_at}
+use Rattle.tuple_tree.proofs.Steps.{at_five, no_levels}
+use Rattle.tuple_tree.proofs.Skipping.{skip_five, skip_goes_on}
 use Rattle.tuple_codec.proofs.check.+skip_values.Goals as goal
 
 pub skip_value-returns-then-levels-eq0 : goal.skip_value-returns-then-levels-eq0

@@ -1,6 +1,6 @@
 use Rattle.std.proofs.Common.{◌≡◌, ◌+◌, ◌-◌, ◌*◌}
 use Rattle.tuple_tree.specs.Items.{none, with_last}
-use Rattle.tuple_codec.specs.Reading.{rest_of, more, datum_at, item_at}
+use Rattle.tuple_tree.specs.Reading.{rest_of, more, datum_at, item_at}
 use Rattle.tuple_codec.proofs.check.+skip_values.Given as goal
 
 abbrev pub invariant-skip_values-loop-i : goal.invariant-skip_values-loop-i

@@ -1,9 +1,9 @@
 use Rattle.std.proofs.Common.{◌∙◌, ap, sym, Some, arith}
 use Rattle.tuple_tree.specs.Values.{IsDatum, datum_length}
-use Rattle.tuple_codec.specs.Reading.{datum_at, items_at}
-use Rattle.tuple_codec.specs.Spelling.{datum_spelling, tuple_spelling}
-use Rattle.tuple_codec.proofs.Leaves.{datum_leaves}
-use Rattle.tuple_codec.proofs.Trees.{IsListOf, items_found}
+use Rattle.tuple_tree.specs.Reading.{datum_at, items_at}
+use Rattle.tuple_tree.specs.Spelling.{datum_spelling, tuple_spelling}
+use Rattle.tuple_tree.proofs.Leaves.{datum_leaves}
+use Rattle.tuple_tree.proofs.Trees.{IsListOf, items_found}
 use Rattle.tuple_codec.proofs.Skipping.{frame_skip, frame_skip_fails}
 use Rattle.tuple_codec.proofs.check.skip_tuple.Goals as goal
 

@@ -1,6 +1,7 @@
 use Rattle.std.proofs.Common.{◌∙◌, [], arith}
-use Rattle.tuple_codec.specs.Reading.{tuple_at, with_tuple}
-use Rattle.tuple_codec.proofs.Skipping.{skip_goes_on}
+use Rattle.tuple_tree.specs.Reading.{tuple_at}
+use Rattle.tuple_codec.specs.Reading.{with_tuple}
+use Rattle.tuple_tree.proofs.Skipping.{skip_goes_on}
 use Rattle.tuple_codec.proofs.check.skip_tuples.Goals as goal
 
 pub loop-i-preserved : goal.loop-i-preserved

@@ -1,5 +1,6 @@
 use Rattle.std.proofs.Common.{◌≡◌, ◌-◌, []}
-use Rattle.tuple_codec.specs.Reading.{rest_of, more, tuple_at, with_tuple}
+use Rattle.tuple_tree.specs.Reading.{rest_of, more, tuple_at}
+use Rattle.tuple_codec.specs.Reading.{with_tuple}
 use Rattle.tuple_codec.proofs.check.skip_tuples.Given as goal
 
 abbrev pub invariant-loop-i : goal.invariant-loop-i

@@ -3,10 +3,11 @@ use Rattle.std.proofs.lemmas.Result.{err_from_is_err_and}
 use Rattle.tuple_tree.specs.Values.{IsSlot, slot_length}
 use Rattle.tuple_tree.specs.Items.{with_last}
 use Rattle.tuple_codec.specs.Gives.{Fails}
-use Rattle.tuple_codec.specs.Spelling.{slot_spelling}
-use Rattle.tuple_codec.specs.Reading.{slot_at, item_at, inner_at}
-use Rattle.tuple_codec.proofs.Leaves.{slot_leaves}
-use Rattle.tuple_codec.proofs.Steps.{starts, ends, goes_on, one_fails, whole, Filled, filled_start, filled_more, at_leaf, at_five, no_levels, inner_there, inner_fails}
+use Rattle.tuple_tree.specs.Spelling.{slot_spelling}
+use Rattle.tuple_tree.specs.Reading.{slot_at, item_at, inner_at}
+use Rattle.tuple_tree.proofs.Leaves.{slot_leaves}
+use Rattle.tuple_tree.proofs.Steps.{starts, ends, goes_on, whole, at_leaf, at_five, no_levels, inner_there}
+use Rattle.tuple_codec.proofs.Steps.{one_fails, Filled, filled_start, filled_more, inner_fails}
 use Rattle.tuple_codec.proofs.decode.+read_fields.Goals as goal
 
 pub read_field-returns-then-tag-ne5 : goal.read_field-returns-then-tag-ne5

@@ -1,7 +1,7 @@
 use Rattle.std.proofs.Common.{◌≡◌, ◌+◌, ◌-◌, ◌*◌}
 use Rattle.tuple_tree.specs.Items.{none, with_last}
 use Rattle.tuple_tree.specs.Values.{IsSlot, slot_length}
-use Rattle.tuple_codec.specs.Reading.{more, slot_at, item_at}
+use Rattle.tuple_tree.specs.Reading.{more, slot_at, item_at}
 use Rattle.tuple_codec.proofs.Steps.{Filled}
 use Rattle.tuple_codec.proofs.decode.+read_fields.Given as goal
 

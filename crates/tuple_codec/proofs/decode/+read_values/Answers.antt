@@ -3,10 +3,11 @@ use Rattle.std.proofs.lemmas.Result.{err_from_is_err_and}
 use Rattle.tuple_tree.specs.Values.{IsDatum, datum_length}
 use Rattle.tuple_tree.specs.Items.{with_last}
 use Rattle.tuple_codec.specs.Gives.{Fails}
-use Rattle.tuple_codec.specs.Spelling.{datum_spelling}
-use Rattle.tuple_codec.specs.Reading.{datum_at, item_at, inner_at}
-use Rattle.tuple_codec.proofs.Leaves.{datum_leaves}
-use Rattle.tuple_codec.proofs.Steps.{starts, ends, goes_on, one_fails, whole, Filled, filled_start, filled_more, at_leaf, at_five, no_levels, inner_there, inner_fails}
+use Rattle.tuple_tree.specs.Spelling.{datum_spelling}
+use Rattle.tuple_tree.specs.Reading.{datum_at, item_at, inner_at}
+use Rattle.tuple_tree.proofs.Leaves.{datum_leaves}
+use Rattle.tuple_tree.proofs.Steps.{starts, ends, goes_on, whole, at_leaf, at_five, no_levels, inner_there}
+use Rattle.tuple_codec.proofs.Steps.{one_fails, Filled, filled_start, filled_more, inner_fails}
 use Rattle.tuple_codec.proofs.decode.+read_values.Goals as goal
 
 pub read_value-returns-then-tag-ne5 : goal.read_value-returns-then-tag-ne5

@@ -1,7 +1,7 @@
 use Rattle.std.proofs.Common.{arith}
 use Rattle.tuple_tree.specs.Values.{IsTemplate}
-use Rattle.tuple_codec.specs.Spelling.{template_spelling}
-use Rattle.tuple_codec.specs.Reading.{template_at}
+use Rattle.tuple_tree.specs.Spelling.{template_spelling}
+use Rattle.tuple_tree.specs.Reading.{template_at}
 use Rattle.tuple_codec.proofs.Grammar.{shorter, spelled, only_ok, only_err, template_reads}
 use Rattle.tuple_codec.proofs.Skipping.{front_there, front_none}
 use Rattle.tuple_codec.proofs.decode.decode_template.Goals as goal

@@ -1,7 +1,7 @@
 use Rattle.std.proofs.Common.{arith}
 use Rattle.tuple_tree.specs.Values.{IsTuple}
-use Rattle.tuple_codec.specs.Spelling.{tuple_spelling}
-use Rattle.tuple_codec.specs.Reading.{tuple_at}
+use Rattle.tuple_tree.specs.Spelling.{tuple_spelling}
+use Rattle.tuple_tree.specs.Reading.{tuple_at}
 use Rattle.tuple_codec.proofs.Grammar.{shorter, spelled, only_ok, only_err, tuple_reads}
 use Rattle.tuple_codec.proofs.Skipping.{front_there, front_none}
 use Rattle.tuple_codec.proofs.decode.decode_tuple.Goals as goal

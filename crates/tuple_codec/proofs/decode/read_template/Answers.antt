@@ -1,9 +1,9 @@
 use Rattle.std.proofs.Common.{◌∙◌, ap, sym, Some, arith}
 use Rattle.tuple_tree.specs.Values.{IsSlot, slot_length}
-use Rattle.tuple_codec.specs.Reading.{slot_at, items_at}
-use Rattle.tuple_codec.specs.Spelling.{slot_spelling, template_spelling}
-use Rattle.tuple_codec.proofs.Leaves.{slot_leaves}
-use Rattle.tuple_codec.proofs.Trees.{IsListOf, items_found}
+use Rattle.tuple_tree.specs.Reading.{slot_at, items_at}
+use Rattle.tuple_tree.specs.Spelling.{slot_spelling, template_spelling}
+use Rattle.tuple_tree.proofs.Leaves.{slot_leaves}
+use Rattle.tuple_tree.proofs.Trees.{IsListOf, items_found}
 use Rattle.tuple_codec.proofs.Steps.{frame_read, framed_fails}
 use Rattle.tuple_codec.proofs.decode.read_template.Goals as goal
 

@@ -5,7 +5,7 @@ use Rattle.tuple_codec.specs.Reading.{operation_at}
 use Rattle.tuple_codec.specs.Spelling.{SpellsOperation, operation_spelling}
 use Rattle.tuple_codec.proofs.Grammar.{all_read}
 use Rattle.tuple_codec.proofs.OperationLaws.{operation_reads}
-use Rattle.tuple_codec.proofs.Readers.{parts}
+use Rattle.tuple_tree.proofs.Readers.{parts}
 use Rattle.tuple_codec.proofs.decode_operations.decode_judged_op.Goals as goal
 
 pub unreachable-requires : goal.unreachable-requires

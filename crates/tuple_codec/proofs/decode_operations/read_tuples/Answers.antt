@@ -1,8 +1,10 @@
 use Rattle.std.proofs.Common.{◌∙◌, ◌∷◌, [], ap, subst, arith, length, length-append}
 use Rattle.std.proofs.lemmas.Result.{err_from_is_err_and}
 use Rattle.tuple_codec.specs.Gives.{Fails}
-use Rattle.tuple_codec.specs.Reading.{tuple_at, with_tuple}
-use Rattle.tuple_codec.proofs.Steps.{starts, ends, goes_on, one_fails, whole_tuples}
+use Rattle.tuple_tree.specs.Reading.{tuple_at}
+use Rattle.tuple_codec.specs.Reading.{with_tuple}
+use Rattle.tuple_tree.proofs.Steps.{starts, ends, goes_on}
+use Rattle.tuple_codec.proofs.Steps.{one_fails, whole_tuples}
 use Rattle.tuple_codec.proofs.decode_operations.read_tuples.Goals as goal
 
 pub loop-i-init : goal.loop-i-init

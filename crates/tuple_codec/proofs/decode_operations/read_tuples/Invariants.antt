@@ -1,5 +1,6 @@
 use Rattle.std.proofs.Common.{◌≡◌, ◌-◌, [], length}
-use Rattle.tuple_codec.specs.Reading.{more, tuple_at, with_tuple}
+use Rattle.tuple_tree.specs.Reading.{more, tuple_at}
+use Rattle.tuple_codec.specs.Reading.{with_tuple}
 use Rattle.tuple_codec.proofs.decode_operations.read_tuples.Given as goal
 
 abbrev pub invariant-loop-i : goal.invariant-loop-i

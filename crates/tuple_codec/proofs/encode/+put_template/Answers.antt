@@ -3,7 +3,7 @@ use Rattle.std.proofs.lemmas.Result.{err_from_is_err_and}
 use Rattle.tuple_tree.specs.Items.{levels_of}
 use Rattle.tuple_tree.specs.Values.{slot_length}
 use Rattle.tuple_tree.specs.TemplateView.{field_of}
-use Rattle.tuple_codec.specs.Spelling.{slot_spelling}
+use Rattle.tuple_tree.specs.Spelling.{slot_spelling}
 use Rattle.tuple_codec.proofs.Bounds.{at_item}
 use Rattle.tuple_codec.proofs.Putting.{grown, kept_on, kept_grown, count_put, item_put, items_put}
 use Rattle.tuple_codec.proofs.encode.+put_template.Goals as goal

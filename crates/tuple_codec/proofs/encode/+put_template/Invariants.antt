@@ -1,7 +1,7 @@
 use Rattle.std.proofs.Common.{◌≡◌, ◌+◌, ◌*◌, ◌++◌, drop, take, length}
 use Rattle.tuple_tree.specs.Items.{levels_of, item_levels}
 use Rattle.tuple_tree.specs.TemplateView.{field_of, template_of}
-use Rattle.tuple_codec.specs.Spelling.{slot_spelling, items_spelling, template_spelling}
+use Rattle.tuple_tree.specs.Spelling.{slot_spelling, items_spelling, template_spelling}
 use Rattle.tuple_codec.proofs.encode.+put_template.Given as goal
 
 abbrev pub invariant-put_template-loop-field : goal.invariant-put_template-loop-field

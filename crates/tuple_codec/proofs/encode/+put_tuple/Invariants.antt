@@ -1,7 +1,7 @@
 use Rattle.std.proofs.Common.{◌≡◌, ◌+◌, ◌*◌, ◌++◌, drop, take, length}
 use Rattle.tuple_tree.specs.Items.{levels_of, item_levels}
 use Rattle.tuple_tree.specs.TupleView.{value_of, tuple_of}
-use Rattle.tuple_codec.specs.Spelling.{datum_spelling, items_spelling, tuple_spelling}
+use Rattle.tuple_tree.specs.Spelling.{datum_spelling, items_spelling, tuple_spelling}
 use Rattle.tuple_codec.proofs.encode.+put_tuple.Given as goal
 
 abbrev pub invariant-put_tuple-loop-value : goal.invariant-put_tuple-loop-value

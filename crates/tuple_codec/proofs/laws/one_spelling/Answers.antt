@@ -1,7 +1,9 @@
 use Rattle.tuple_tree.specs.Values.{IsTuple, IsTemplate}
 use Rattle.tuple_codec.specs.Operations.{IsOperation, IsOutcome}
-use Rattle.tuple_codec.specs.Spelling.{tuple_spelling, template_spelling, operation_spelling, outcome_spelling}
-use Rattle.tuple_codec.specs.Reading.{tuple_at, template_at, operation_at, outcome_at}
+use Rattle.tuple_tree.specs.Spelling.{tuple_spelling, template_spelling}
+use Rattle.tuple_codec.specs.Spelling.{operation_spelling, outcome_spelling}
+use Rattle.tuple_tree.specs.Reading.{tuple_at, template_at}
+use Rattle.tuple_codec.specs.Reading.{operation_at, outcome_at}
 use Rattle.tuple_codec.proofs.Grammar.{one, tuple_reads, template_reads}
 use Rattle.tuple_codec.proofs.OperationLaws.{operation_reads, outcome_reads}
 use Rattle.tuple_codec.proofs.laws.one_spelling.Goals as goal

@@ -1,5 +1,5 @@
 use Rattle.std.proofs.Common.{◌∙◌, ap, sym, Some}
-use Rattle.tuple_codec.proofs.Steps.{text_there, text_not_there}
+use Rattle.tuple_tree.proofs.Steps.{text_there, text_not_there}
 use Rattle.tuple_codec.proofs.reading.read_text.Goals as goal
 
 pub returns-in-Ok : goal.returns-in-Ok

@@ -1,8 +1,8 @@
 use Rattle.std.proofs.Common.{Some, ap, arith}
 use Rattle.std.specs.Int.{w128, cast_signed}
 use Rattle.tuple_tree.specs.Values.{wide}
-use Rattle.tuple_codec.specs.Reading.{◌>>=◌}
-use Rattle.tuple_codec.proofs.Numbers.{number_none}
+use Rattle.tuple_tree.specs.Reading.{◌>>=◌}
+use Rattle.tuple_tree.proofs.Numbers.{number_none}
 use Rattle.tuple_codec.proofs.reading.read_wide.Goals as goal
 
 pub returns-then-bytes-lt16 : goal.returns-then-bytes-lt16

@@ -4,8 +4,8 @@ use Rattle.std.proofs.lemmas.Int.{to_z-of_z}
 use mir.Val.{SFits}
 use Rattle.tuple_tree.specs.Values.{wide}
 use Rattle.byteorder.specs.Endian.{big_number}
-use Rattle.tuple_codec.specs.Reading.{◌>>=◌, wide_at}
-use Rattle.tuple_codec.proofs.Numbers.{number_there}
+use Rattle.tuple_tree.specs.Reading.{◌>>=◌, wide_at}
+use Rattle.tuple_tree.proofs.Numbers.{number_there}
 use Rattle.tuple_codec.proofs.reading.wide_of.Goals as goal
 
 wide_there : (bs : List ℕ) → 16 ≤ length bs → wide_at bs ≡ Some (wide (cast_signed w128 (big_number 16 bs)), drop 16 bs)

@@ -1,5 +1,5 @@
 use Rattle.std.proofs.Common.{◌∙◌, ap, sym, arith}
-use Rattle.tuple_codec.specs.Reading.{rest_of}
+use Rattle.tuple_tree.specs.Reading.{rest_of}
 use Rattle.wire.specs.Reading.{batch_at}
 use Rattle.wire.proofs.Steps.{batches_from}
 use Rattle.wire.proofs.Carrying.{skip_goes_on}

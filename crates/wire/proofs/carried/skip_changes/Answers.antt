@@ -1,5 +1,5 @@
 use Rattle.std.proofs.Common.{◌∙◌, ap, sym, arith}
-use Rattle.tuple_codec.specs.Reading.{Reader, rest_of}
+use Rattle.tuple_tree.specs.Reading.{Reader, rest_of}
 use Rattle.std.specs.Prelude.{ℕ, List}
 use Rattle.wire.specs.Lists.{listed}
 use Rattle.wire.specs.Spelling.{sender_before}

@@ -1,5 +1,5 @@
 use Rattle.std.proofs.Common.{◌≡◌, ◌-◌, []}
-use Rattle.tuple_codec.specs.Reading.{rest_of}
+use Rattle.tuple_tree.specs.Reading.{rest_of}
 use Rattle.wire.specs.Lists.{listed}
 use Rattle.wire.specs.Views.{checkpoint_entry_data}
 use Rattle.wire.specs.Spelling.{checkpoint_entry_before}

@@ -1,5 +1,5 @@
 use Rattle.std.proofs.Common.{◌≡◌, ◌-◌, []}
-use Rattle.tuple_codec.specs.Reading.{rest_of}
+use Rattle.tuple_tree.specs.Reading.{rest_of}
 use Rattle.wire.specs.Reading.{more_at, anyhow, digest_at}
 use Rattle.wire.proofs.judging.skip_digests.Given as goal
 

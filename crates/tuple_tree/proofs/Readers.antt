@@ -5,7 +5,7 @@ use Rattle.std.proofs.Math.Seq.{take-append-add, drop-append-add}
 use Rattle.std.proofs.lemmas.Bool.{eqb-true}
 use lib.Dec.{eqb}
 use Rattle.tuple_tree.specs.Values.{AreBytes}
-use Rattle.tuple_codec.specs.Reading.{◌>>=◌, Reader, read_as, more, byte_at, Row, by_tag, unknown, framed}
+use Rattle.tuple_tree.specs.Reading.{◌>>=◌, Reader, read_as, more, byte_at, Row, by_tag, unknown, framed}
 
 -- The front of the bytes is the text, and bytes are left.
 pub record Takes (bs text rest : List ℕ) : Type 0 where

@@ -9,10 +9,10 @@ use Rattle.byteorder.specs.Numbers.{length-bytes_high_first}
 use Rattle.tuple_tree.specs.Items.{Item, leaf}
 use Rattle.tuple_tree.specs.Values.{Datum, number, text, bytes, truth, wide, Slot, actual, any, formal, datum_length, slot_length, IsDatum, IsSlot, AreBytes}
 use Rattle.tuple_tree.specs.declared.atoms.Kind.TheVariants as kinds
-use Rattle.tuple_codec.specs.Reading.{Reader, read_as, unknown, number_of, string_at, text_at, flag_at, datum_rows, datum_at, formal_rows, slot_at, item_with}
-use Rattle.tuple_codec.specs.Spelling.{string, flag, wide_bytes, datum_spelling, slot_spelling}
-use Rattle.tuple_codec.proofs.Readers.{FoundBehind, bind_some, parts, moved, as_found, as_again, tag_found, RowsFound, ◌⨾◌, found_by_table, unknown_found}
-use Rattle.tuple_codec.proofs.Numbers.{number_found, number_again, string_found, string_again, text_found, text_again, flag_found, flag_again}
+use Rattle.tuple_tree.specs.Reading.{Reader, read_as, unknown, number_of, string_at, text_at, flag_at, datum_rows, datum_at, formal_rows, slot_at, item_with}
+use Rattle.tuple_tree.specs.Spelling.{string, flag, wide_bytes, datum_spelling, slot_spelling}
+use Rattle.tuple_tree.proofs.Readers.{FoundBehind, bind_some, parts, moved, as_found, as_again, tag_found, RowsFound, ◌⨾◌, found_by_table, unknown_found}
+use Rattle.tuple_tree.proofs.Numbers.{number_found, number_again, string_found, string_again, text_found, text_again, flag_found, flag_again}
 
 -- The laws of a reader of leaves, each of which has a tag in front.
 pub record ReadsLeaves {L : Type 0} (IsLeaf : L → Type 0) (length_of : L → ℕ) (spelling : L → List ℕ) (leaf_at : ℕ → Reader L) : Type 0 where

@@ -10,10 +10,10 @@ use lib.Dec.{ltb, eqb}
 use Rattle.byteorder.specs.Endian.{big_from, big_number, big_bytes}
 use Rattle.byteorder.specs.Numbers.{big_number-reads_back, big_from-lt, big_from-take, big_from-cons, length-bytes_high_first}
 use Rattle.tuple_tree.specs.Values.{AreBytes}
-use Rattle.tuple_codec.specs.Reading.{◌>>=◌, byte_at, bytes_at, number_of, string_at, text_at, flag_of, flag_at}
-use Rattle.tuple_codec.specs.Spelling.{string, flag}
-use Rattle.tuple_codec.proofs.Readers.{Takes, Found, Again, bind_some, parts, guard_fails, guard_holds, choice, bytes_take, bytes_drop, byte_found, moved}
-use Rattle.tuple_codec.proofs.SpelledBytes.{high_bytes}
+use Rattle.tuple_tree.specs.Reading.{◌>>=◌, byte_at, bytes_at, number_of, string_at, text_at, flag_of, flag_at}
+use Rattle.tuple_tree.specs.Spelling.{string, flag}
+use Rattle.tuple_tree.proofs.Readers.{Takes, Found, Again, bind_some, parts, guard_fails, guard_holds, choice, bytes_take, bytes_drop, byte_found, moved}
+use Rattle.tuple_tree.proofs.NumberBytes.{high_bytes}
 
 -- So many bytes are those that their number is made of.
 same_bytes : (k : ℕ) (xs ys : List ℕ) → length xs ≡ k → length ys ≡ k → AreBytes xs → AreBytes ys → big_number k xs ≡ big_number k ys → xs ≡ ys
