@@ -13,7 +13,7 @@ use std::test::Fail;
 use terms::{ClientId, Mode, Party, ReplicaId, Timestamp};
 use test_bytes::seed;
 use tuple_codec::{Bad, Op, decode_op};
-use tuple_tree::{Atom, Value};
+use tuple_tree::{AtomRef, ValueRef};
 use wire::{Authenticator, Body, Frame, Message, ReceiverMac, Request};
 
 const CLIENT: Party = Party::Client(ClientId { number: 0 });
@@ -315,7 +315,8 @@ fn is_asked(message: &Message) -> bool {
 fn is_out_of_one(op: &Op<Global>) -> bool {
     match op {
         Op::Out(tuple) => {
-            tuple.len() == 1 && matches!(tuple.get(0), Some(Value::Atom(Atom::Number(1))))
+            let first = tuple.values().next();
+            tuple.len() == 1 && matches!(first, Some(ValueRef::Atom(AtomRef::Number(1))))
         },
         _ => false,
     }

@@ -3,14 +3,14 @@
 ghost use Rattle.std.specs.Prelude.{◌≡◌, ◌+◌, ◌*◌, ◌≤◌, ◌<◌, ◌++◌, ◌∷◌, [], length, ◌/◌, Some, None, if◌then◌else◌};
 ghost use Rattle.tuple_tree.specs.Items.{whole_length};
 ghost use Rattle.tuple_tree.specs.Values.{datum_length, slot_length, IsTemplate};
-ghost use Rattle.tuple_tree.specs.AtomView.{datum_of};
+ghost use Rattle.tuple_tree.specs.Seen.{seen_datum};
 ghost use Rattle.tuple_tree.specs.Spelling.{wide_bytes as wide_spelling};
 ghost use Rattle.space.specs.Keys.{tuple_key, template_key, datum_key, key_of, words};
 
 use arrayvec::ArrayVec;
 use byteorder::{ByteOrder, LittleEndian};
 use std::alloc::Allocator;
-use tuple_tree::{Atom, Field, Template, Tuple, Value};
+use tuple_tree::{AtomRef, FieldRef, Template, Tuple, ValueRef};
 
 /// A key has at most so many numbers: the first one, and those of at most 1,021 bytes, eight in each.
 pub const KEY_LEN: usize = 130;
@@ -31,8 +31,9 @@ pub fn put_tuple_key<A: Allocator, const N: usize>(tuple: &Tuple<A>, key: &mut A
     requires room { whole_length datum_length tuple.now / 8 + 2 ≤ N }
     ensures { key.new.items ≡ tuple_key tuple.now }
 {
-    match tuple.values().first() {
-        Some(Value::Atom(atom)) => put_key(tuple.len(), atom, key),
+    let mut values = tuple.values();
+    match values.next() {
+        Some(ValueRef::Atom(atom)) => put_key(tuple.len(), &atom, key),
         _ => {}
     }
 }
@@ -47,9 +48,10 @@ pub fn put_template_key<A: Allocator, const N: usize>(
     ensures value { (if result then Some key.new.items else None) ≡ template_key template.now }
     ensures valid { IsTemplate template.now }
 {
-    match template.fields().first() {
-        Some(Field::Actual(atom)) => {
-            put_key(template.len(), atom, key);
+    let mut fields = template.fields();
+    match fields.next() {
+        Some(FieldRef::Actual(atom)) => {
+            put_key(template.len(), &atom, key);
             true
         }
         _ => false,
@@ -57,23 +59,19 @@ pub fn put_template_key<A: Allocator, const N: usize>(
 }
 
 /// Fills in the key of a number of fields and a first value.
-pub fn put_key<A: Allocator, const N: usize>(
-    count: usize,
-    first: &Atom<A>,
-    key: &mut ArrayVec<u64, N>,
-)
+pub fn put_key<const N: usize>(count: usize, first: &AtomRef<'_>, key: &mut ArrayVec<u64, N>)
     requires empty { key.old.items ≡ [] }
     requires few { count ≤ 32 }
-    requires room { datum_length (datum_of first.now) / 8 + 2 ≤ N }
-    requires fits { datum_length (datum_of first.now) ≤ 1024 }
-    ensures { key.new.items ≡ datum_key count (datum_of first.now) }
+    requires room { datum_length (seen_datum first.now) / 8 + 2 ≤ N }
+    requires fits { datum_length (seen_datum first.now) ≤ 1024 }
+    ensures { key.new.items ≡ datum_key count (seen_datum first.now) }
 {
     match first {
-        Atom::Number(number) => put(key, count, 1, &number.to_be_bytes()),
-        Atom::Text(text) => put(key, count, 2, text.as_bytes()),
-        Atom::Bytes(bytes) => put(key, count, 3, bytes.as_slice()),
-        Atom::Truth(truth) => put(key, count, 4, &[*truth as u8]),
-        Atom::Wide(number) => put(key, count, 6, &wide_bytes(*number)),
+        AtomRef::Number(number) => put(key, count, 1, &number.to_be_bytes()),
+        AtomRef::Text(text) => put(key, count, 2, text),
+        AtomRef::Bytes(bytes) => put(key, count, 3, bytes),
+        AtomRef::Truth(truth) => put(key, count, 4, &[*truth as u8]),
+        AtomRef::Wide(number) => put(key, count, 6, &wide_bytes(*number)),
     }
 }
 

@@ -1,11 +1,12 @@
 //! Labels of tuples, by which most tuples that don't match are told without a look at them.
 
-ghost use Rattle.std.specs.Prelude.{◌≡◌, IsTrue};
-ghost use Rattle.tuple_tree.specs.AtomView.{datum_of};
+ghost use Rattle.std.specs.Prelude.{◌≡◌, IsTrue, option_map, slice_get};
+ghost use Rattle.tuple_tree.specs.Items.{as_list};
+ghost use Rattle.tuple_tree.specs.Seen.{seen_datum, seen_value, seen_field};
 ghost use Rattle.space.specs.Prints.{datum_print, entry_label, first_kind, tuple_print, IsUnlike, TellsMatches};
 
 use std::alloc::Allocator;
-use tuple_tree::{Atom, Field, Kind, Template, Tuple, Value};
+use tuple_tree::{AtomRef, FieldRef, Fields, Kind, Template, Tuple, ValueRef, Values};
 
 /// What is told of a tuple without a look at it.
 #[derive(Clone, Copy)]
@@ -52,8 +53,8 @@ pub fn is_of(label: &Label, birth: u64) -> bool {
 pub fn wanted_by<A: Allocator>(template: &Template<A>) -> Wanted
     ensures { TellsMatches template.now result }
 {
-    match template.get(1) {
-        Some(Field::Actual(atom)) => Wanted::Second(print_of(atom)),
+    match second_field(template.fields()) {
+        Some(FieldRef::Actual(atom)) => Wanted::Second(print_of(&atom)),
         _ => wanted_first(template),
     }
 }
@@ -61,8 +62,9 @@ pub fn wanted_by<A: Allocator>(template: &Template<A>) -> Wanted
 fn wanted_first<A: Allocator>(template: &Template<A>) -> Wanted
     ensures { TellsMatches template.now result }
 {
-    match template.get(0) {
-        Some(Field::Formal(kind)) => Wanted::First(*kind),
+    let mut fields = template.fields();
+    match fields.next() {
+        Some(FieldRef::Formal(kind)) => Wanted::First(kind),
         _ => Wanted::Anything,
     }
 }
@@ -80,9 +82,29 @@ fn is_unlike(label: &Label, wanted: &Wanted) -> bool
 fn print_of_tuple<A: Allocator>(tuple: &Tuple<A>) -> u64
     ensures { result ≡ tuple_print tuple.now }
 {
-    match tuple.get(1) {
-        Some(Value::Atom(atom)) => print_of(atom),
+    match second_value(tuple.values()) {
+        Some(ValueRef::Atom(atom)) => print_of(&atom),
         _ => 0,
+    }
+}
+
+fn second_value<'b>(values: Values<'b>) -> Option<ValueRef<'b>>
+    ensures { option_map (λ v. seen_value v) result ≡ slice_get (as_list values.entry) 1 }
+{
+    let mut left = values;
+    match left.next() {
+        Some(_) => left.next(),
+        None => None,
+    }
+}
+
+fn second_field<'b>(fields: Fields<'b>) -> Option<FieldRef<'b>>
+    ensures { option_map (λ f. seen_field f) result ≡ slice_get (as_list fields.entry) 1 }
+{
+    let mut left = fields;
+    match left.next() {
+        Some(_) => left.next(),
+        None => None,
     }
 }
 
@@ -90,20 +112,21 @@ fn print_of_tuple<A: Allocator>(tuple: &Tuple<A>) -> u64
 fn first_kind<A: Allocator>(tuple: &Tuple<A>) -> Kind
     ensures { result ≡ first_kind tuple.now }
 {
-    match tuple.get(0) {
+    let mut values = tuple.values();
+    match values.next() {
         Some(value) => value.kind(),
         None => Kind::Tuple,
     }
 }
 
 // A number without its sign, or how many bytes there are.
-fn print_of<A: Allocator>(atom: &Atom<A>) -> u64
-    ensures { result ≡ datum_print (datum_of atom.now) }
+fn print_of(atom: &AtomRef<'_>) -> u64
+    ensures { result ≡ datum_print (seen_datum atom.now) }
 {
     match atom {
-        Atom::Number(number) => number.unsigned_abs(),
-        Atom::Text(text) => text.len() as u64,
-        Atom::Bytes(bytes) => bytes.len() as u64,
-        Atom::Truth(_) | Atom::Wide(_) => 0,
+        AtomRef::Number(number) => number.unsigned_abs(),
+        AtomRef::Text(text) => text.len() as u64,
+        AtomRef::Bytes(bytes) => bytes.len() as u64,
+        AtomRef::Truth(_) | AtomRef::Wide(_) => 0,
     }
 }

@@ -1,2 +1,5 @@
-pub mod Matching
 pub mod Deciding
+mod Stripping
+mod Walking
+mod TwoWalking
+mod BothWalks

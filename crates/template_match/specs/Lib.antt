@@ -1,3 +1,3 @@
 pub mod Matches
-pub mod Plain
 pub mod Tests
+pub mod Walks

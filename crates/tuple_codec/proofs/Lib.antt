@@ -1,4 +1,3 @@
-pub mod Bounds
 pub mod Steps
 pub mod Grammar
 pub mod Lengths

@@ -1,15 +1,15 @@
 //! Whether bytes spell a tuple, a template, an operation or an answer. Nothing here takes memory.
 
-ghost use Rattle.std.specs.Prelude.{◌≡◌, ◌+◌, ◌*◌, ◌≤◌, length, IsTrue, ◌↔◌};
+ghost use Rattle.std.specs.Prelude.{IsTrue, ◌↔◌};
 ghost use Rattle.tuple_codec.specs.Operations.{Operation, Outcome};
 ghost use Rattle.tuple_tree.specs.Gives.{Yields};
 ghost use Rattle.tuple_codec.specs.Spelling.{SpellsOperation, SpellsOutcome};
-ghost use Rattle.tuple_tree.specs.Reading.{rest_of, datum_at, slot_at, item_at, items_at, tuple_at, template_at};
+ghost use Rattle.tuple_tree.specs.Reading.{rest_of, tuple_at, template_at};
 ghost use Rattle.tuple_codec.specs.Reading.{cas_at, counted_at, operation_behind, operation_at, tuples_at, outcome_behind, outcome_at};
 
 use crate::operations::{MAX_ANSWERS, Max};
-use crate::reading::{frame, read_byte, read_flag, read_number, read_string, read_text, read_wide};
-use tuple_tree::MAX_FIELDS;
+use crate::reading::frame;
+use tuple_tree::{behind_template, behind_tuple, read_byte, read_flag};
 
 /// Whether the bytes, whole, spell an operation within the limits. Takes no memory.
 pub fn is_op(bytes: &[u8]) -> bool
@@ -122,7 +122,7 @@ pub fn skip_tuple(bytes: &[u8]) -> Option<&[u8]>
     ensures { Yields (λ rest. rest.now) result (rest_of (tuple_at bytes.now)) }
 {
     let front = frame(bytes);
-    match skip_values(front, 7) {
+    match behind_tuple(front) {
         Some(rest) => Some(bytes.split_at(front.len() - rest.len()).1),
         None => None,
     }
@@ -132,111 +132,8 @@ pub fn skip_template(bytes: &[u8]) -> Option<&[u8]>
     ensures { Yields (λ rest. rest.now) result (rest_of (template_at bytes.now)) }
 {
     let front = frame(bytes);
-    match skip_fields(front, 7) {
+    match behind_template(front) {
         Some(rest) => Some(bytes.split_at(front.len() - rest.len()).1),
         None => None,
-    }
-}
-
-// A tuple with at most so many levels below its own.
-#[tactic(auto, unfolding(tuple_tree::specs::Reading::items_with))]
-#[cycle(skip_values)]
-fn skip_values(bytes: &[u8], levels: u8) -> Option<&[u8]>
-    ensures { Yields (λ rest. rest.now) result (rest_of (items_at datum_at levels bytes.now)) }
-{
-    let (count, values) = read_byte(bytes)?;
-    if count as usize > MAX_FIELDS {
-        return None;
-    }
-    let mut rest = values;
-    for _i in 0..count {
-        rest = skip_value(rest, levels)?;
-    }
-    Some(rest)
-}
-
-#[tactic(auto, unfolding(tuple_tree::specs::Reading::item_with))]
-#[cycle(skip_values)]
-fn skip_value(bytes: &[u8], levels: u8) -> Option<&[u8]>
-    ensures { Yields (λ rest. rest.now) result (rest_of (item_at datum_at levels bytes.now)) }
-{
-    let (tag, rest) = read_byte(bytes)?;
-    if tag != 5 {
-        return skip_atom(tag, rest);
-    }
-    if levels == 0 {
-        return None;
-    }
-    skip_values(rest, levels - 1)
-}
-
-// A template with at most so many levels below its own.
-#[tactic(auto, unfolding(tuple_tree::specs::Reading::items_with))]
-#[cycle(skip_fields)]
-fn skip_fields(bytes: &[u8], levels: u8) -> Option<&[u8]>
-    ensures { Yields (λ rest. rest.now) result (rest_of (items_at slot_at levels bytes.now)) }
-{
-    let (count, fields) = read_byte(bytes)?;
-    if count as usize > MAX_FIELDS {
-        return None;
-    }
-    let mut rest = fields;
-    for _i in 0..count {
-        rest = skip_field(rest, levels)?;
-    }
-    Some(rest)
-}
-
-#[tactic(auto, unfolding(tuple_tree::specs::Reading::item_with))]
-#[cycle(skip_fields)]
-fn skip_field(bytes: &[u8], levels: u8) -> Option<&[u8]>
-    ensures { Yields (λ rest. rest.now) result (rest_of (item_at slot_at levels bytes.now)) }
-{
-    let (tag, rest) = read_byte(bytes)?;
-    if tag != 5 {
-        return skip_slot(tag, rest);
-    }
-    if levels == 0 {
-        return None;
-    }
-    skip_fields(rest, levels - 1)
-}
-
-#[tactic(auto, unfolding(tuple_tree::specs::Reading::slot_at))]
-fn skip_slot(tag: u8, bytes: &[u8]) -> Option<&[u8]>
-    ensures { Yields (λ rest. rest.now) result (rest_of (slot_at tag bytes.now)) }
-{
-    match tag {
-        0x10 | 0x11 | 0x12 | 0x13 | 0x14 | 0x15 | 0x16 => Some(bytes),
-        _ => skip_atom(tag, bytes),
-    }
-}
-
-#[tactic(auto, unfolding(tuple_tree::specs::Reading::datum_at))]
-fn skip_atom(tag: u8, bytes: &[u8]) -> Option<&[u8]>
-    ensures { Yields (λ rest. rest.now) result (rest_of (datum_at tag bytes.now)) }
-{
-    match tag {
-        1 => match read_number(bytes) {
-            Some((_, rest)) => Some(rest),
-            None => None,
-        },
-        2 => match read_text(bytes) {
-            Some((_, rest)) => Some(rest),
-            None => None,
-        },
-        3 => match read_string(bytes) {
-            Some((_, rest)) => Some(rest),
-            None => None,
-        },
-        4 => match read_flag(bytes) {
-            Some((_, rest)) => Some(rest),
-            None => None,
-        },
-        6 => match read_wide(bytes) {
-            Some((_, rest)) => Some(rest),
-            None => None,
-        },
-        _ => None,
     }
 }

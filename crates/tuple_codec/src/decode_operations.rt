@@ -12,10 +12,9 @@ use crate::bad::Bad;
 use crate::check::{skip_answer, skip_op};
 use crate::decode::{next_byte, read_template, read_tuple};
 use crate::operations::{Answer, MAX_ANSWERS, Max, Op, Tuples};
-use crate::reading::read_flag;
 use std::alloc::Allocator;
 use terms::NoMemory;
-use tuple_tree::{Template, Tuple};
+use tuple_tree::{Template, Tuple, read_flag};
 
 /// The operation at the front, and how many bytes spell it.
 ///

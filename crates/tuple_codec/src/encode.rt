@@ -1,22 +1,16 @@
 //! From values to bytes.
 
-ghost use Rattle.std.specs.Prelude.{◌≡◌, ◌+◌, ◌≤◌, ◌++◌, ◌∷◌, [], OnOk, OnErr, length};
-ghost use Rattle.tuple_tree.specs.Items.{item_length};
-ghost use Rattle.tuple_tree.specs.Values.{datum_length, slot_length};
-ghost use Rattle.tuple_tree.specs.AtomView.{datum_of};
-ghost use Rattle.tuple_tree.specs.TupleView.{value_of};
-ghost use Rattle.tuple_tree.specs.TemplateView.{field_of};
+ghost use Rattle.std.specs.Prelude.{◌≡◌, ◌++◌, ◌∷◌, OnOk, OnErr};
 ghost use Rattle.tuple_tree.specs.Puts.{Puts};
 ghost use Rattle.tuple_codec.specs.Operations.{all};
 ghost use Rattle.tuple_codec.specs.OperationView.{op_spelling, answer_spelling};
-ghost use Rattle.tuple_tree.specs.Spelling.{flag, datum_spelling, formal_tag, value_spelling, field_spelling, tuple_spelling, template_spelling};
+ghost use Rattle.tuple_tree.specs.Spelling.{flag, tuple_spelling, template_spelling};
 ghost use Rattle.tuple_codec.specs.Spelling.{cas_spelling, counted_spelling, tuples_spelling, outcome_spelling};
-ghost use Rattle.tuple_tree.specs.Spelling as Spelling;
 
 use crate::operations::{Answer, Max, Op, Tuples};
 use std::alloc::Allocator;
 use terms::NoMemory;
-use tuple_tree::{Atom, Field, Kind, Template, Tuple, Value};
+use tuple_tree::{Template, Tuple, put_behind, put_byte, put_template, put_tuple};
 
 /// Appends the spelling of the tuple: a count, and then the tag and the content of each value. An `Err` leaves the
 /// bytes as they were.
@@ -187,131 +181,4 @@ fn put_template_behind<A: Allocator, B: Allocator>(
 {
     put_byte(tag, out)?;
     put_template(template, out)
-}
-
-#[cycle(put_tuple)]
-fn put_tuple<A: Allocator, B: Allocator>(
-    tuple: &Tuple<A>,
-    out: &mut Vec<u8, B>,
-) -> Result<(), NoMemory>
-    ensures { Puts (tuple_spelling tuple.now) out.old.items out.new.items result }
-{
-    put_byte(tuple.len() as u8, out)?;
-    for value in tuple.values() {
-        put_value(value, out)?;
-    }
-    Ok(())
-}
-
-#[cycle(put_tuple)]
-fn put_value<A: Allocator, B: Allocator>(
-    value: &Value<A>,
-    out: &mut Vec<u8, B>,
-) -> Result<(), NoMemory>
-    requires { item_length datum_length (value_of value.now) ≤ 1024 }
-    ensures { Puts (value_spelling (value_of value.now)) out.old.items out.new.items result }
-{
-    match value {
-        Value::Atom(atom) => put_atom(atom, out),
-        Value::Nested(tuple) => {
-            put_byte(5, out)?;
-            put_tuple(tuple, out)
-        }
-    }
-}
-
-#[cycle(put_template)]
-fn put_template<A: Allocator, B: Allocator>(
-    template: &Template<A>,
-    out: &mut Vec<u8, B>,
-) -> Result<(), NoMemory>
-    ensures { Puts (template_spelling template.now) out.old.items out.new.items result }
-{
-    put_byte(template.len() as u8, out)?;
-    for field in template.fields() {
-        put_field(field, out)?;
-    }
-    Ok(())
-}
-
-#[cycle(put_template)]
-fn put_field<A: Allocator, B: Allocator>(
-    field: &Field<A>,
-    out: &mut Vec<u8, B>,
-) -> Result<(), NoMemory>
-    requires { item_length slot_length (field_of field.now) ≤ 1024 }
-    ensures { Puts (field_spelling (field_of field.now)) out.old.items out.new.items result }
-{
-    match field {
-        Field::Actual(atom) => put_atom(atom, out),
-        Field::Any => put_byte(0x10, out),
-        Field::Formal(kind) => put_byte(kind_tag(*kind), out),
-        Field::Nested(template) => {
-            put_byte(5, out)?;
-            put_template(template, out)
-        }
-    }
-}
-
-fn kind_tag(kind: Kind) -> u8
-    ensures { result ≡ formal_tag kind }
-{
-    match kind {
-        Kind::Number => 0x11,
-        Kind::Text => 0x12,
-        Kind::Bytes => 0x13,
-        Kind::Truth => 0x14,
-        Kind::Tuple => 0x15,
-        Kind::Wide => 0x16,
-    }
-}
-
-fn put_atom<A: Allocator, B: Allocator>(
-    atom: &Atom<A>,
-    out: &mut Vec<u8, B>,
-) -> Result<(), NoMemory>
-    requires { datum_length (datum_of atom.now) ≤ 1024 }
-    ensures { Puts (datum_spelling (datum_of atom.now)) out.old.items out.new.items result }
-{
-    match atom {
-        Atom::Number(number) => put_behind(1, &number.to_be_bytes(), out),
-        Atom::Text(text) => put_string(2, text.as_bytes(), out),
-        Atom::Bytes(bytes) => put_string(3, bytes.as_slice(), out),
-        Atom::Truth(truth) => put_behind(4, &[*truth as u8], out),
-        Atom::Wide(number) => put_behind(6, &wide_bytes(*number), out),
-    }
-}
-
-#[tactic(auto, unfolding(tuple_tree::specs::Spelling::wide_bytes))]
-fn wide_bytes(number: i128) -> [u8; 16]
-    ensures { result ≡ Spelling.wide_bytes number }
-{
-    number.to_be_bytes()
-}
-
-fn put_string<B: Allocator>(tag: u8, string: &[u8], out: &mut Vec<u8, B>) -> Result<(), NoMemory>
-    requires { length string.now ≤ 1021 }
-    ensures { Puts (tag ∷ Spelling.string string.now) out.old.items out.new.items result }
-{
-    put_behind(tag, &(string.len() as u16).to_be_bytes(), out)?;
-    put_bytes(string, out)
-}
-
-fn put_behind<B: Allocator>(tag: u8, bytes: &[u8], out: &mut Vec<u8, B>) -> Result<(), NoMemory>
-    ensures { Puts (tag ∷ bytes.now) out.old.items out.new.items result }
-{
-    put_byte(tag, out)?;
-    put_bytes(bytes, out)
-}
-
-fn put_byte<B: Allocator>(byte: u8, out: &mut Vec<u8, B>) -> Result<(), NoMemory>
-    ensures { Puts (byte ∷ []) out.old.items out.new.items result }
-{
-    Ok(out.push(byte)?)
-}
-
-fn put_bytes<B: Allocator>(bytes: &[u8], out: &mut Vec<u8, B>) -> Result<(), NoMemory>
-    ensures { Puts bytes.now out.old.items out.new.items result }
-{
-    Ok(out.extend_from_slice(bytes)?)
 }

@@ -5,7 +5,7 @@ use Rattle.std.proofs.lemmas.Bool.{eqb-true}
 use Rattle.std.proofs.lemmas.Grind.{flat_map-append}
 use Rattle.std.proofs.lemmas.List.{take_at, take-append-drop}
 use Rattle.std.proofs.Math.Seq.{drop-cons, drop-nil, get_or-take}
-use Rattle.tuple_tree.specs.Items.{Item, leaf, inner, Items, none, item, item_levels, levels_in, items_of}
+use Rattle.tuple_tree.specs.Items.{Item, leaf, inner, Items, none, item}
 use Rattle.tuple_text.specs.Texts.{ItemText, ItemsText, MoreText, escaped, hex_pair}
 use Rattle.tuple_tree.specs.Values.{TupleTree}
 use Rattle.tuple_text.specs.Written.{item_written, items_written, more_written, tuple_written, tuples_written, is_escaped, Appends}
@@ -87,36 +87,14 @@ abbrev pub behind : {L : Type 0} → (L → List ℕ) → List ℕ → Items L �
 behind leaf_text gap none = []
 behind leaf_text gap (item x xs) = gap ++ item_written leaf_text x ++ more_written leaf_text xs
 
-module _ {X L : Type 0} (view : X → Item L) (leaf_text : L → List ℕ) where
-  behind_cons : (gap : List ℕ) (x : X) (xs : List X) → behind leaf_text gap (items_of view (x ∷ xs)) ≡ (gap ++ item_written leaf_text (view x)) ++ behind leaf_text (32 ∷ []) (items_of view xs)
-  behind_cons gap x [] = refl
-  behind_cons gap x (y ∷ ys) = refl
+module _ {L : Type 0} (leaf_text : L → List ℕ) where
+  pub behind_first : (gap : List ℕ) (x : Item L) (xs : Items L) → behind leaf_text gap (item x xs) ≡ (gap ++ item_written leaf_text x) ++ behind leaf_text (32 ∷ []) xs
+  behind_first gap x none = refl
+  behind_first gap x (item y ys) = refl
 
-  pub behind_first : (gap : List ℕ) (xs : List X) (i : ℕ) (x : X) → i < length xs → x ≡ get_or xs i x
-      → behind leaf_text gap (items_of view (drop i xs)) ≡ (gap ++ item_written leaf_text (view x)) ++ behind leaf_text (32 ∷ []) (items_of view (drop (i + 1) xs))
-  behind_first gap xs i x h e =
-      ap (λ ys. behind leaf_text gap (items_of view ys)) (drop_first xs i x h ∙ ap (λ y. y ∷ drop (i + 1) xs) (sym e))
-      ∙ behind_cons gap x (drop (i + 1) xs)
-
-  pub behind_nothing : (xs : List X) → behind leaf_text [] (items_of view xs) ≡ items_written leaf_text (items_of view xs)
-  behind_nothing [] = refl
-  behind_nothing (x ∷ xs) = refl
-
-  pub behind_last : (gap : List ℕ) (xs : List X) (i : ℕ) → length xs ≤ i → behind leaf_text gap (items_of view (drop i xs)) ≡ []
-  behind_last gap xs i h = ap (λ ys. behind leaf_text gap (items_of view ys)) (drop_all xs i h)
-
--- an item of a list has fewer levels than the list
-module _ {X L : Type 0} (view : X → Item L) where
-  levels_at : (xs : List X) (i : ℕ) (d : X) → i < length xs → item_levels (view (get_or xs i d)) ≤ levels_in (items_of view xs)
-  levels_at [] i d p = absurd (omega arith)
-  levels_at (x ∷ xs) zero d p = omega arith
-  levels_at (x ∷ xs) (suc i) d p = let h : item_levels (view (get_or xs i d)) ≤ levels_in (items_of view xs) = levels_at xs i d (omega arith) in omega arith
-
-  pub levels_below : (xs : List X) (i : ℕ) (x : X) → i < length xs → x ≡ get_or xs i x → item_levels (view x) ≤ levels_in (items_of view xs)
-  levels_below xs i x p q =
-      let h : item_levels (view (get_or xs i x)) ≤ levels_in (items_of view xs) = levels_at xs i x p in
-      let a : item_levels (view x) ≡ item_levels (view (get_or xs i x)) = ap (λ z. item_levels (view z)) q in
-      omega (arith, h, a)
+  pub behind_nothing : (xs : Items L) → behind leaf_text [] xs ≡ items_written leaf_text xs
+  behind_nothing none = refl
+  behind_nothing (item x xs) = refl
 
 -- a byte of a text that stands for itself
 plain_by : (quote slash control feed : Bool) (b : ℕ) → (control || (quote || slash)) ≡ false → (feed ≡ true → control ≡ true)

@@ -1,7 +1,8 @@
 //! From operations to their lines.
 
 ghost use Rattle.std.specs.Prelude.{◌≡◌, ◌∷◌, ◌++◌, OnOk, OnErr, decimal};
-ghost use Rattle.tuple_tree.specs.TemplateView.{field_of, template_of};
+ghost use Rattle.tuple_tree.specs.Items.{how_many, item_levels, levels_in};
+ghost use Rattle.tuple_tree.specs.Seen.{seen_field};
 ghost use Rattle.tuple_codec.specs.OperationView.{operation_of};
 ghost use Rattle.tuple_text.specs.Texts.{formal_text};
 ghost use Rattle.tuple_text.specs.Written.{field_written, fields_written, template_written, operation_written, Appends};
@@ -11,7 +12,7 @@ use itoa::Buffer;
 use std::alloc::Allocator;
 use terms::NoMemory;
 use tuple_codec::{Max, Op};
-use tuple_tree::{Field, Kind, Template};
+use tuple_tree::{FieldRef, Fields, Kind, Template};
 
 /// Appends the line of the operation: its name, and a blank before each argument. An `Err` leaves the bytes as they
 /// were.
@@ -86,27 +87,31 @@ fn put_count<B: Allocator>(max: Max, out: &mut Vec<u8, B>) -> Result<(), NoMemor
     append(buffer.format(max.count).as_bytes(), out)
 }
 
-#[cycle(put_template)]
 fn put_template<A: Allocator, B: Allocator>(
     template: &Template<A>,
     out: &mut Vec<u8, B>,
 ) -> Result<(), NoMemory>
     ensures { Appends result out.old.items (template_written template.now) out.new.items }
 {
+    put_list(template.fields(), out)
+}
+
+#[cycle(put_list)]
+fn put_list<B: Allocator>(fields: Fields<'_>, out: &mut Vec<u8, B>) -> Result<(), NoMemory>
+    ensures { Appends result out.old.items (template_written fields.entry) out.new.items }
+{
     append(b"(", out)?;
-    put_fields(template.fields(), out)?;
+    put_fields(fields, out)?;
     append(b")", out)
 }
 
-#[cycle(put_template)]
-fn put_fields<A: Allocator, B: Allocator>(
-    fields: &[Field<A>],
-    out: &mut Vec<u8, B>,
-) -> Result<(), NoMemory>
-    ensures { Appends result out.old.items (fields_written (template_of fields.now)) out.new.items }
+#[cycle(put_list)]
+fn put_fields<B: Allocator>(fields: Fields<'_>, out: &mut Vec<u8, B>) -> Result<(), NoMemory>
+    ensures { Appends result out.old.items (fields_written fields.entry) out.new.items }
 {
+    let mut left = fields;
     let mut gap: &[u8] = b"";
-    for field in fields {
+    while let Some(field) = left.next() {
         append(gap, out)?;
         put_field(field, out)?;
         gap = b" ";
@@ -114,18 +119,15 @@ fn put_fields<A: Allocator, B: Allocator>(
     Ok(())
 }
 
-#[cycle(put_template)]
-fn put_field<A: Allocator, B: Allocator>(
-    field: &Field<A>,
-    out: &mut Vec<u8, B>,
-) -> Result<(), NoMemory>
-    ensures { Appends result out.old.items (field_written (field_of field.now)) out.new.items }
+#[cycle(put_list)]
+fn put_field<B: Allocator>(field: FieldRef<'_>, out: &mut Vec<u8, B>) -> Result<(), NoMemory>
+    ensures { Appends result out.old.items (field_written (seen_field field.entry)) out.new.items }
 {
     match field {
-        Field::Actual(atom) => put_atom(atom, out),
-        Field::Any => append(b"*", out),
-        Field::Formal(kind) => append(formal(*kind), out),
-        Field::Nested(template) => put_template(template, out),
+        FieldRef::Actual(atom) => put_atom(&atom, out),
+        FieldRef::Any => append(b"*", out),
+        FieldRef::Formal(kind) => append(formal(kind), out),
+        FieldRef::Nested(fields) => put_list(fields, out),
     }
 }
 

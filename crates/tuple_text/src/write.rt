@@ -4,8 +4,8 @@ ghost use Rattle.std.specs.Prelude.{◌≡◌, ◌+◌, ◌<◌, ◌≤◌, ◌+
 ghost use Rattle.std.specs.List.{flat_map};
 ghost use Rattle.std.specs.Fmt.{signed_decimal};
 ghost use Rattle.tuple_tree.specs.Values.{TupleTree, TemplateTree};
-ghost use Rattle.tuple_tree.specs.AtomView.{datum_of};
-ghost use Rattle.tuple_tree.specs.TupleView.{value_of, tuple_of};
+ghost use Rattle.tuple_tree.specs.Items.{how_many, item_levels, levels_in};
+ghost use Rattle.tuple_tree.specs.Seen.{seen_datum, seen_value};
 ghost use Rattle.tuple_codec.specs.Operations.{Operation};
 ghost use Rattle.tuple_text.specs.Laws.{TuplesAreLines, TemplatesAreLines};
 ghost use Rattle.tuple_text.specs.Lines.{IsLine};
@@ -17,7 +17,7 @@ use itoa::Buffer;
 use std::alloc::Allocator;
 use terms::NoMemory;
 use tuple_codec::{Answer, Tuples};
-use tuple_tree::{Atom, Tuple, Value};
+use tuple_tree::{AtomRef, Tuple, ValueRef, Values};
 
 const DIGITS: &[u8; 16] = b"0123456789abcdef";
 
@@ -124,27 +124,31 @@ fn put_tuples<A: Allocator, B: Allocator>(
     Ok(())
 }
 
-#[cycle(put_tuple)]
 pub(crate) fn put_tuple<A: Allocator, B: Allocator>(
     tuple: &Tuple<A>,
     out: &mut Vec<u8, B>,
 ) -> Result<(), NoMemory>
     ensures { Appends result out.old.items (tuple_written tuple.now) out.new.items }
 {
+    put_list(tuple.values(), out)
+}
+
+#[cycle(put_list)]
+fn put_list<B: Allocator>(values: Values<'_>, out: &mut Vec<u8, B>) -> Result<(), NoMemory>
+    ensures { Appends result out.old.items (tuple_written values.entry) out.new.items }
+{
     append(b"(", out)?;
-    put_values(tuple.values(), out)?;
+    put_values(values, out)?;
     append(b")", out)
 }
 
-#[cycle(put_tuple)]
-fn put_values<A: Allocator, B: Allocator>(
-    values: &[Value<A>],
-    out: &mut Vec<u8, B>,
-) -> Result<(), NoMemory>
-    ensures { Appends result out.old.items (values_written (tuple_of values.now)) out.new.items }
+#[cycle(put_list)]
+fn put_values<B: Allocator>(values: Values<'_>, out: &mut Vec<u8, B>) -> Result<(), NoMemory>
+    ensures { Appends result out.old.items (values_written values.entry) out.new.items }
 {
+    let mut left = values;
     let mut gap: &[u8] = b"";
-    for value in values {
+    while let Some(value) = left.next() {
         append(gap, out)?;
         put_value(value, out)?;
         gap = b" ";
@@ -152,31 +156,28 @@ fn put_values<A: Allocator, B: Allocator>(
     Ok(())
 }
 
-#[cycle(put_tuple)]
-fn put_value<A: Allocator, B: Allocator>(
-    value: &Value<A>,
-    out: &mut Vec<u8, B>,
-) -> Result<(), NoMemory>
-    ensures { Appends result out.old.items (value_written (value_of value.now)) out.new.items }
+#[cycle(put_list)]
+fn put_value<B: Allocator>(value: ValueRef<'_>, out: &mut Vec<u8, B>) -> Result<(), NoMemory>
+    ensures { Appends result out.old.items (value_written (seen_value value.entry)) out.new.items }
 {
     match value {
-        Value::Atom(atom) => put_atom(atom, out),
-        Value::Nested(tuple) => put_tuple(tuple, out),
+        ValueRef::Atom(atom) => put_atom(&atom, out),
+        ValueRef::Nested(values) => put_list(values, out),
     }
 }
 
-pub(crate) fn put_atom<A: Allocator, B: Allocator>(
-    atom: &Atom<A>,
+pub(crate) fn put_atom<B: Allocator>(
+    atom: &AtomRef<'_>,
     out: &mut Vec<u8, B>,
 ) -> Result<(), NoMemory>
-    ensures { Appends result out.old.items (datum_text (datum_of atom.now)) out.new.items }
+    ensures { Appends result out.old.items (datum_text (seen_datum atom.now)) out.new.items }
 {
     match atom {
-        Atom::Number(number) => put_number(*number, out),
-        Atom::Text(text) => put_text(text.as_bytes(), out),
-        Atom::Bytes(bytes) => put_bytes(bytes.as_slice(), out),
-        Atom::Truth(truth) => put_truth(*truth, out),
-        Atom::Wide(number) => put_wide(*number, out),
+        AtomRef::Number(number) => put_number(*number, out),
+        AtomRef::Text(text) => put_text(text, out),
+        AtomRef::Bytes(bytes) => put_bytes(bytes, out),
+        AtomRef::Truth(truth) => put_truth(*truth, out),
+        AtomRef::Wide(number) => put_wide(*number, out),
     }
 }
 

@@ -1,7 +1,4 @@
 pub mod Growing
-pub mod Viewing
-pub mod Counting
-pub mod Apart
 pub mod Readers
 pub mod Numbers
 pub mod Leaves
@@ -9,3 +6,7 @@ pub mod Trees
 pub mod NumberBytes
 pub mod Steps
 pub mod Skipping
+pub mod Flat
+pub mod Loosening
+pub mod Seeing
+pub mod Telling

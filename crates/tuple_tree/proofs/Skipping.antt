@@ -1,7 +1,7 @@
 -- The bytes after a value, without the value itself.
 use Rattle.std.proofs.Common.{◌≡◌, ℕ, zero, suc, ◌+◌, ◌-◌, ◌<◌, ◌≤◌, List, Option, Some, None, false, ap, sym, refl, ◌∙◌}
 use Rattle.std.proofs.lemmas.Bool.{le-ltb}
-use lib.Dec.{ltb, eqb}
+use lib.Dec.{ltb}
 use Rattle.tuple_tree.specs.Items.{Item, leaf, inner, none, with_last}
 use Rattle.tuple_tree.specs.Reading.{◌>>=◌, Reader, rest_of, more, byte_at, items_with, item_at, items_at}
 use Rattle.tuple_tree.proofs.Steps.{step, at_leaf, at_five, inner_below}

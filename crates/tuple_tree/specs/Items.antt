@@ -66,9 +66,3 @@ module _ {L : Type 0} (test : L → Bool) where
     pub has_leaf : Items L → Bool
     has_leaf none = false
     has_leaf (item x xs) = item_has x || has_leaf xs
-
--- The items that a list of Rust values stands for; view tells the item of each value.
-module _ {X L : Type 0} (view : X → Item L) where
-  abbrev pub items_of : List X → Items L
-  items_of [] = none
-  items_of (x ∷ xs) = item (view x) (items_of xs)

@@ -7,10 +7,12 @@ pub mod Pushes
 pub mod ValuesCode
 pub mod AtomView
 pub mod TupleView
-pub mod TupleFalls
 pub mod TemplateView
-pub mod TemplateFalls
 pub mod Puts
 pub mod Spelling
 pub mod Reading
 pub mod Gives
+pub mod Loose
+pub mod Flat
+pub mod Seen
+pub mod Judging

@@ -2,6 +2,7 @@
 use Rattle.std.specs.Prelude.{Result, MatchResult}
 use Rattle.tuple_tree.specs.Limits.{Refuses}
 use Rattle.tuple_tree.specs.Values.{TupleTree, TemplateTree, datum_length, slot_length, IsTuple, IsTemplate}
+use Rattle.tuple_tree.specs.declared.limits.Refusal.{Refusal}
 use Rattle.tuple_tree.specs.declared.limits.Refused.{Refused}
 
 -- If the item was added, the list is within the limits. Otherwise the refusal names the first limit that the longer
@@ -11,3 +12,10 @@ JudgesTuple result new longer = MatchResult result (λ _. IsTuple new) (λ e. Re
 
 abbrev pub JudgesTemplate : {U T : Type 0} → Result U (Refused T) → TemplateTree → TemplateTree → Type 0
 JudgesTemplate result new longer = MatchResult result (λ _. IsTemplate new) (λ e. Refuses slot_length e.refusal longer)
+
+-- the same of the refusal alone
+abbrev pub AddsValue : {U : Type 0} → Result U Refusal → TupleTree → TupleTree → Type 0
+AddsValue result new longer = MatchResult result (λ _. IsTuple new) (λ refusal. Refuses datum_length refusal longer)
+
+abbrev pub AddsField : {U : Type 0} → Result U Refusal → TemplateTree → TemplateTree → Type 0
+AddsField result new longer = MatchResult result (λ _. IsTemplate new) (λ refusal. Refuses slot_length refusal longer)

@@ -1,7 +1,6 @@
 -- The plain fields that the Rust values stand for.
-use Rattle.std.specs.Prelude.{List}
-use Rattle.tuple_tree.specs.Items.{Item, leaf, inner, items_of}
-use Rattle.tuple_tree.specs.Values.{Slot, actual, any, formal, TemplateTree}
+use Rattle.tuple_tree.specs.Items.{Item, leaf, inner}
+use Rattle.tuple_tree.specs.Values.{Slot, actual, any, formal}
 use Rattle.tuple_tree.specs.AtomView.{datum_of}
 use Rattle.tuple_tree.specs.declared.templates.Field.{Field}
 use Rattle.tuple_tree.specs.declared.templates.Field.TheVariants.{Actual, Any, Formal, Nested}
@@ -12,6 +11,3 @@ module _ {A : Type 0} where
   field_of Any = leaf any
   field_of (Formal k) = leaf (formal k)
   field_of (Nested p) = inner p
-
-  abbrev pub template_of : List (Field A) → TemplateTree
-  template_of = items_of field_of

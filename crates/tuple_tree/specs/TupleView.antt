@@ -1,7 +1,6 @@
 -- The plain values that the Rust values stand for.
-use Rattle.std.specs.Prelude.{List}
-use Rattle.tuple_tree.specs.Items.{Item, leaf, inner, items_of}
-use Rattle.tuple_tree.specs.Values.{Datum, TupleTree}
+use Rattle.tuple_tree.specs.Items.{Item, leaf, inner}
+use Rattle.tuple_tree.specs.Values.{Datum}
 use Rattle.tuple_tree.specs.AtomView.{datum_of}
 use Rattle.tuple_tree.specs.declared.tuples.Value.{Value}
 use Rattle.tuple_tree.specs.declared.tuples.Value.TheVariants.{Atom, Nested}
@@ -10,6 +9,3 @@ module _ {A : Type 0} where
   abbrev pub value_of : Value A → Item Datum
   value_of (Atom x) = leaf (datum_of x)
   value_of (Nested t) = inner t
-
-  abbrev pub tuple_of : List (Value A) → TupleTree
-  tuple_of = items_of value_of

@@ -1,12 +1,11 @@
 //! Values that are no tuples.
 
-ghost use Rattle.std.specs.Prelude.{◌≡◌, ◌+◌, ◌≤◌, IfOk, IsTrue, ◌↔◌, length};
-ghost use Rattle.tuple_tree.specs.Values.{datum_kind, datum_length, is_wide, IsDatum, AreBytes};
+ghost use Rattle.std.specs.Prelude.{◌≡◌, ◌+◌};
+ghost use Rattle.tuple_tree.specs.Values.{datum_length, is_wide, IsDatum, AreBytes};
 ghost use Rattle.tuple_tree.specs.AtomView.{datum_of};
 
 use std::alloc::Allocator;
 use std::string::String;
-use terms::NoMemory;
 
 /// The kinds of values.
 #[derive(Clone, Copy, Debug, PartialEq, Eq)]
@@ -35,32 +34,13 @@ pub enum Atom<A: Allocator> {
 }
 
 // Each item of a slice of bytes is a byte.
-fn note_bytes(bytes: &[u8])
+pub(crate) fn note_bytes(bytes: &[u8])
     ensures { AreBytes bytes.now }
 {
     let _first = bytes.first();
 }
 
-fn same_bytes(a: &[u8], b: &[u8]) -> bool
-    ensures { IsTrue result ↔ (a.now ≡ b.now) }
-{
-    a == b
-}
-
 impl<A: Allocator> Atom<A> {
-    /// The kind of this value.
-    pub fn kind(&self) -> Kind
-        ensures { result ≡ datum_kind (datum_of self.now) }
-    {
-        match self {
-            Atom::Number(_) => Kind::Number,
-            Atom::Text(_) => Kind::Text,
-            Atom::Bytes(_) => Kind::Bytes,
-            Atom::Truth(_) => Kind::Truth,
-            Atom::Wide(_) => Kind::Wide,
-        }
-    }
-
     /// The length of the encoding, in bytes. Constant time.
     pub fn encoded_len(&self) -> usize
         ensures { result ≡ datum_length (datum_of self.now) }
@@ -97,33 +77,6 @@ impl<A: Allocator> Atom<A> {
             Atom::Wide(number) => {
                 let _number = *number;
             }
-        }
-    }
-
-    /// Whether the two values are equal, wherever they lie.
-    pub fn same<B: Allocator>(&self, other: &Atom<B>) -> bool
-        ensures { IsTrue result ↔ (datum_of self.now ≡ datum_of other.now) }
-    {
-        match (self, other) {
-            (Atom::Number(a), Atom::Number(b)) => a == b,
-            (Atom::Text(a), Atom::Text(b)) => same_bytes(a.as_bytes(), b.as_bytes()),
-            (Atom::Bytes(a), Atom::Bytes(b)) => same_bytes(a.as_slice(), b.as_slice()),
-            (Atom::Truth(a), Atom::Truth(b)) => a == b,
-            (Atom::Wide(a), Atom::Wide(b)) => a == b,
-            _ => false,
-        }
-    }
-
-    /// An equal value under another allocator.
-    pub fn copy_in<B: Allocator>(&self, alloc: B) -> Result<Atom<B>, NoMemory>
-        ensures { IfOk result (λ x. datum_of x ≡ datum_of self.now) }
-    {
-        match self {
-            Atom::Number(number) => Ok(Atom::Number(*number)),
-            Atom::Text(text) => Ok(Atom::Text(String::from_str(alloc, text.as_str())?)),
-            Atom::Bytes(bytes) => Ok(Atom::Bytes(Vec::from_slice(alloc, bytes.as_slice())?)),
-            Atom::Truth(truth) => Ok(Atom::Truth(*truth)),
-            Atom::Wide(number) => Ok(Atom::Wide(*number)),
         }
     }
 }

@@ -1,21 +1,27 @@
-//! Templates: lists of fields.
+//! Templates: lists of fields, kept as the bytes that spell the fields.
 
-ghost use Rattle.std.specs.Prelude.{◌≡◌, ◌+◌, ◌≤◌, ◌<◌, OnOk, OnErr, IfErr, IfOk, option_map, slice_get, vec_len, vec_capacity, IsTrue, ◌↔◌};
-ghost use Rattle.tuple_tree.specs.Items.{none, inner, how_many, with_last, as_list, item_levels, levels_of, item_length, whole_length, item_has, has_leaf};
-ghost use Rattle.tuple_tree.specs.Extents.{IsMeasured};
-ghost use Rattle.tuple_tree.specs.Limits.{IsItem, Refuses};
-ghost use Rattle.tuple_tree.specs.Pushes.{JudgesTemplate};
+ghost use Rattle.std.specs.Prelude.{◌≡◌, ◌+◌, ◌≤◌, ◌++◌, OnOk, OnErr, IfErr, IfOk, IsTrue, ◌↔◌, length};
+ghost use Rattle.tuple_tree.specs.Items.{none, inner, how_many, with_last, item_levels, levels_of, item_length, whole_length, item_has, has_leaf};
+ghost use Rattle.tuple_tree.specs.Limits.{IsItem};
+ghost use Rattle.tuple_tree.specs.Pushes.{JudgesTemplate, AddsField};
+ghost use Rattle.tuple_tree.specs.Puts.{Puts};
+ghost use Rattle.tuple_tree.specs.Gives.{Yields};
+ghost use Rattle.tuple_tree.specs.Reading.{slot_at, items_at};
+ghost use Rattle.tuple_tree.specs.Spelling.{slot_spelling, items_spelling, field_spelling, template_spelling};
 ghost use Rattle.tuple_tree.specs.Values.{slot_length, is_wide_slot, IsSlot, IsTemplate};
-ghost use Rattle.tuple_tree.specs.TemplateView.{field_of, template_of};
+ghost use Rattle.tuple_tree.specs.TemplateView.{field_of};
 
-use crate::atoms::{Atom, Kind};
+use crate::atoms::{Atom, Kind, note_bytes};
+use crate::fields::Fields;
+use crate::judging::judge_template;
 use crate::limits::{Extent, Refusal, Refused};
+use crate::put::{kind_tag, put_atom, put_byte, put_bytes};
+use crate::reading::read_byte;
 use std::alloc::Allocator;
 use std::marker::Model;
 use terms::NoMemory;
 
 /// A field of a template.
-#[cycle(template)]
 #[derive(Drop)]
 pub enum Field<A: Allocator> {
     /// An actual: an equal value matches.
@@ -28,36 +34,28 @@ pub enum Field<A: Allocator> {
     Nested(Template<A>),
 }
 
-/// A list of fields within the limits, in memory of the allocator `A`.
-#[cycle(template)]
+/// A list of fields within the limits, in memory of the allocator `A`: one block, whatever is nested in it.
 #[derive(Drop)]
 pub struct Template<A: Allocator> {
-    fields: Vec<Field<A>, A>,
+    // The spellings of the fields, without their count.
+    fields: Vec<u8, A>,
+    count: u8,
     extent: Extent,
 }
 
 impl<A: Allocator> Model for Template<A> {
-    ghost use Rattle.tuple_tree.specs.Items.{levels_of};
-    ghost use Rattle.tuple_tree.specs.Extents.{IsMeasured};
-    ghost use Rattle.tuple_tree.specs.Values.{TemplateTree, slot_length, is_wide_slot, IsSlot};
+    ghost use Rattle.tuple_tree.specs.Values.{TemplateTree};
     ghost use Rattle.tuple_tree.specs.ValuesCode.{template_code};
+    ghost use Rattle.tuple_tree.specs.Reading.{slot_at};
+    ghost use Rattle.tuple_tree.specs.Flat.{items_in, IsFlatTemplate};
 
     ghost Value = { TemplateTree };
 
     ghost coded = { template_code };
 
-    ghost use Rattle.tuple_tree.specs.TemplateView.{template_of};
+    ghost view = { λ a. items_in slot_at 7 a.count a.fields.items };
 
-    ghost view = { λ a. template_of a.fields.items };
-
-    ghost invariant = { λ a. IsMeasured IsSlot slot_length is_wide_slot (template_of a.fields.items) a.extent };
-
-    ghost size = { λ p. levels_of p };
-
-    ghost use Rattle.std.proofs.Common.{arith};
-    ghost use Rattle.tuple_tree.specs.TemplateFalls.{most_le_levels};
-
-    ghost size_decreases = { λ a h. omega (arith, most_le_levels A.Allocator a.fields.items) };
+    ghost invariant = { λ a. IsFlatTemplate a.count a.fields.items a.extent (items_in slot_at 7 a.count a.fields.items) };
 }
 
 /// A field that was not added, and why.
@@ -102,63 +100,6 @@ impl<A: Allocator> Field<A> {
             Field::Nested(template) => template.has_wide(),
         }
     }
-
-    /// Whether the two fields are equal, wherever they lie.
-    #[cycle(same_template)]
-    pub fn same<B: Allocator>(&self, other: &Field<B>) -> bool
-        ensures { IsTrue result ↔ (field_of self.now ≡ field_of other.now) }
-    {
-        match (self, other) {
-            (Field::Actual(a), Field::Actual(b)) => a.same(b),
-            (Field::Any, Field::Any) => true,
-            (Field::Formal(a), Field::Formal(b)) => a == b,
-            (Field::Nested(a), Field::Nested(b)) => a.same(b),
-            _ => false,
-        }
-    }
-
-    #[cycle(same_template)]
-    fn same_fields<B: Allocator>(a: &[Field<A>], b: &[Field<B>]) -> bool
-        ensures { IsTrue result ↔ (template_of a.now ≡ template_of b.now) }
-    {
-        if a.len() != b.len() {
-            return false;
-        }
-        for i in 0..a.len() {
-            if !a[i].same(&b[i]) {
-                return false;
-            }
-        }
-        true
-    }
-
-    /// An equal field under another allocator.
-    #[cycle(copy_template)]
-    pub fn copy_in<B: Allocator + Clone>(&self, alloc: B) -> Result<Field<B>, NoMemory>
-        ensures { IfOk result (λ v. field_of v ≡ field_of self.now) }
-    {
-        match self {
-            Field::Actual(atom) => Ok(Field::Actual(atom.copy_in(alloc)?)),
-            Field::Any => Ok(Field::Any),
-            Field::Formal(kind) => Ok(Field::Formal(*kind)),
-            Field::Nested(template) => Ok(Field::Nested(template.copy_in(alloc)?)),
-        }
-    }
-
-    #[cycle(copy_template)]
-    fn copy_fields<B: Allocator + Clone>(
-        fields: &[Field<A>],
-        alloc: &B,
-    ) -> Result<Vec<Field<B>, B>, NoMemory>
-        ensures { IfOk result (λ copies. template_of copies.items ≡ template_of fields.now) }
-    {
-        let mut copies = Vec::with_capacity(alloc.clone()?, fields.len())?;
-        for field in fields {
-            let copy = field.copy_in(alloc.clone()?)?;
-            copies.push(copy)?;
-        }
-        Ok(copies)
-    }
 }
 
 impl<A: Allocator> Template<A> {
@@ -168,17 +109,17 @@ impl<A: Allocator> Template<A> {
     {
         Template {
             fields: Vec::new(alloc),
+            count: 0,
             extent: Extent::EMPTY,
         }
     }
 
     /// How many fields there are, 0 to 32.
-    #[tactic(auto, using(crate::proofs::Counting::counting))]
     pub fn len(&self) -> usize
         ensures value { result ≡ how_many self.now }
         ensures bound { result ≤ 32 }
     {
-        self.fields.len()
+        self.count as usize
     }
 
     /// Whether there is no field.
@@ -211,19 +152,54 @@ impl<A: Allocator> Template<A> {
         self.extent.has_wide
     }
 
-    /// The fields in order.
-    pub fn fields(&self) -> &[Field<A>]
-        ensures value { template_of result.now ≡ self.now }
+    /// The fields in order, where they lie.
+    pub fn fields(&self) -> Fields<'_>
+        ensures value { result ≡ self.now }
+        ensures valid { IsTemplate self.now }
+    {
+        Fields {
+            bytes: &self.fields,
+            count: self.count,
+            levels: 7,
+        }
+    }
+
+    /// The spellings of the fields, one after another.
+    pub fn bytes(&self) -> &[u8]
+        ensures value { result.now ≡ items_spelling slot_spelling self.now }
         ensures valid { IsTemplate self.now }
     {
         &self.fields
     }
 
-    /// The field at an index from 0.
-    pub fn get(&self, i: usize) -> Option<&Field<A>>
-        ensures { option_map (λ v. field_of v.now) result ≡ slice_get (as_list self.now) i }
+    /// The template that the front of the bytes spells, and the bytes after it: a test, and then a copy.
+    pub fn read_in<'b>(
+        alloc: A,
+        bytes: &'b [u8],
+    ) -> Result<Option<(Template<A>, &'b [u8])>, NoMemory>
+        requires { length bytes.now ≤ 1024 }
+        ensures { IfOk result (λ read. Yields (λ x. (x.0, x.1.now)) read (items_at slot_at 7 bytes.now)) }
     {
-        self.fields.get(i)
+        note_bytes(bytes);
+        let Some((below, has_wide, rest)) = judge_template(bytes, 7) else {
+            return Ok(None);
+        };
+        let Some((count, fields)) = read_byte(bytes) else {
+            return Ok(None);
+        };
+        let (spelled, _) = fields.split_at(fields.len() - rest.len());
+        let fields = Vec::from_slice(alloc, spelled)?;
+        let extent = Extent {
+            depth: 1 + below,
+            encoded_len: 1 + spelled.len() as u16,
+            has_wide,
+        };
+        let template = Template {
+            fields,
+            count,
+            extent,
+        };
+        Ok(Some((template, rest)))
     }
 
     /// The template as a field of another one.
@@ -234,21 +210,20 @@ impl<A: Allocator> Template<A> {
     }
 
     /// Whether the two templates are equal, wherever they lie.
-    #[cycle(same_template)]
     pub fn same<B: Allocator>(&self, other: &Template<B>) -> bool
         ensures { IsTrue result ↔ (self.now ≡ other.now) }
     {
-        Field::same_fields(self.fields.as_slice(), other.fields.as_slice())
+        self.count == other.count && self.fields.as_slice() == other.fields.as_slice()
     }
 
     /// An equal template under another allocator.
-    #[cycle(copy_template)]
-    pub fn copy_in<B: Allocator + Clone>(&self, alloc: B) -> Result<Template<B>, NoMemory>
+    pub fn copy_in<B: Allocator>(&self, alloc: B) -> Result<Template<B>, NoMemory>
         ensures { IfOk result (λ t. t ≡ self.now) }
     {
-        let fields = Field::copy_fields(self.fields.as_slice(), &alloc)?;
+        let fields = Vec::from_slice(alloc, self.fields.as_slice())?;
         Ok(Template {
             fields,
+            count: self.count,
             extent: self.extent,
         })
     }
@@ -263,40 +238,86 @@ impl<A: Allocator> Template<A> {
         ensures returned { IfErr result (λ e. e.value ≡ field) }
         ensures refusal { JudgesTemplate result self.new (with_last self.old (field_of field)) }
     {
-        match room_for(&mut self.fields, self.extent, &field) {
-            Ok(extent) => {
-                self.fields.push_reserved(field);
-                self.extent = extent;
-                Ok(())
-            }
+        match self.add(&field) {
+            Ok(()) => Ok(()),
             Err(refusal) => Err(Refused {
                 refusal,
                 value: field,
             }),
         }
     }
+
+    // Adds the spelling of the field. A refusal leaves the template as it was.
+    fn add(&mut self, field: &Field<A>) -> Result<(), Refusal>
+        ensures ok { OnOk result (self.new ≡ with_last self.old (field_of field.now)) }
+        ensures err { OnErr result (self.new ≡ self.old) }
+        ensures refusal { AddsField result self.new (with_last self.old (field_of field.now)) }
+    {
+        let depth = field.depth();
+        let has_wide = field.has_wide();
+        let len = self.count as usize;
+        let extent = match self
+            .extent
+            .with_item(len, depth, field.encoded_len(), has_wide)
+        {
+            Ok(extent) => extent,
+            Err(refusal) => return Err(refusal),
+        };
+        match append(field, &mut self.fields) {
+            Ok(()) => {
+                self.count += 1;
+                self.extent = extent;
+                Ok(())
+            }
+            Err(NoMemory) => Err(Refusal::NoMemory),
+        }
+    }
 }
 
-// Makes room for the field, and gives the extent of the fields with it at the end.
-#[inline(always)]
-fn room_for<A: Allocator>(
-    fields: &mut Vec<Field<A>, A>,
-    extent: Extent,
+// Appends the spelling of the field. An `Err` leaves the bytes as they were.
+fn append<A: Allocator, B: Allocator>(
     field: &Field<A>,
-) -> Result<Extent, Refusal>
-    requires { IsMeasured IsSlot slot_length is_wide_slot (template_of fields.old.items) extent }
-    ensures kept { fields.new.items ≡ fields.old.items }
-    ensures room { OnOk result (vec_len fields.new < fields.new.cap) }
-    ensures ok { IfOk result (IsMeasured IsSlot slot_length is_wide_slot
-        (with_last (template_of fields.old.items) (field_of field.now))) }
-    ensures err { IfErr result (λ refusal. Refuses slot_length refusal
-        (with_last (template_of fields.old.items) (field_of field.now))) }
+    out: &mut Vec<u8, B>,
+) -> Result<(), NoMemory>
+    requires { item_length slot_length (field_of field.now) ≤ 1024 }
+    ensures ok { OnOk result (out.new.items ≡ out.old.items ++ field_spelling (field_of field.now)) }
+    ensures err { OnErr result (out.new.items ≡ out.old.items) }
 {
-    let depth = field.depth();
-    let has_wide = field.has_wide();
-    let extent = extent.with_item(fields.len(), depth, field.encoded_len(), has_wide)?;
-    if fields.len() == fields.capacity() && fields.reserve(1).is_err() {
-        return Err(Refusal::NoMemory);
+    let old_len = out.len();
+    match put_field(field, out) {
+        Ok(()) => Ok(()),
+        Err(error) => {
+            out.truncate(old_len);
+            Err(error)
+        }
     }
-    Ok(extent)
+}
+
+fn put_field<A: Allocator, B: Allocator>(
+    field: &Field<A>,
+    out: &mut Vec<u8, B>,
+) -> Result<(), NoMemory>
+    requires { item_length slot_length (field_of field.now) ≤ 1024 }
+    ensures { Puts (field_spelling (field_of field.now)) out.old.items out.new.items result }
+{
+    match field {
+        Field::Actual(atom) => put_atom(atom, out),
+        Field::Any => put_byte(0x10, out),
+        Field::Formal(kind) => put_byte(kind_tag(*kind), out),
+        Field::Nested(template) => {
+            put_byte(5, out)?;
+            put_template(template, out)
+        }
+    }
+}
+
+/// Appends the spelling of the template. After an `Err` a part of it may follow the bytes.
+pub fn put_template<A: Allocator, B: Allocator>(
+    template: &Template<A>,
+    out: &mut Vec<u8, B>,
+) -> Result<(), NoMemory>
+    ensures { Puts (template_spelling template.now) out.old.items out.new.items result }
+{
+    put_byte(template.count, out)?;
+    put_bytes(template.fields.as_slice(), out)
 }

@@ -1,21 +1,27 @@
-//! Tuples: lists of values.
+//! Tuples: lists of values, kept as the bytes that spell the values.
 
-ghost use Rattle.std.specs.Prelude.{◌≡◌, ◌+◌, ◌≤◌, ◌<◌, OnOk, OnErr, IfErr, IfOk, option_map, slice_get, vec_len, vec_capacity, IsTrue, ◌↔◌};
-ghost use Rattle.tuple_tree.specs.Items.{none, inner, how_many, with_last, as_list, item_levels, levels_of, item_length, whole_length, item_has, has_leaf};
-ghost use Rattle.tuple_tree.specs.Extents.{IsMeasured};
-ghost use Rattle.tuple_tree.specs.Limits.{IsItem, Refuses};
-ghost use Rattle.tuple_tree.specs.Pushes.{JudgesTuple};
-ghost use Rattle.tuple_tree.specs.Values.{kind_of, datum_length, is_wide, IsDatum, IsTuple};
-ghost use Rattle.tuple_tree.specs.TupleView.{value_of, tuple_of};
+ghost use Rattle.std.specs.Prelude.{◌≡◌, ◌+◌, ◌≤◌, ◌++◌, OnOk, OnErr, IfErr, IfOk, IsTrue, ◌↔◌, length};
+ghost use Rattle.tuple_tree.specs.Items.{none, inner, how_many, with_last, item_levels, levels_of, item_length, whole_length, item_has, has_leaf};
+ghost use Rattle.tuple_tree.specs.Limits.{IsItem};
+ghost use Rattle.tuple_tree.specs.Pushes.{JudgesTuple, AddsValue};
+ghost use Rattle.tuple_tree.specs.Puts.{Puts};
+ghost use Rattle.tuple_tree.specs.Gives.{Yields};
+ghost use Rattle.tuple_tree.specs.Reading.{datum_at, items_at};
+ghost use Rattle.tuple_tree.specs.Spelling.{datum_spelling, items_spelling, value_spelling, tuple_spelling};
+ghost use Rattle.tuple_tree.specs.Values.{datum_length, is_wide, IsDatum, IsTuple};
+ghost use Rattle.tuple_tree.specs.TupleView.{value_of};
 
-use crate::atoms::{Atom, Kind};
+use crate::atoms::{Atom, note_bytes};
+use crate::judging::judge_tuple;
 use crate::limits::{Extent, Refusal, Refused};
+use crate::put::{put_atom, put_byte, put_bytes};
+use crate::reading::read_byte;
+use crate::values::Values;
 use std::alloc::Allocator;
 use std::marker::Model;
 use terms::NoMemory;
 
 /// A value of a tuple.
-#[cycle(tuple)]
 #[derive(Drop)]
 pub enum Value<A: Allocator> {
     /// A value that is no tuple.
@@ -24,52 +30,34 @@ pub enum Value<A: Allocator> {
     Nested(Tuple<A>),
 }
 
-/// A list of values within the limits, in memory of the allocator `A`.
-#[cycle(tuple)]
+/// A list of values within the limits, in memory of the allocator `A`: one block, whatever is nested in it.
 #[derive(Drop)]
 pub struct Tuple<A: Allocator> {
-    values: Vec<Value<A>, A>,
+    // The spellings of the values, without their count.
+    values: Vec<u8, A>,
+    count: u8,
     extent: Extent,
 }
 
 impl<A: Allocator> Model for Tuple<A> {
-    ghost use Rattle.tuple_tree.specs.Items.{levels_of};
-    ghost use Rattle.tuple_tree.specs.Extents.{IsMeasured};
-    ghost use Rattle.tuple_tree.specs.Values.{TupleTree, datum_length, is_wide, IsDatum};
+    ghost use Rattle.tuple_tree.specs.Values.{TupleTree};
     ghost use Rattle.tuple_tree.specs.ValuesCode.{tuple_code};
+    ghost use Rattle.tuple_tree.specs.Reading.{datum_at};
+    ghost use Rattle.tuple_tree.specs.Flat.{items_in, IsFlatTuple};
 
     ghost Value = { TupleTree };
 
     ghost coded = { tuple_code };
 
-    ghost use Rattle.tuple_tree.specs.TupleView.{tuple_of};
+    ghost view = { λ a. items_in datum_at 7 a.count a.values.items };
 
-    ghost view = { λ a. tuple_of a.values.items };
-
-    ghost invariant = { λ a. IsMeasured IsDatum datum_length is_wide (tuple_of a.values.items) a.extent };
-
-    ghost size = { λ t. levels_of t };
-
-    ghost use Rattle.std.proofs.Common.{arith};
-    ghost use Rattle.tuple_tree.specs.TupleFalls.{most_le_levels};
-
-    ghost size_decreases = { λ a h. omega (arith, most_le_levels A.Allocator a.values.items) };
+    ghost invariant = { λ a. IsFlatTuple a.count a.values.items a.extent (items_in datum_at 7 a.count a.values.items) };
 }
 
 /// A value that was not added, and why.
 pub type Pushed<A> = Refused<Value<A>>;
 
 impl<A: Allocator> Value<A> {
-    /// The kind of this value.
-    pub fn kind(&self) -> Kind
-        ensures { result ≡ kind_of (value_of self.now) }
-    {
-        match self {
-            Value::Atom(atom) => atom.kind(),
-            Value::Nested(_) => Kind::Tuple,
-        }
-    }
-
     /// The levels of nested tuples in this value, 0 to 8. Constant time.
     pub fn depth(&self) -> u8
         ensures value { result ≡ item_levels (value_of self.now) }
@@ -104,59 +92,6 @@ impl<A: Allocator> Value<A> {
             Value::Nested(tuple) => tuple.has_wide(),
         }
     }
-
-    /// Whether the two values are equal, wherever they lie.
-    #[cycle(same_tuple)]
-    pub fn same<B: Allocator>(&self, other: &Value<B>) -> bool
-        ensures { IsTrue result ↔ (value_of self.now ≡ value_of other.now) }
-    {
-        match (self, other) {
-            (Value::Atom(a), Value::Atom(b)) => a.same(b),
-            (Value::Nested(a), Value::Nested(b)) => a.same(b),
-            _ => false,
-        }
-    }
-
-    #[cycle(same_tuple)]
-    fn same_values<B: Allocator>(a: &[Value<A>], b: &[Value<B>]) -> bool
-        ensures { IsTrue result ↔ (tuple_of a.now ≡ tuple_of b.now) }
-    {
-        if a.len() != b.len() {
-            return false;
-        }
-        for i in 0..a.len() {
-            if !a[i].same(&b[i]) {
-                return false;
-            }
-        }
-        true
-    }
-
-    /// An equal value under another allocator.
-    #[cycle(copy_tuple)]
-    pub fn copy_in<B: Allocator + Clone>(&self, alloc: B) -> Result<Value<B>, NoMemory>
-        ensures { IfOk result (λ v. value_of v ≡ value_of self.now) }
-    {
-        match self {
-            Value::Atom(atom) => Ok(Value::Atom(atom.copy_in(alloc)?)),
-            Value::Nested(tuple) => Ok(Value::Nested(tuple.copy_in(alloc)?)),
-        }
-    }
-
-    #[cycle(copy_tuple)]
-    fn copy_values<B: Allocator + Clone>(
-        values: &[Value<A>],
-        alloc: &B,
-    ) -> Result<Vec<Value<B>, B>, NoMemory>
-        ensures { IfOk result (λ copies. tuple_of copies.items ≡ tuple_of values.now) }
-    {
-        let mut copies = Vec::with_capacity(alloc.clone()?, values.len())?;
-        for value in values {
-            let copy = value.copy_in(alloc.clone()?)?;
-            copies.push(copy)?;
-        }
-        Ok(copies)
-    }
 }
 
 impl<A: Allocator> Tuple<A> {
@@ -166,17 +101,17 @@ impl<A: Allocator> Tuple<A> {
     {
         Tuple {
             values: Vec::new(alloc),
+            count: 0,
             extent: Extent::EMPTY,
         }
     }
 
     /// How many values there are, 0 to 32.
-    #[tactic(auto, using(crate::proofs::Counting::counting))]
     pub fn len(&self) -> usize
         ensures value { result ≡ how_many self.now }
         ensures bound { result ≤ 32 }
     {
-        self.values.len()
+        self.count as usize
     }
 
     /// Whether there is no value.
@@ -209,19 +144,51 @@ impl<A: Allocator> Tuple<A> {
         self.extent.has_wide
     }
 
-    /// The values in order.
-    pub fn values(&self) -> &[Value<A>]
-        ensures value { tuple_of result.now ≡ self.now }
+    /// The values in order, where they lie.
+    pub fn values(&self) -> Values<'_>
+        ensures value { result ≡ self.now }
+        ensures valid { IsTuple self.now }
+    {
+        Values {
+            bytes: &self.values,
+            count: self.count,
+            levels: 7,
+        }
+    }
+
+    /// The spellings of the values, one after another.
+    pub fn bytes(&self) -> &[u8]
+        ensures value { result.now ≡ items_spelling datum_spelling self.now }
         ensures valid { IsTuple self.now }
     {
         &self.values
     }
 
-    /// The value at an index from 0.
-    pub fn get(&self, i: usize) -> Option<&Value<A>>
-        ensures { option_map (λ v. value_of v.now) result ≡ slice_get (as_list self.now) i }
+    /// The tuple that the front of the bytes spells, and the bytes after it: a test, and then a copy.
+    pub fn read_in<'b>(alloc: A, bytes: &'b [u8]) -> Result<Option<(Tuple<A>, &'b [u8])>, NoMemory>
+        requires { length bytes.now ≤ 1024 }
+        ensures { IfOk result (λ read. Yields (λ x. (x.0, x.1.now)) read (items_at datum_at 7 bytes.now)) }
     {
-        self.values.get(i)
+        note_bytes(bytes);
+        let Some((below, has_wide, rest)) = judge_tuple(bytes, 7) else {
+            return Ok(None);
+        };
+        let Some((count, values)) = read_byte(bytes) else {
+            return Ok(None);
+        };
+        let (spelled, _) = values.split_at(values.len() - rest.len());
+        let values = Vec::from_slice(alloc, spelled)?;
+        let extent = Extent {
+            depth: 1 + below,
+            encoded_len: 1 + spelled.len() as u16,
+            has_wide,
+        };
+        let tuple = Tuple {
+            values,
+            count,
+            extent,
+        };
+        Ok(Some((tuple, rest)))
     }
 
     /// The tuple as a value of another one.
@@ -232,21 +199,20 @@ impl<A: Allocator> Tuple<A> {
     }
 
     /// Whether the two tuples are equal, wherever they lie.
-    #[cycle(same_tuple)]
     pub fn same<B: Allocator>(&self, other: &Tuple<B>) -> bool
         ensures { IsTrue result ↔ (self.now ≡ other.now) }
     {
-        Value::same_values(self.values.as_slice(), other.values.as_slice())
+        self.count == other.count && self.values.as_slice() == other.values.as_slice()
     }
 
     /// An equal tuple under another allocator.
-    #[cycle(copy_tuple)]
-    pub fn copy_in<B: Allocator + Clone>(&self, alloc: B) -> Result<Tuple<B>, NoMemory>
+    pub fn copy_in<B: Allocator>(&self, alloc: B) -> Result<Tuple<B>, NoMemory>
         ensures { IfOk result (λ t. t ≡ self.now) }
     {
-        let values = Value::copy_values(self.values.as_slice(), &alloc)?;
+        let values = Vec::from_slice(alloc, self.values.as_slice())?;
         Ok(Tuple {
             values,
+            count: self.count,
             extent: self.extent,
         })
     }
@@ -261,37 +227,81 @@ impl<A: Allocator> Tuple<A> {
         ensures returned { IfErr result (λ e. e.value ≡ value) }
         ensures refusal { JudgesTuple result self.new (with_last self.old (value_of value)) }
     {
-        match room_for(&mut self.values, self.extent, &value) {
-            Ok(extent) => {
-                self.values.push_reserved(value);
+        match self.add(&value) {
+            Ok(()) => Ok(()),
+            Err(refusal) => Err(Refused { refusal, value }),
+        }
+    }
+
+    // Adds the spelling of the value. A refusal leaves the tuple as it was.
+    fn add(&mut self, value: &Value<A>) -> Result<(), Refusal>
+        ensures ok { OnOk result (self.new ≡ with_last self.old (value_of value.now)) }
+        ensures err { OnErr result (self.new ≡ self.old) }
+        ensures refusal { AddsValue result self.new (with_last self.old (value_of value.now)) }
+    {
+        let depth = value.depth();
+        let has_wide = value.has_wide();
+        let len = self.count as usize;
+        let extent = match self
+            .extent
+            .with_item(len, depth, value.encoded_len(), has_wide)
+        {
+            Ok(extent) => extent,
+            Err(refusal) => return Err(refusal),
+        };
+        match append(value, &mut self.values) {
+            Ok(()) => {
+                self.count += 1;
                 self.extent = extent;
                 Ok(())
             }
-            Err(refusal) => Err(Refused { refusal, value }),
+            Err(NoMemory) => Err(Refusal::NoMemory),
         }
     }
 }
 
-// Makes room for the value, and gives the extent of the values with it at the end.
-#[inline(always)]
-fn room_for<A: Allocator>(
-    values: &mut Vec<Value<A>, A>,
-    extent: Extent,
+// Appends the spelling of the value. An `Err` leaves the bytes as they were.
+fn append<A: Allocator, B: Allocator>(
     value: &Value<A>,
-) -> Result<Extent, Refusal>
-    requires { IsMeasured IsDatum datum_length is_wide (tuple_of values.old.items) extent }
-    ensures kept { values.new.items ≡ values.old.items }
-    ensures room { OnOk result (vec_len values.new < values.new.cap) }
-    ensures ok { IfOk result (IsMeasured IsDatum datum_length is_wide
-        (with_last (tuple_of values.old.items) (value_of value.now))) }
-    ensures err { IfErr result (λ refusal. Refuses datum_length refusal
-        (with_last (tuple_of values.old.items) (value_of value.now))) }
+    out: &mut Vec<u8, B>,
+) -> Result<(), NoMemory>
+    requires { item_length datum_length (value_of value.now) ≤ 1024 }
+    ensures ok { OnOk result (out.new.items ≡ out.old.items ++ value_spelling (value_of value.now)) }
+    ensures err { OnErr result (out.new.items ≡ out.old.items) }
 {
-    let depth = value.depth();
-    let has_wide = value.has_wide();
-    let extent = extent.with_item(values.len(), depth, value.encoded_len(), has_wide)?;
-    if values.len() == values.capacity() && values.reserve(1).is_err() {
-        return Err(Refusal::NoMemory);
+    let old_len = out.len();
+    match put_value(value, out) {
+        Ok(()) => Ok(()),
+        Err(error) => {
+            out.truncate(old_len);
+            Err(error)
+        }
     }
-    Ok(extent)
+}
+
+fn put_value<A: Allocator, B: Allocator>(
+    value: &Value<A>,
+    out: &mut Vec<u8, B>,
+) -> Result<(), NoMemory>
+    requires { item_length datum_length (value_of value.now) ≤ 1024 }
+    ensures { Puts (value_spelling (value_of value.now)) out.old.items out.new.items result }
+{
+    match value {
+        Value::Atom(atom) => put_atom(atom, out),
+        Value::Nested(tuple) => {
+            put_byte(5, out)?;
+            put_tuple(tuple, out)
+        }
+    }
+}
+
+/// Appends the spelling of the tuple. After an `Err` a part of it may follow the bytes.
+pub fn put_tuple<A: Allocator, B: Allocator>(
+    tuple: &Tuple<A>,
+    out: &mut Vec<u8, B>,
+) -> Result<(), NoMemory>
+    ensures { Puts (tuple_spelling tuple.now) out.old.items out.new.items result }
+{
+    put_byte(tuple.count, out)?;
+    put_bytes(tuple.values.as_slice(), out)
 }
