@@ -102,9 +102,10 @@ pub fn skip_fields(bytes: &[u8], levels: u8) -> Option<&[u8]>
     Some(rest)
 }
 
+/// Passes a field with at most so many levels in it.
 #[tactic(auto, unfolding(crate::specs::Reading::item_with))]
 #[cycle(skip_fields)]
-fn skip_field(bytes: &[u8], levels: u8) -> Option<&[u8]>
+pub fn skip_field(bytes: &[u8], levels: u8) -> Option<&[u8]>
     ensures { Yields (λ rest. rest.now) result (rest_of (item_at loose_slot_at levels bytes.now)) }
 {
     let (tag, rest) = read_byte(bytes)?;
