@@ -23,3 +23,4 @@ pub mod LiteralBytes
 pub mod Writing
 pub mod WrittenAgain
 pub mod Alone
+pub mod FieldTexts

@@ -82,20 +82,6 @@ flat_map_first f xs i h = ap (flat_map f) (drop_first xs i 0 h)
 pub tuples_first : (ts : List TupleTree) (i : ℕ) (t : TupleTree) → i < length ts → t ≡ get_or ts i t → tuples_written (drop i ts) ≡ 32 ∷ tuple_written t ++ tuples_written (drop (i + 1) ts)
 tuples_first ts i t h e = ap tuples_written (drop_first ts i t h) ∙ ap (λ x. 32 ∷ tuple_written x ++ tuples_written (drop (i + 1) ts)) (sym e)
 
--- the items, with this gap before the first
-abbrev pub behind : {L : Type 0} → (L → List ℕ) → List ℕ → Items L → List ℕ
-behind leaf_text gap none = []
-behind leaf_text gap (item x xs) = gap ++ item_written leaf_text x ++ more_written leaf_text xs
-
-module _ {L : Type 0} (leaf_text : L → List ℕ) where
-  pub behind_first : (gap : List ℕ) (x : Item L) (xs : Items L) → behind leaf_text gap (item x xs) ≡ (gap ++ item_written leaf_text x) ++ behind leaf_text (32 ∷ []) xs
-  behind_first gap x none = refl
-  behind_first gap x (item y ys) = refl
-
-  pub behind_nothing : (xs : Items L) → behind leaf_text [] xs ≡ items_written leaf_text xs
-  behind_nothing none = refl
-  behind_nothing (item x xs) = refl
-
 -- a byte of a text that stands for itself
 plain_by : (quote slash control feed : Bool) (b : ℕ) → (control || (quote || slash)) ≡ false → (feed ≡ true → control ≡ true)
     → (if quote then 92 ∷ 34 ∷ [] else (if slash then 92 ∷ 92 ∷ [] else (if feed then 92 ∷ 110 ∷ [] else (if control then 92 ∷ 120 ∷ hex_pair b else b ∷ [])))) ≡ b ∷ []

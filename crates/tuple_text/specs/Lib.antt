@@ -8,3 +8,4 @@ pub mod Parts
 pub mod Literals
 pub mod Written
 pub mod Laws
+pub mod Walks

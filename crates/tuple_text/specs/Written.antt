@@ -3,7 +3,7 @@ use Rattle.std.specs.Prelude.{◌≡◌, ℕ, ◌<◌, ◌≤◌, ◌==◌, nat_
 use Rattle.std.specs.List.{flat_map}
 use Rattle.std.specs.Fmt.{decimal}
 use Rattle.tuple_tree.specs.Items.{Item, leaf, inner, Items, none, item}
-use Rattle.tuple_tree.specs.Values.{Datum, Slot, TupleTree, TemplateTree}
+use Rattle.tuple_tree.specs.Values.{TupleTree, TemplateTree}
 use Rattle.tuple_codec.specs.Operations.{Operation, out, rdp, inp, cas, rd_all, in_all, upgrade, Outcome, done, found, absent, swapped, all, full, refused}
 use Rattle.tuple_codec.specs.OperationView.{outcome_of}
 use Rattle.tuple_codec.specs.declared.operations.Answer.{Answer}
@@ -28,25 +28,11 @@ module _ {L : Type 0} (leaf_text : L → List ℕ) where
   abbrev pub whole_written : Items L → List ℕ
   whole_written xs = item_written (inner xs)
 
--- a value of a tuple, and its values without their parentheses
-abbrev pub value_written : Item Datum → List ℕ
-value_written v = item_written datum_text v
-
-abbrev pub values_written : TupleTree → List ℕ
-values_written t = items_written datum_text t
-
 abbrev pub tuple_written : TupleTree → List ℕ
 tuple_written t = whole_written datum_text t
 
 abbrev pub template_written : TemplateTree → List ℕ
 template_written p = whole_written slot_text p
-
--- a field of a template, and its fields without their parentheses
-abbrev pub field_written : Item Slot → List ℕ
-field_written x = item_written slot_text x
-
-abbrev pub fields_written : TemplateTree → List ℕ
-fields_written p = items_written slot_text p
 
 -- a blank before each tuple
 abbrev pub tuples_written : List TupleTree → List ℕ

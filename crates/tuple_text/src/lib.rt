@@ -10,6 +10,7 @@
 #![tactic(auto)]
 
 mod faults;
+mod fields;
 mod growing;
 mod lines;
 mod literals;

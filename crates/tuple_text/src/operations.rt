@@ -1,18 +1,16 @@
 //! From operations to their lines.
 
 ghost use Rattle.std.specs.Prelude.{◌≡◌, ◌∷◌, ◌++◌, OnOk, OnErr, decimal};
-ghost use Rattle.tuple_tree.specs.Items.{how_many, item_levels, levels_in};
-ghost use Rattle.tuple_tree.specs.Seen.{seen_field};
 ghost use Rattle.tuple_codec.specs.OperationView.{operation_of};
-ghost use Rattle.tuple_text.specs.Texts.{formal_text};
-ghost use Rattle.tuple_text.specs.Written.{field_written, fields_written, template_written, operation_written, Appends};
+ghost use Rattle.tuple_text.specs.Written.{template_written, operation_written, Appends};
 
-use crate::write::{append, put_atom, put_tuple};
+use crate::fields::put_list;
+use crate::write::{append, put_byte, put_tuple};
 use itoa::Buffer;
 use std::alloc::Allocator;
 use terms::NoMemory;
 use tuple_codec::{Max, Op};
-use tuple_tree::{FieldRef, Fields, Kind, Template};
+use tuple_tree::Template;
 
 /// Appends the line of the operation: its name, and a blank before each argument. An `Err` leaves the bytes as they
 /// were.
@@ -52,7 +50,7 @@ fn put_op<A: Allocator, B: Allocator>(op: &Op<A>, out: &mut Vec<u8, B>) -> Resul
         Op::Cas(template, tuple) => {
             append(b"cas ", out)?;
             put_template(template, out)?;
-            append(b" ", out)?;
+            put_byte(b' ', out)?;
             put_tuple(tuple, out)
         }
         Op::RdAll(max, template) => {
@@ -76,7 +74,7 @@ fn put_counted<A: Allocator, B: Allocator>(
     ensures { Appends result out.old.items (decimal max.count ++ 32 ∷ template_written template.now) out.new.items }
 {
     put_count(max, out)?;
-    append(b" ", out)?;
+    put_byte(b' ', out)?;
     put_template(template, out)
 }
 
@@ -93,53 +91,6 @@ fn put_template<A: Allocator, B: Allocator>(
 ) -> Result<(), NoMemory>
     ensures { Appends result out.old.items (template_written template.now) out.new.items }
 {
-    put_list(template.fields(), out)
-}
-
-#[cycle(put_list)]
-fn put_list<B: Allocator>(fields: Fields<'_>, out: &mut Vec<u8, B>) -> Result<(), NoMemory>
-    ensures { Appends result out.old.items (template_written fields.entry) out.new.items }
-{
-    append(b"(", out)?;
-    put_fields(fields, out)?;
-    append(b")", out)
-}
-
-#[cycle(put_list)]
-fn put_fields<B: Allocator>(fields: Fields<'_>, out: &mut Vec<u8, B>) -> Result<(), NoMemory>
-    ensures { Appends result out.old.items (fields_written fields.entry) out.new.items }
-{
-    let mut left = fields;
-    let mut gap: &[u8] = b"";
-    while let Some(field) = left.next() {
-        append(gap, out)?;
-        put_field(field, out)?;
-        gap = b" ";
-    }
+    let _rest = put_list(template.len() as u8, template.bytes(), 7, out)?;
     Ok(())
-}
-
-#[cycle(put_list)]
-fn put_field<B: Allocator>(field: FieldRef<'_>, out: &mut Vec<u8, B>) -> Result<(), NoMemory>
-    ensures { Appends result out.old.items (field_written (seen_field field.entry)) out.new.items }
-{
-    match field {
-        FieldRef::Actual(atom) => put_atom(&atom, out),
-        FieldRef::Any => append(b"*", out),
-        FieldRef::Formal(kind) => append(formal(kind), out),
-        FieldRef::Nested(fields) => put_list(fields, out),
-    }
-}
-
-fn formal(kind: Kind) -> &'static [u8]
-    ensures { result.now ≡ formal_text kind }
-{
-    match kind {
-        Kind::Number => b"?int",
-        Kind::Text => b"?text",
-        Kind::Bytes => b"?bytes",
-        Kind::Truth => b"?bool",
-        Kind::Tuple => b"?tuple",
-        Kind::Wide => b"?wide",
-    }
 }

@@ -1,23 +1,23 @@
 //! From values to text.
 
-ghost use Rattle.std.specs.Prelude.{◌≡◌, ◌+◌, ◌<◌, ◌≤◌, ◌++◌, ◌∷◌, false, length, slice_index, OnOk, OnErr, IsTrue, ℕ, List};
+ghost use Rattle.std.specs.Prelude.{◌≡◌, ◌+◌, ◌<◌, ◌≤◌, ◌++◌, ◌∷◌, [], false, length, slice_index, OnOk, OnErr, IsTrue, ℕ, List};
 ghost use Rattle.std.specs.List.{flat_map};
 ghost use Rattle.std.specs.Fmt.{signed_decimal};
 ghost use Rattle.tuple_tree.specs.Values.{TupleTree, TemplateTree};
-ghost use Rattle.tuple_tree.specs.Items.{how_many, item_levels, levels_in};
-ghost use Rattle.tuple_tree.specs.Seen.{seen_datum, seen_value};
+ghost use Rattle.tuple_tree.specs.Seen.{seen_datum};
 ghost use Rattle.tuple_codec.specs.Operations.{Operation};
 ghost use Rattle.tuple_text.specs.Laws.{TuplesAreLines, TemplatesAreLines};
 ghost use Rattle.tuple_text.specs.Lines.{IsLine};
 ghost use Rattle.tuple_text.specs.Texts.{TupleText, TemplateText, datum_text, quoted_text, truth_text, escaped, hex_pair};
 ghost use Rattle.tuple_text.specs.Texts as Texts;
-ghost use Rattle.tuple_text.specs.Written.{value_written, values_written, tuple_written, template_written, counted_written, answer_text, is_escaped, Appends, PutsSome};
+ghost use Rattle.tuple_text.specs.Written.{tuple_written, template_written, counted_written, answer_text, is_escaped, Appends, PutsSome};
 
+use crate::fields::put_list;
 use itoa::Buffer;
 use std::alloc::Allocator;
 use terms::NoMemory;
 use tuple_codec::{Answer, Tuples};
-use tuple_tree::{AtomRef, Tuple, ValueRef, Values};
+use tuple_tree::{AtomRef, Tuple};
 
 const DIGITS: &[u8; 16] = b"0123456789abcdef";
 
@@ -83,6 +83,13 @@ pub(crate) fn append<B: Allocator>(text: &[u8], out: &mut Vec<u8, B>) -> Result<
     Ok(out.extend_from_slice(text)?)
 }
 
+// Appends one byte.
+pub(crate) fn put_byte<B: Allocator>(byte: u8, out: &mut Vec<u8, B>) -> Result<(), NoMemory>
+    ensures { Appends result out.old.items (byte ∷ []) out.new.items }
+{
+    Ok(out.push(byte)?)
+}
+
 fn put_answer<A: Allocator, B: Allocator>(
     answer: &Answer<A>,
     out: &mut Vec<u8, B>,
@@ -118,7 +125,7 @@ fn put_tuples<A: Allocator, B: Allocator>(
     let mut buffer = Buffer::new();
     append(buffer.format(tuples.len()).as_bytes(), out)?;
     for tuple in tuples.as_slice() {
-        append(b" ", out)?;
+        put_byte(b' ', out)?;
         put_tuple(tuple, out)?;
     }
     Ok(())
@@ -130,40 +137,8 @@ pub(crate) fn put_tuple<A: Allocator, B: Allocator>(
 ) -> Result<(), NoMemory>
     ensures { Appends result out.old.items (tuple_written tuple.now) out.new.items }
 {
-    put_list(tuple.values(), out)
-}
-
-#[cycle(put_list)]
-fn put_list<B: Allocator>(values: Values<'_>, out: &mut Vec<u8, B>) -> Result<(), NoMemory>
-    ensures { Appends result out.old.items (tuple_written values.entry) out.new.items }
-{
-    append(b"(", out)?;
-    put_values(values, out)?;
-    append(b")", out)
-}
-
-#[cycle(put_list)]
-fn put_values<B: Allocator>(values: Values<'_>, out: &mut Vec<u8, B>) -> Result<(), NoMemory>
-    ensures { Appends result out.old.items (values_written values.entry) out.new.items }
-{
-    let mut left = values;
-    let mut gap: &[u8] = b"";
-    while let Some(value) = left.next() {
-        append(gap, out)?;
-        put_value(value, out)?;
-        gap = b" ";
-    }
+    let _rest = put_list(tuple.len() as u8, tuple.bytes(), 7, out)?;
     Ok(())
-}
-
-#[cycle(put_list)]
-fn put_value<B: Allocator>(value: ValueRef<'_>, out: &mut Vec<u8, B>) -> Result<(), NoMemory>
-    ensures { Appends result out.old.items (value_written (seen_value value.entry)) out.new.items }
-{
-    match value {
-        ValueRef::Atom(atom) => put_atom(&atom, out),
-        ValueRef::Nested(values) => put_list(values, out),
-    }
 }
 
 pub(crate) fn put_atom<B: Allocator>(
@@ -193,7 +168,7 @@ fn put_wide<B: Allocator>(number: i128, out: &mut Vec<u8, B>) -> Result<(), NoMe
     ensures { Appends result out.old.items (119 ∷ signed_decimal number) out.new.items }
 {
     let mut buffer = Buffer::new();
-    append(b"w", out)?;
+    put_byte(b'w', out)?;
     append(buffer.format(number).as_bytes(), out)
 }
 
@@ -204,17 +179,39 @@ fn put_truth<B: Allocator>(truth: bool, out: &mut Vec<u8, B>) -> Result<(), NoMe
     append(text, out)
 }
 
-// A text in quotes, with its escapes.
+// A text in quotes, with its escapes. Most texts have none, and are put at once.
 fn put_text<B: Allocator>(text: &[u8], out: &mut Vec<u8, B>) -> Result<(), NoMemory>
     ensures { Appends result out.old.items (quoted_text text.now) out.new.items }
 {
-    append(b"\"", out)?;
+    if plain_len(text) == text.len() {
+        put_plain(text, out)
+    } else {
+        put_escapes(text, out)
+    }
+}
+
+// A text in quotes that has no escapes.
+fn put_plain<B: Allocator>(text: &[u8], out: &mut Vec<u8, B>) -> Result<(), NoMemory>
+    requires { flat_map escaped text.now ≡ text.now }
+    ensures { Appends result out.old.items (quoted_text text.now) out.new.items }
+{
+    out.reserve(text.len() + 2)?;
+    out.push_reserved(b'"');
+    append(text, out)?;
+    put_byte(b'"', out)
+}
+
+// A text in quotes, some of it at a time.
+fn put_escapes<B: Allocator>(text: &[u8], out: &mut Vec<u8, B>) -> Result<(), NoMemory>
+    ensures { Appends result out.old.items (quoted_text text.now) out.new.items }
+{
+    put_byte(b'"', out)?;
     let mut done = 0;
     while done < text.len() {
         let (_, rest) = text.split_at(done);
         done += put_some(rest, out)?;
     }
-    append(b"\"", out)
+    put_byte(b'"', out)
 }
 
 // The bytes up to the first that is escaped, as they are, or if that comes first its escape. Gives how many it put.
@@ -296,7 +293,7 @@ fn put_escaped<B: Allocator>(byte: u8, out: &mut Vec<u8, B>) -> Result<(), NoMem
             &[b'\\', b'x', hex_digit(byte / 16), hex_digit(byte % 16)],
             out,
         ),
-        _ => append(&[byte], out),
+        _ => put_byte(byte, out),
     }
 }
 
@@ -304,8 +301,8 @@ fn put_escaped<B: Allocator>(byte: u8, out: &mut Vec<u8, B>) -> Result<(), NoMem
 fn put_bytes<B: Allocator>(bytes: &[u8], out: &mut Vec<u8, B>) -> Result<(), NoMemory>
     ensures { Appends result out.old.items (120 ∷ flat_map hex_pair bytes.now) out.new.items }
 {
-    append(b"x", out)?;
-    out.reserve(2 * bytes.len())?;
+    out.reserve(1 + 2 * bytes.len())?;
+    out.push_reserved(b'x');
     for byte in bytes {
         out.push_reserved(hex_digit(*byte / 16));
         out.push_reserved(hex_digit(*byte % 16));

@@ -1,6 +1,5 @@
 use Rattle.std.proofs.Common.{◌≡◌, ℕ, [], ◌∷◌, ◌++◌, ap, arith, ◌+◌, ◌∙◌, drop, append_assoc}
 use Rattle.std.specs.List.{flat_map}
-use Rattle.std.proofs.lemmas.Result.{err_from_is_err_and}
 use Rattle.tuple_text.specs.Texts.{hex_pair}
 use Rattle.tuple_text.proofs.Writing.{so_far, one_more, nothing_left, flat_map_first, drop_all}
 use Rattle.tuple_text.proofs.write.put_bytes.Goals as goal
@@ -8,21 +7,11 @@ use Rattle.tuple_text.proofs.write.put_bytes.Goals as goal
 pair : {a b x y : ℕ} → a ≡ x → b ≡ y → a ∷ b ∷ [] ≡ x ∷ y ∷ []
 pair p q = cc
 
-pub returns-in_err-append : goal.returns-in_err-append
-returns-in_err-append g c =
-    let p = err_from_is_err_and c.from_residual.result c.from_residual.ensures.1 in
-    rw (p.1) c.in_err-append.ensures
-
-pub returns-in_err-reserve : goal.returns-in_err-reserve
-returns-in_err-reserve g c =
-    let p = err_from_is_err_and c.from_residual-in_err-reserve.result c.from_residual-in_err-reserve.ensures.1 in
-    rw (p.1) (120 ∷ [], c.reserve.ensures.items ∙ c.in_ok-append.ensures)
-
 pub loop-byte-init : goal.loop-byte-init
 loop-byte-init g c =
     let room = (c.in_ok-reserve.ensures {u = tt}).ok in
     record {
-      written = so_far _ (120 ∷ []) (flat_map hex_pair c.args.bytes.now) _ (c.reserve.ensures.items ∙ c.in_ok-append.ensures);
+      written = so_far _ (120 ∷ []) (flat_map hex_pair c.args.bytes.now) _ (c.push_reserved.ensures.items ∙ ap (λ t. t ++ 120 ∷ []) c.reserve.ensures.items);
       room = omega (arith, room);
     }
 
@@ -36,7 +25,7 @@ loop-byte-preserved g c =
       written =
           one_more _ _ _ _ (flat_map hex_pair (drop (c.loop-byte.byte-index + 1) c.args.bytes.now)) _ _ c.loop-byte.invariant.written
           (flat_map_first hex_pair c.args.bytes.now c.loop-byte.byte-index (omega arith))
-          (c.push_reserved-in-loop-byte.ensures.items ∙ ap (λ t. t ++ c.hex_digit-in-loop-byte.result ∷ []) c.push_reserved.ensures.items
+          (c.push_reserved-in-loop-byte-2.ensures.items ∙ ap (λ t. t ++ c.hex_digit-in-loop-byte.result ∷ []) c.push_reserved-in-loop-byte.ensures.items
           ∙ append_assoc out (c.hex_digit.result ∷ []) (c.hex_digit-in-loop-byte.result ∷ [])
           ∙ ap (λ t. out ++ t) (pair c.hex_digit.ensures c.hex_digit-in-loop-byte.ensures));
       room = omega arith;

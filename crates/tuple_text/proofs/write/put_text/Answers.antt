@@ -1,31 +1,12 @@
-use Rattle.std.proofs.Common.{[], ◌∷◌, ◌++◌, ap, ◌∙◌, arith, ◌+◌, drop, take}
+use Rattle.std.proofs.Common.{◌∙◌, ap, sym, arith}
 use Rattle.std.specs.List.{flat_map}
-use Rattle.std.proofs.lemmas.Result.{err_from_is_err_and}
+use Rattle.std.proofs.lemmas.List.{take_all}
 use Rattle.tuple_text.specs.Texts.{escaped}
-use Rattle.tuple_text.proofs.Writing.{so_far, one_more, error_behind, last_part, some_more, drop_all}
+use Rattle.tuple_text.proofs.Writing.{plain_run}
 use Rattle.tuple_text.proofs.write.put_text.Goals as goal
 
-pub returns-in_err-append : goal.returns-in_err-append
-returns-in_err-append g c =
-    let p = err_from_is_err_and c.from_residual.result c.from_residual.ensures.1 in
-    rw (p.1) c.in_err-append.ensures
-
-pub loop-done-init : goal.loop-done-init
-loop-done-init g c = so_far _ (34 ∷ []) (flat_map escaped c.args.text.now ++ 34 ∷ []) _ c.in_ok-append.ensures
-
-pub returns : goal.returns
-returns g c =
-    last_part c.append-2.result _ _ _ (34 ∷ []) _ c.append-2.new.out.items c.loop-done.invariant
-    (ap (λ s. flat_map escaped s ++ 34 ∷ []) ((drop_all c.args.text.now c.loop-done.done (omega arith)))) c.append-2.ensures
-
-pub returns-in_err-done : goal.returns-in_err-done
-returns-in_err-done g c =
-    let p = err_from_is_err_and c.from_residual-in_err-done.result c.from_residual-in_err-done.ensures.1 in
-    rw (p.1) (error_behind _ _ _ _ _ c.loop-done.invariant c.in_err-done.ensures)
-
-pub loop-done-preserved : goal.loop-done-preserved
-loop-done-preserved g c =
-    let n = c.in_ok-done.field-0 in
-    one_more _ _ _ _ (flat_map escaped (drop (c.loop-done.done + n) c.args.text.now) ++ 34 ∷ []) _ _ c.loop-done.invariant
-    (some_more escaped c.args.text.now (34 ∷ []) c.loop-done.done n)
-    ((c.in_ok-done.ensures {u = tt}).2 ∙ ap (λ r. c.loop-done.out.items ++ flat_map escaped (take n r)) c.split_at.ensures.back)
+pub put_plain-requires : goal.put_plain-requires
+put_plain-requires g c =
+    let text = c.args.text.now in
+    let all = take_all c.plain_len.result text (omega arith) in
+    ap (flat_map escaped) (sym all) ∙ plain_run text c.plain_len.result c.plain_len.ensures.within c.plain_len.ensures.plain ∙ all

@@ -19,16 +19,16 @@ loop-tuple-init g c = record {
       (so_far c.args.out.now.items (decimal (length c.args.tuples.now)) (tuples_written c.args.tuples.now) c.append.new.out.items (c.in_ok-append.ensures ∙ ap (λ t. c.args.out.now.items ++ t) e));
 }
 
-pub returns-in_err-append-2 : goal.returns-in_err-append-2
-returns-in_err-append-2 g c =
-    let p = err_from_is_err_and c.from_residual-in_err-append-2.result c.from_residual-in_err-append-2.ensures.1 in
-    rw (p.1) (error_behind c.args.out.now.items c.loop-tuple.out.items _ _ c.append-in-loop-tuple.new.out.items c.loop-tuple.invariant.written c.in_err-append-2.ensures)
+pub returns-in_err-put_byte : goal.returns-in_err-put_byte
+returns-in_err-put_byte g c =
+    let p = err_from_is_err_and c.from_residual-in_err-put_byte.result c.from_residual-in_err-put_byte.ensures.1 in
+    rw (p.1) (error_behind c.args.out.now.items c.loop-tuple.out.items _ _ c.put_byte.new.out.items c.loop-tuple.invariant.written c.in_err-put_byte.ensures)
 
 pub returns-in_err-put_tuple : goal.returns-in_err-put_tuple
 returns-in_err-put_tuple g c =
     let p = err_from_is_err_and c.from_residual-in_err-put_tuple.result c.from_residual-in_err-put_tuple.ensures.1 in
     rw (p.1) (error_behind c.args.out.now.items c.loop-tuple.out.items _ _ c.put_tuple.new.out.items c.loop-tuple.invariant.written
-    (error_second c.loop-tuple.out.items (32 ∷ []) c.append-in-loop-tuple.new.out.items c.put_tuple.new.out.items c.in_ok-append-2.ensures c.in_err-put_tuple.ensures))
+    (error_second c.loop-tuple.out.items (32 ∷ []) c.put_byte.new.out.items c.put_tuple.new.out.items c.in_ok-put_byte.ensures c.in_err-put_tuple.ensures))
 
 pub loop-tuple-preserved : goal.loop-tuple-preserved
 loop-tuple-preserved g c = record {
@@ -36,7 +36,7 @@ loop-tuple-preserved g c = record {
   written =
       one_more c.args.out.now.items c.loop-tuple.out.items _ (32 ∷ tuple_written c.tuple-item.result) (tuples_written (drop (c.loop-tuple.tuple-index + 1) c.as_slice-tuple-items.result.now)) _ c.put_tuple.new.out.items c.loop-tuple.invariant.written
       (tuples_first c.as_slice-tuple-items.result.now c.loop-tuple.tuple-index c.tuple-item.result (omega arith) c.tuple-item.is)
-      (c.in_ok-put_tuple.ensures ∙ ap (λ t. t ++ tuple_written c.tuple-item.result) c.in_ok-append-2.ensures ∙ append_assoc c.loop-tuple.out.items (32 ∷ []) (tuple_written c.tuple-item.result));
+      (c.in_ok-put_tuple.ensures ∙ ap (λ t. t ++ tuple_written c.tuple-item.result) c.in_ok-put_byte.ensures ∙ append_assoc c.loop-tuple.out.items (32 ∷ []) (tuple_written c.tuple-item.result));
 }
 
 pub returns : goal.returns

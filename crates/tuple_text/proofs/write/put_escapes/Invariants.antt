@@ -2,7 +2,7 @@ use Rattle.std.proofs.Common.{[], ◌∷◌, ◌++◌, ◌-◌, drop, length}
 use Rattle.std.specs.List.{flat_map}
 use Rattle.tuple_text.specs.Texts.{escaped}
 use Rattle.tuple_text.proofs.Writing.{SoFar}
-use Rattle.tuple_text.proofs.write.put_text.Given as goal
+use Rattle.tuple_text.proofs.write.put_escapes.Given as goal
 
 abbrev pub invariant-loop-done : goal.invariant-loop-done
 invariant-loop-done g l =

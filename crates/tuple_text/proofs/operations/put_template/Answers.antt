@@ -1,0 +1,11 @@
+use Rattle.std.proofs.Common.{◌∙◌, ◌++◌, ap}
+use Rattle.tuple_text.proofs.FieldTexts.{template_read}
+use Rattle.tuple_text.proofs.operations.put_template.Goals as goal
+
+pub put_list-requires : goal.put_list-requires
+put_list-requires g c = (template_read c.args.template.now c.len.result c.bytes.result.now c.bytes.ensures.valid c.len.ensures.value c.bytes.ensures.value).there
+
+pub returns : goal.returns
+returns g c =
+    let w = template_read c.args.template.now c.len.result c.bytes.result.now c.bytes.ensures.valid c.len.ensures.value c.bytes.ensures.value in
+    (c.in_ok-_rest.ensures {u = tt}).text ∙ ap (λ bs. c.args.out.now.items ++ bs) w.is
