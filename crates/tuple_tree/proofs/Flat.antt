@@ -1,6 +1,6 @@
 -- Items are read out of the bytes that spell them, and what the bytes are with one more item.
-use Rattle.std.proofs.Common.{◌≡◌, ℕ, ◌+◌, Bool, false, ◌||◌, List, [], ◌++◌, ap, sym, subst, refl, ◌∙◌, arith, append-nil}
-use Rattle.tuple_tree.specs.Items.{Item, Items, none, with_last, how_many, item_levels, item_length, item_has, has_leaf}
+use Rattle.std.proofs.Common.{◌≡◌, ℕ, ◌+◌, Bool, false, ◌||◌, List, [], ◌∷◌, ◌++◌, ap, sym, subst, refl, ◌∙◌, arith, append-nil}
+use Rattle.tuple_tree.specs.Items.{Item, inner, Items, none, with_last, how_many, item_levels, item_length, item_has, has_leaf}
 use Rattle.tuple_tree.specs.Limits.{IsItem, IsWithin}
 use Rattle.tuple_tree.specs.Extents.{IsLonger}
 use Rattle.tuple_tree.specs.declared.limits.Extent.{Extent}
@@ -45,6 +45,11 @@ module _ {L : Type 0} {IsLeaf : L → Type 0} {length_of : L → ℕ} {spelling 
         counted = sym s.0;
         spelled = e ∙ ap (λ xs. xs ++ item_spelling spelling x) h.spelled ∙ sym (items_spelling_last IsLeaf length_of spelling leaf_at reads t x);
       }
+
+-- the bytes with a nested list more
+pub with_nested : {L : Type 0} (spelling : L → List ℕ) (new old bs xs : List ℕ) (n : ℕ) (t : Items L) → new ≡ old ++ 5 ∷ n ∷ xs → old ≡ bs → n ≡ how_many t → xs ≡ items_spelling spelling t
+    → new ≡ bs ++ item_spelling spelling (inner t)
+with_nested spelling new old bs xs n t e f c x = e ∙ ap (λ ys. ys ++ 5 ∷ n ∷ xs) f ∙ ap (λ m. bs ++ 5 ∷ m ∷ xs) c ∙ ap (λ ys. bs ++ 5 ∷ how_many t ∷ ys) x
 
 module _ {L : Type 0} {IsLeaf : L → Type 0} {length_of : L → ℕ} {spelling : L → List ℕ} {is_wide : L → Bool} {count : ℕ} {bs : List ℕ} {extent : Extent} {t : Items L} where
   pub opened : {u : Items L} → IsFlat IsLeaf length_of is_wide spelling count bs extent u → u ≡ t → IsFlat IsLeaf length_of is_wide spelling count bs extent t

@@ -18,13 +18,18 @@ IsLonger old len item_depth item_len item_wide new =
     (len < 32) × (new.depth ≤ 8) × (new.encoded_len ≤ 1024) × (new.depth ≡ max old.depth (1 + item_depth))
     × (new.encoded_len ≡ old.encoded_len + item_len) × (new.has_wide ≡ (old.has_wide || item_wide))
 
--- The list with one more item, of so many levels and bytes, passes a limit, and the refusal names the first one.
+-- The list with one more item, of so many levels and bytes, passes the limit that the refusal names, and none before it.
 abbrev pub RefusesItem : Extent → ℕ → ℕ → ℕ → Refusal → Type 0
 RefusesItem old len item_depth item_len refusal =
-    (refusal ≢ NoMemory)
-    × RefusesSize refusal (len + 1) (max old.depth (1 + item_depth)) (old.encoded_len + item_len)
+    RefusesSize refusal (len + 1) (max old.depth (1 + item_depth)) (old.encoded_len + item_len)
 
--- The result is the extent of the list with one more item, or the first limit that it passes.
+-- The result is the extent of the list with one more item, or why it is refused.
+abbrev pub Lengthens : Extent → ℕ → ℕ → ℕ → Bool → Result Extent Refusal → Type 0
+Lengthens old len item_depth item_len item_wide result =
+    MatchResult result (IsLonger old len item_depth item_len item_wide) (RefusesItem old len item_depth item_len)
+
+-- the same, if memory is not asked for
 abbrev pub Extends : Extent → ℕ → ℕ → ℕ → Bool → Result Extent Refusal → Type 0
 Extends old len item_depth item_len item_wide result =
-    MatchResult result (IsLonger old len item_depth item_len item_wide) (RefusesItem old len item_depth item_len)
+    MatchResult result (IsLonger old len item_depth item_len item_wide)
+    (λ refusal. (refusal ≢ NoMemory) × RefusesItem old len item_depth item_len refusal)

@@ -5,6 +5,8 @@ use Rattle.tuple_tree.specs.declared.values.AtomRef.{AtomRef}
 use Rattle.tuple_tree.specs.declared.values.AtomRef.TheVariants as atoms
 use Rattle.tuple_tree.specs.declared.values.ValueRef.{ValueRef}
 use Rattle.tuple_tree.specs.declared.values.ValueRef.TheVariants as values
+use Rattle.tuple_tree.specs.declared.fields.SlotRef.{SlotRef}
+use Rattle.tuple_tree.specs.declared.fields.SlotRef.TheVariants as slots
 use Rattle.tuple_tree.specs.declared.fields.FieldRef.{FieldRef}
 use Rattle.tuple_tree.specs.declared.fields.FieldRef.TheVariants as fields
 
@@ -18,6 +20,11 @@ seen_datum (atoms.Wide n) = wide n
 abbrev pub seen_value : ValueRef → Item Datum
 seen_value (values.Atom x) = leaf (seen_datum x)
 seen_value (values.Nested t) = inner t
+
+abbrev pub seen_slot : SlotRef → Slot
+seen_slot (slots.Actual x) = actual (seen_datum x)
+seen_slot slots.Any = any
+seen_slot (slots.Formal k) = formal k
 
 abbrev pub seen_field : FieldRef → Item Slot
 seen_field (fields.Actual x) = leaf (actual (seen_datum x))

@@ -67,6 +67,11 @@ IsDatum (bytes s) = AreBytes s
 IsDatum (truth b) = Unit {0}
 IsDatum (wide n) = FitsSigned w128 n
 
+-- A text is UTF-8. All else of IsDatum holds by the program's types.
+abbrev pub IsUtf8IfText : Datum → Type 0
+IsUtf8IfText (text s) = IsUtf8 s
+IsUtf8IfText _ = Unit {0}
+
 abbrev pub IsSlot : Slot → Type 0
 IsSlot (actual x) = IsDatum x
 IsSlot any = Unit {0}

@@ -3,7 +3,9 @@
 ghost use Rattle.std.specs.Prelude.{◌≡◌, ◌+◌};
 ghost use Rattle.tuple_tree.specs.Values.{datum_length, is_wide, IsDatum, AreBytes};
 ghost use Rattle.tuple_tree.specs.AtomView.{datum_of};
+ghost use Rattle.tuple_tree.specs.Seen.{seen_datum};
 
+use crate::values::AtomRef;
 use std::alloc::Allocator;
 use std::string::String;
 
@@ -41,42 +43,42 @@ pub(crate) fn note_bytes(bytes: &[u8])
 }
 
 impl<A: Allocator> Atom<A> {
+    /// The value where it lies.
+    #[inline]
+    pub fn seen(&self) -> AtomRef<'_>
+        ensures value { seen_datum result ≡ datum_of self.now }
+        ensures valid { IsDatum (datum_of self.now) }
+    {
+        match self {
+            Atom::Number(number) => AtomRef::Number(*number),
+            Atom::Text(text) => AtomRef::Text(text.as_str().as_bytes()),
+            Atom::Bytes(bytes) => {
+                note_bytes(bytes.as_slice());
+                AtomRef::Bytes(bytes.as_slice())
+            }
+            Atom::Truth(truth) => AtomRef::Truth(*truth),
+            Atom::Wide(number) => AtomRef::Wide(*number),
+        }
+    }
+
     /// The length of the encoding, in bytes. Constant time.
     pub fn encoded_len(&self) -> usize
         ensures { result ≡ datum_length (datum_of self.now) }
     {
-        match self {
-            Atom::Number(_) => 9,
-            Atom::Text(text) => 3 + text.len(),
-            Atom::Bytes(bytes) => 3 + bytes.len(),
-            Atom::Truth(_) => 2,
-            Atom::Wide(_) => 17,
-        }
+        self.seen().encoded_len()
     }
 
     /// Whether the value is a wide number.
     pub fn is_wide(&self) -> bool
         ensures { result ≡ is_wide (datum_of self.now) }
     {
-        matches!(self, Atom::Wide(_))
+        self.seen().is_wide()
     }
 
     // Each value that the program holds is one of its kind.
     pub(crate) fn note_valid(&self)
         ensures { IsDatum (datum_of self.now) }
     {
-        match self {
-            Atom::Number(number) => {
-                let _number = *number;
-            }
-            Atom::Text(text) => {
-                let _text = text.as_str();
-            }
-            Atom::Bytes(bytes) => note_bytes(bytes.as_slice()),
-            Atom::Truth(_) => {}
-            Atom::Wide(number) => {
-                let _number = *number;
-            }
-        }
+        let _seen = self.seen();
     }
 }

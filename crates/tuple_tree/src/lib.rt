@@ -10,7 +10,7 @@
 //!
 //! A `Tuple` is seen as the list of its values, a `Template` as that of its fields. Both keep the limits (32 items, 8
 //! levels, 1,024 bytes) by their types. `push` adds an item at the end, or hands it back with the first limit that it
-//! would pass and changes nothing. `copy_in` gives an equal one under another allocator; `same` holds exactly of equal
+//! would pass and changes nothing; `push_atom` does so of a value from where it lies. `copy_in` gives an equal one under another allocator; `same` holds exactly of equal
 //! ones, under two allocators. `len`, `depth`, `encoded_len`, `into_value` are exact. `has_wide` tells exactly whether a
 //! wide number, or in a template its formal, is at some level. `values` and `fields` see the items one after another,
 //! where they lie, and take no memory.

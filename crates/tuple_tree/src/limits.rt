@@ -1,8 +1,10 @@
 //! The limits of tuples and templates, and why an item is refused.
 
-ghost use Rattle.std.specs.Prelude.{◌≤◌};
-ghost use Rattle.tuple_tree.specs.Extents.{Extends};
+ghost use Rattle.std.specs.Prelude.{◌≡◌, ◌≤◌, OnOk};
+ghost use Rattle.tuple_tree.specs.Extents.{Extends, Lengthens};
+ghost use Rattle.tuple_tree.specs.Puts.{HasRoom};
 
+use std::alloc::Allocator;
 use thiserror::Error;
 
 /// Most items of a list, at each level.
@@ -13,6 +15,9 @@ pub const MAX_DEPTH: u8 = 8;
 
 /// Most bytes of an encoding.
 pub const MAX_LEN: usize = 1024;
+
+// So much room has a list with its first item, so that a short one grows once.
+const FIRST_ROOM: usize = 64;
 
 /// Why an item was not added.
 #[derive(Clone, Copy, Debug, PartialEq, Eq, Error)]
@@ -52,7 +57,8 @@ impl Extent {
     };
 
     /// The extent of a list of `len` items with one more at its end, or the first limit that the longer list passes.
-    pub fn with_item(
+    #[inline]
+    fn with_item(
         self,
         len: usize,
         item_depth: u8,
@@ -78,5 +84,33 @@ impl Extent {
             encoded_len: self.encoded_len + item_len as u16,
             has_wide: self.has_wide || item_wide,
         })
+    }
+
+    /// The same of a list that is kept as bytes, with room made there for those of the item.
+    #[inline]
+    pub fn with_room<A: Allocator>(
+        self,
+        len: usize,
+        item_depth: u8,
+        item_len: usize,
+        item_wide: bool,
+        out: &mut Vec<u8, A>,
+    ) -> Result<Extent, Refusal>
+        requires depth { item_depth ≤ 8 }
+        requires bytes { self.encoded_len ≤ 1024 }
+        ensures within { Lengthens self len item_depth item_len item_wide result }
+        ensures room { OnOk result (HasRoom out.new item_len) }
+        ensures kept { out.new.items ≡ out.old.items }
+    {
+        let extent = self.with_item(len, item_depth, item_len, item_wide)?;
+        let room = if len == 0 {
+            item_len.max(FIRST_ROOM)
+        } else {
+            item_len
+        };
+        match out.reserve(room) {
+            Ok(()) => Ok(extent),
+            Err(_) => Err(Refusal::NoMemory),
+        }
     }
 }

@@ -1,29 +1,46 @@
 //! Spellings of values and fields appended to bytes.
 
 ghost use Rattle.std.specs.Prelude.{◌≡◌, ◌+◌, ◌≤◌, ◌∷◌, [], length};
-ghost use Rattle.tuple_tree.specs.Values.{datum_length};
-ghost use Rattle.tuple_tree.specs.AtomView.{datum_of};
-ghost use Rattle.tuple_tree.specs.Puts.{Puts};
-ghost use Rattle.tuple_tree.specs.Spelling.{datum_spelling, formal_tag};
+ghost use Rattle.tuple_tree.specs.Values.{datum_length, slot_length};
+ghost use Rattle.tuple_tree.specs.Seen.{seen_datum, seen_slot};
+ghost use Rattle.tuple_tree.specs.Puts.{Puts, HasRoom, Fills};
+ghost use Rattle.tuple_tree.specs.Spelling.{datum_spelling, slot_spelling, formal_tag};
 ghost use Rattle.tuple_tree.specs.Spelling as Spelling;
 
-use crate::atoms::{Atom, Kind};
+use crate::atoms::Kind;
+use crate::fields::SlotRef;
+use crate::values::AtomRef;
 use std::alloc::Allocator;
 use terms::NoMemory;
 
-pub fn put_atom<A: Allocator, B: Allocator>(
-    atom: &Atom<A>,
-    out: &mut Vec<u8, B>,
-) -> Result<(), NoMemory>
-    requires { datum_length (datum_of atom.now) ≤ 1024 }
-    ensures { Puts (datum_spelling (datum_of atom.now)) out.old.items out.new.items result }
+/// Puts the spelling of the value.
+// Where its kind is known, one arm is left.
+#[inline(always)]
+pub fn put_atom<A: Allocator>(atom: &AtomRef<'_>, out: &mut Vec<u8, A>)
+    requires room { HasRoom out.old (datum_length (seen_datum atom.now)) }
+    requires short { datum_length (seen_datum atom.now) ≤ 1024 }
+    ensures { Fills (datum_spelling (seen_datum atom.now)) out.old out.new }
 {
     match atom {
-        Atom::Number(number) => put_behind(1, &number.to_be_bytes(), out),
-        Atom::Text(text) => put_string(2, text.as_bytes(), out),
-        Atom::Bytes(bytes) => put_string(3, bytes.as_slice(), out),
-        Atom::Truth(truth) => put_behind(4, &[*truth as u8], out),
-        Atom::Wide(number) => put_behind(6, &wide_bytes(*number), out),
+        AtomRef::Number(number) => put_tagged(1, &number.to_be_bytes(), out),
+        AtomRef::Text(text) => put_string(2, text, out),
+        AtomRef::Bytes(bytes) => put_string(3, bytes, out),
+        AtomRef::Truth(truth) => put_tagged(4, &[*truth as u8], out),
+        AtomRef::Wide(number) => put_tagged(6, &wide_bytes(*number), out),
+    }
+}
+
+/// Puts the spelling of the field.
+#[inline(always)]
+pub fn put_slot<A: Allocator>(slot: &SlotRef<'_>, out: &mut Vec<u8, A>)
+    requires room { HasRoom out.old (slot_length (seen_slot slot.now)) }
+    requires short { slot_length (seen_slot slot.now) ≤ 1024 }
+    ensures { Fills (slot_spelling (seen_slot slot.now)) out.old out.new }
+{
+    match slot {
+        SlotRef::Actual(atom) => put_atom(atom, out),
+        SlotRef::Any => put_tagged(0x10, &[], out),
+        SlotRef::Formal(kind) => put_tagged(kind_tag(*kind), &[], out),
     }
 }
 
@@ -34,12 +51,46 @@ fn wide_bytes(number: i128) -> [u8; 16]
     number.to_be_bytes()
 }
 
-fn put_string<B: Allocator>(tag: u8, string: &[u8], out: &mut Vec<u8, B>) -> Result<(), NoMemory>
-    requires { length string.now ≤ 1021 }
-    ensures { Puts (tag ∷ Spelling.string string.now) out.old.items out.new.items result }
+#[inline]
+fn put_string<A: Allocator>(tag: u8, string: &[u8], out: &mut Vec<u8, A>)
+    requires room { HasRoom out.old (3 + length string.now) }
+    requires short { length string.now ≤ 1021 }
+    ensures { Fills (tag ∷ Spelling.string string.now) out.old out.new }
 {
-    put_behind(tag, &(string.len() as u16).to_be_bytes(), out)?;
-    put_bytes(string, out)
+    put_tagged(tag, &(string.len() as u16).to_be_bytes(), out);
+    put_reserved(string, out);
+}
+
+/// Puts the spelling of a nested list of so many items, from the spellings of these.
+#[inline]
+pub fn put_nested<A: Allocator>(count: u8, items: &[u8], out: &mut Vec<u8, A>)
+    requires { HasRoom out.old (2 + length items.now) }
+    ensures { Fills (5 ∷ count ∷ items.now) out.old out.new }
+{
+    put_tagged(5, &[count], out);
+    put_reserved(items, out);
+}
+
+/// Puts a tag and the bytes after it.
+#[inline]
+pub fn put_tagged<A: Allocator>(tag: u8, bytes: &[u8], out: &mut Vec<u8, A>)
+    requires { HasRoom out.old (1 + length bytes.now) }
+    ensures { Fills (tag ∷ bytes.now) out.old out.new }
+{
+    out.push_reserved(tag);
+    put_reserved(bytes, out);
+}
+
+/// Puts bytes where there is room for them.
+#[inline]
+pub fn put_reserved<A: Allocator>(bytes: &[u8], out: &mut Vec<u8, A>)
+    requires { HasRoom out.old (length bytes.now) }
+    ensures { Fills bytes.now out.old out.new }
+{
+    match out.extend_from_slice(bytes) {
+        Ok(()) => {}
+        Err(_) => unreachable!(),
+    }
 }
 
 pub fn put_behind<B: Allocator>(tag: u8, bytes: &[u8], out: &mut Vec<u8, B>) -> Result<(), NoMemory>

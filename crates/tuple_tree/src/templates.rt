@@ -1,22 +1,24 @@
 //! Templates: lists of fields, kept as the bytes that spell the fields.
 
 ghost use Rattle.std.specs.Prelude.{◌≡◌, ◌+◌, ◌≤◌, ◌++◌, OnOk, OnErr, IfErr, IfOk, IsTrue, ◌↔◌, length};
-ghost use Rattle.tuple_tree.specs.Items.{none, inner, how_many, with_last, item_levels, levels_of, item_length, whole_length, item_has, has_leaf};
+ghost use Rattle.tuple_tree.specs.Items.{none, leaf, inner, how_many, with_last, item_levels, levels_of, item_length, whole_length, item_has, has_leaf};
 ghost use Rattle.tuple_tree.specs.Limits.{IsItem};
 ghost use Rattle.tuple_tree.specs.Pushes.{JudgesTemplate, AddsField};
 ghost use Rattle.tuple_tree.specs.Puts.{Puts};
 ghost use Rattle.tuple_tree.specs.Gives.{Yields};
 ghost use Rattle.tuple_tree.specs.Reading.{slot_at, items_at};
-ghost use Rattle.tuple_tree.specs.Spelling.{slot_spelling, items_spelling, field_spelling, template_spelling};
-ghost use Rattle.tuple_tree.specs.Values.{slot_length, is_wide_slot, IsSlot, IsTemplate};
+ghost use Rattle.tuple_tree.specs.Seen.{seen_datum, seen_slot};
+ghost use Rattle.tuple_tree.specs.Spelling.{slot_spelling, items_spelling, template_spelling};
+ghost use Rattle.tuple_tree.specs.Values.{actual, slot_length, is_wide_slot, IsSlot, IsUtf8IfText, IsTemplate};
 ghost use Rattle.tuple_tree.specs.TemplateView.{field_of};
 
 use crate::atoms::{Atom, Kind, note_bytes};
-use crate::fields::Fields;
+use crate::fields::{Fields, SlotRef};
 use crate::judging::judge_template;
 use crate::limits::{Extent, Refusal, Refused};
-use crate::put::{kind_tag, put_atom, put_byte, put_bytes};
+use crate::put::{put_byte, put_bytes, put_nested, put_slot};
 use crate::reading::read_byte;
+use crate::values::AtomRef;
 use std::alloc::Allocator;
 use std::marker::Model;
 use terms::NoMemory;
@@ -247,67 +249,72 @@ impl<A: Allocator> Template<A> {
         }
     }
 
-    // Adds the spelling of the field. A refusal leaves the template as it was.
+    // Adds a field at the end. A refusal leaves the template as it was.
+    #[inline]
     fn add(&mut self, field: &Field<A>) -> Result<(), Refusal>
         ensures ok { OnOk result (self.new ≡ with_last self.old (field_of field.now)) }
         ensures err { OnErr result (self.new ≡ self.old) }
         ensures refusal { AddsField result self.new (with_last self.old (field_of field.now)) }
     {
-        let depth = field.depth();
-        let has_wide = field.has_wide();
-        let len = self.count as usize;
-        let extent = match self
-            .extent
-            .with_item(len, depth, field.encoded_len(), has_wide)
-        {
-            Ok(extent) => extent,
-            Err(refusal) => return Err(refusal),
-        };
-        match append(field, &mut self.fields) {
-            Ok(()) => {
-                self.count += 1;
-                self.extent = extent;
-                Ok(())
-            }
-            Err(NoMemory) => Err(Refusal::NoMemory),
+        match field {
+            Field::Actual(atom) => self.push_atom(atom.seen()),
+            Field::Any => self.add_slot(SlotRef::Any),
+            Field::Formal(kind) => self.add_slot(SlotRef::Formal(*kind)),
+            Field::Nested(template) => self.add_nested(template),
         }
     }
-}
 
-// Appends the spelling of the field. An `Err` leaves the bytes as they were.
-fn append<A: Allocator, B: Allocator>(
-    field: &Field<A>,
-    out: &mut Vec<u8, B>,
-) -> Result<(), NoMemory>
-    requires { item_length slot_length (field_of field.now) ≤ 1024 }
-    ensures ok { OnOk result (out.new.items ≡ out.old.items ++ field_spelling (field_of field.now)) }
-    ensures err { OnErr result (out.new.items ≡ out.old.items) }
-{
-    let old_len = out.len();
-    match put_field(field, out) {
-        Ok(()) => Ok(()),
-        Err(error) => {
-            out.truncate(old_len);
-            Err(error)
-        }
+    /// Adds an actual field from where it lies, as [`Template::push`] does.
+    // Where the kind of the value is known, most of the judging falls away.
+    #[inline(always)]
+    pub fn push_atom(&mut self, atom: AtomRef<'_>) -> Result<(), Refusal>
+        requires { IsUtf8IfText (seen_datum atom) }
+        ensures ok { OnOk result (self.new ≡ with_last self.old (leaf (actual (seen_datum atom.entry)))) }
+        ensures err { OnErr result (self.new ≡ self.old) }
+        ensures refusal { AddsField result self.new (with_last self.old (leaf (actual (seen_datum atom.entry)))) }
+    {
+        atom.note_valid();
+        self.add_slot(SlotRef::Actual(atom))
     }
-}
 
-fn put_field<A: Allocator, B: Allocator>(
-    field: &Field<A>,
-    out: &mut Vec<u8, B>,
-) -> Result<(), NoMemory>
-    requires { item_length slot_length (field_of field.now) ≤ 1024 }
-    ensures { Puts (field_spelling (field_of field.now)) out.old.items out.new.items result }
-{
-    match field {
-        Field::Actual(atom) => put_atom(atom, out),
-        Field::Any => put_byte(0x10, out),
-        Field::Formal(kind) => put_byte(kind_tag(*kind), out),
-        Field::Nested(template) => {
-            put_byte(5, out)?;
-            put_template(template, out)
-        }
+    #[inline(always)]
+    fn add_slot(&mut self, slot: SlotRef<'_>) -> Result<(), Refusal>
+        requires { IsSlot (seen_slot slot) }
+        ensures ok { OnOk result (self.new ≡ with_last self.old (leaf (seen_slot slot.entry))) }
+        ensures err { OnErr result (self.new ≡ self.old) }
+        ensures refusal { AddsField result self.new (with_last self.old (leaf (seen_slot slot.entry))) }
+    {
+        let len = slot.encoded_len();
+        let extent = self.extent.with_room(
+            self.count as usize,
+            0,
+            len,
+            slot.is_wide(),
+            &mut self.fields,
+        )?;
+        put_slot(&slot, &mut self.fields);
+        self.count += 1;
+        self.extent = extent;
+        Ok(())
+    }
+
+    fn add_nested(&mut self, template: &Template<A>) -> Result<(), Refusal>
+        ensures ok { OnOk result (self.new ≡ with_last self.old (inner template.now)) }
+        ensures err { OnErr result (self.new ≡ self.old) }
+        ensures refusal { AddsField result self.new (with_last self.old (inner template.now)) }
+    {
+        let len = 1 + template.encoded_len();
+        let extent = self.extent.with_room(
+            self.count as usize,
+            template.depth(),
+            len,
+            template.has_wide(),
+            &mut self.fields,
+        )?;
+        put_nested(template.len() as u8, template.bytes(), &mut self.fields);
+        self.count += 1;
+        self.extent = extent;
+        Ok(())
     }
 }
 

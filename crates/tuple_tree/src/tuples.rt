@@ -1,22 +1,23 @@
 //! Tuples: lists of values, kept as the bytes that spell the values.
 
 ghost use Rattle.std.specs.Prelude.{◌≡◌, ◌+◌, ◌≤◌, ◌++◌, OnOk, OnErr, IfErr, IfOk, IsTrue, ◌↔◌, length};
-ghost use Rattle.tuple_tree.specs.Items.{none, inner, how_many, with_last, item_levels, levels_of, item_length, whole_length, item_has, has_leaf};
+ghost use Rattle.tuple_tree.specs.Items.{none, leaf, inner, how_many, with_last, item_levels, levels_of, item_length, whole_length, item_has, has_leaf};
 ghost use Rattle.tuple_tree.specs.Limits.{IsItem};
 ghost use Rattle.tuple_tree.specs.Pushes.{JudgesTuple, AddsValue};
 ghost use Rattle.tuple_tree.specs.Puts.{Puts};
 ghost use Rattle.tuple_tree.specs.Gives.{Yields};
 ghost use Rattle.tuple_tree.specs.Reading.{datum_at, items_at};
-ghost use Rattle.tuple_tree.specs.Spelling.{datum_spelling, items_spelling, value_spelling, tuple_spelling};
-ghost use Rattle.tuple_tree.specs.Values.{datum_length, is_wide, IsDatum, IsTuple};
+ghost use Rattle.tuple_tree.specs.Seen.{seen_datum};
+ghost use Rattle.tuple_tree.specs.Spelling.{datum_spelling, items_spelling, tuple_spelling};
+ghost use Rattle.tuple_tree.specs.Values.{datum_length, is_wide, IsDatum, IsUtf8IfText, IsTuple};
 ghost use Rattle.tuple_tree.specs.TupleView.{value_of};
 
 use crate::atoms::{Atom, note_bytes};
 use crate::judging::judge_tuple;
 use crate::limits::{Extent, Refusal, Refused};
-use crate::put::{put_atom, put_byte, put_bytes};
+use crate::put::{put_atom, put_byte, put_bytes, put_nested};
 use crate::reading::read_byte;
-use crate::values::Values;
+use crate::values::{AtomRef, Values};
 use std::alloc::Allocator;
 use std::marker::Model;
 use terms::NoMemory;
@@ -233,65 +234,60 @@ impl<A: Allocator> Tuple<A> {
         }
     }
 
-    // Adds the spelling of the value. A refusal leaves the tuple as it was.
+    // Adds a value at the end. A refusal leaves the tuple as it was.
+    #[inline]
     fn add(&mut self, value: &Value<A>) -> Result<(), Refusal>
         ensures ok { OnOk result (self.new ≡ with_last self.old (value_of value.now)) }
         ensures err { OnErr result (self.new ≡ self.old) }
         ensures refusal { AddsValue result self.new (with_last self.old (value_of value.now)) }
     {
-        let depth = value.depth();
-        let has_wide = value.has_wide();
-        let len = self.count as usize;
-        let extent = match self
-            .extent
-            .with_item(len, depth, value.encoded_len(), has_wide)
-        {
-            Ok(extent) => extent,
-            Err(refusal) => return Err(refusal),
-        };
-        match append(value, &mut self.values) {
-            Ok(()) => {
-                self.count += 1;
-                self.extent = extent;
-                Ok(())
-            }
-            Err(NoMemory) => Err(Refusal::NoMemory),
+        match value {
+            Value::Atom(atom) => self.push_atom(atom.seen()),
+            Value::Nested(tuple) => self.add_nested(tuple),
         }
     }
-}
 
-// Appends the spelling of the value. An `Err` leaves the bytes as they were.
-fn append<A: Allocator, B: Allocator>(
-    value: &Value<A>,
-    out: &mut Vec<u8, B>,
-) -> Result<(), NoMemory>
-    requires { item_length datum_length (value_of value.now) ≤ 1024 }
-    ensures ok { OnOk result (out.new.items ≡ out.old.items ++ value_spelling (value_of value.now)) }
-    ensures err { OnErr result (out.new.items ≡ out.old.items) }
-{
-    let old_len = out.len();
-    match put_value(value, out) {
-        Ok(()) => Ok(()),
-        Err(error) => {
-            out.truncate(old_len);
-            Err(error)
-        }
+    /// Adds a value from where it lies, as [`Tuple::push`] does.
+    // Where the kind of the value is known, most of the judging falls away.
+    #[inline(always)]
+    pub fn push_atom(&mut self, atom: AtomRef<'_>) -> Result<(), Refusal>
+        requires { IsUtf8IfText (seen_datum atom) }
+        ensures ok { OnOk result (self.new ≡ with_last self.old (leaf (seen_datum atom.entry))) }
+        ensures err { OnErr result (self.new ≡ self.old) }
+        ensures refusal { AddsValue result self.new (with_last self.old (leaf (seen_datum atom.entry))) }
+    {
+        atom.note_valid();
+        let len = atom.encoded_len();
+        let extent = self.extent.with_room(
+            self.count as usize,
+            0,
+            len,
+            atom.is_wide(),
+            &mut self.values,
+        )?;
+        put_atom(&atom, &mut self.values);
+        self.count += 1;
+        self.extent = extent;
+        Ok(())
     }
-}
 
-fn put_value<A: Allocator, B: Allocator>(
-    value: &Value<A>,
-    out: &mut Vec<u8, B>,
-) -> Result<(), NoMemory>
-    requires { item_length datum_length (value_of value.now) ≤ 1024 }
-    ensures { Puts (value_spelling (value_of value.now)) out.old.items out.new.items result }
-{
-    match value {
-        Value::Atom(atom) => put_atom(atom, out),
-        Value::Nested(tuple) => {
-            put_byte(5, out)?;
-            put_tuple(tuple, out)
-        }
+    fn add_nested(&mut self, tuple: &Tuple<A>) -> Result<(), Refusal>
+        ensures ok { OnOk result (self.new ≡ with_last self.old (inner tuple.now)) }
+        ensures err { OnErr result (self.new ≡ self.old) }
+        ensures refusal { AddsValue result self.new (with_last self.old (inner tuple.now)) }
+    {
+        let len = 1 + tuple.encoded_len();
+        let extent = self.extent.with_room(
+            self.count as usize,
+            tuple.depth(),
+            len,
+            tuple.has_wide(),
+            &mut self.values,
+        )?;
+        put_nested(tuple.len() as u8, tuple.bytes(), &mut self.values);
+        self.count += 1;
+        self.extent = extent;
+        Ok(())
     }
 }
 

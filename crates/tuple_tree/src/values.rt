@@ -2,13 +2,13 @@
 
 ghost use Rattle.std.specs.Prelude.{◌≡◌, ◌+◌, IfSome, IfNone};
 ghost use Rattle.tuple_tree.specs.Items.{none, item};
-ghost use Rattle.tuple_tree.specs.Values.{kind_of};
+ghost use Rattle.tuple_tree.specs.Values.{kind_of, datum_length, is_wide, IsDatum, IsUtf8IfText};
 ghost use Rattle.tuple_tree.specs.Gives.{Yields};
 ghost use Rattle.tuple_tree.specs.Reading.{inner_at, item_at};
 ghost use Rattle.tuple_tree.specs.Loose.{loose_at};
 ghost use Rattle.tuple_tree.specs.Seen.{seen_datum, seen_value};
 
-use crate::atoms::Kind;
+use crate::atoms::{Kind, note_bytes};
 use crate::reading::{read_byte, read_flag, read_number, read_string, read_wide};
 use crate::skip::skip_values;
 use std::marker::Model;
@@ -22,6 +22,47 @@ pub enum AtomRef<'b> {
     Bytes(&'b [u8]),
     Truth(bool),
     Wide(i128),
+}
+
+impl<'b> AtomRef<'b> {
+    /// The length of the encoding, in bytes. Constant time.
+    #[inline]
+    pub fn encoded_len(&self) -> usize
+        ensures { result ≡ datum_length (seen_datum self.now) }
+    {
+        match self {
+            AtomRef::Number(_) => 9,
+            AtomRef::Text(text) => 3 + text.len(),
+            AtomRef::Bytes(bytes) => 3 + bytes.len(),
+            AtomRef::Truth(_) => 2,
+            AtomRef::Wide(_) => 17,
+        }
+    }
+
+    /// Whether the value is a wide number.
+    #[inline]
+    pub fn is_wide(&self) -> bool
+        ensures { result ≡ is_wide (seen_datum self.now) }
+    {
+        matches!(self, AtomRef::Wide(_))
+    }
+
+    // Each value that the program sees is one of its kind, but for the characters of a text.
+    pub(crate) fn note_valid(&self)
+        requires { IsUtf8IfText (seen_datum self.now) }
+        ensures { IsDatum (seen_datum self.now) }
+    {
+        match self {
+            AtomRef::Number(number) => {
+                let _number = *number;
+            }
+            AtomRef::Text(_) | AtomRef::Truth(_) => {}
+            AtomRef::Bytes(bytes) => note_bytes(bytes),
+            AtomRef::Wide(number) => {
+                let _number = *number;
+            }
+        }
+    }
 }
 
 /// A value where it lies.
