@@ -4,16 +4,16 @@ use Rattle.std.specs.Int.{w128}
 use Rattle.std.proofs.lemmas.Bool.{eqb-true, ne_eqb, eq-eqb, or_cases, or_left, or_right}
 use Rattle.std.proofs.lemmas.Fmt.{decimal_digit}
 use Rattle.std.specs.Fmt.{decimal, signed_decimal}
-use Rattle.tuple_tree.specs.Values.{Datum, number, text, bytes, truth, wide, Slot, actual, any, formal, IsDatum, IsSlot, AreBytes}
+use Rattle.tuple_tree.specs.Values.{Datum, number, text, bytes, truth, wide, Slot, actual, any, formal, IsDatum, IsUtf8IfText, IsSlot, AreBytes}
 use Rattle.tuple_tree.specs.declared.atoms.Kind.{Kind}
 use Rattle.tuple_tree.specs.declared.atoms.Kind.TheVariants as kinds
 use Rattle.std.proofs.lemmas.Str.{IsUtf8-nil}
 use Rattle.std.specs.Str.{IsUtf8}
 use Rattle.std.specs.List.{flat_map}
 use Rattle.tuple_text.specs.Texts.{datum_text, slot_text, formal_text, escaped, hex_pair}
-use Rattle.tuple_text.specs.Literals.{text_literal, bytes_literal, is_hex}
+use Rattle.tuple_text.specs.Literals.{text_literal, bytes_literal, is_hex, NoHex}
 use Rattle.tuple_text.proofs.LiteralTexts.{IsTextLiteral, BeginsTextLiteral, text_right, text_again}
-use Rattle.tuple_text.proofs.LiteralBytes.{IsByteString, BeginsByteString, bytes_right, bytes_again, NoHex}
+use Rattle.tuple_text.proofs.LiteralBytes.{IsByteString, BeginsByteString, bytes_right, bytes_again}
 use Rattle.tuple_text.specs.Reading.{Read, got, Reading, ◌>>=◌, look, nothing, named, word, MOST, MOST_WIDE, signed, numeral, wide_numeral, quoted, byte_string, truth_or_number, datum, kind_b, kind_t, kind, formal_slot, actual_slot, slot, begins_datum, begins_slot}
 use Rattle.tuple_text.proofs.Right.{Limits, both, RightAs, Never, Found, then_right, look_right, nothing_right}
 use Rattle.tuple_text.proofs.Numbers.{IsSigned, BeginsSigned, most_64, most_128, signed_right, signed_again, signed_head, NoDigit, is_digit, digit_range, digit_is, ends_there}
@@ -100,6 +100,16 @@ datum_right bs =
     (look_right IsDatumText BeginsDatum Never 119 wide_numeral truth_or_number some_datum wide_right
     (look_right IsDatumText BeginsDatum Never 116 (named (codes "true") (truth true)) (look 102 (named (codes "false") (truth false)) numeral) some_datum (truth_right true)
     (look_right IsDatumText BeginsDatum Never 102 (named (codes "false") (truth false)) numeral some_datum (truth_right false) numeral_right)))) bs
+
+utf8_if_text : (x : Datum) → IsDatum x → IsUtf8IfText x
+utf8_if_text (text s) h = h
+utf8_if_text x h = tt
+
+-- A text that was read is UTF-8.
+pub read_utf8_if_text : (bs : List ℕ) (x : Datum) (rest : List ℕ) → datum bs ≡ got x rest → IsUtf8IfText x
+read_utf8_if_text bs x rest e =
+    let f = subst (RightAs IsDatumText BeginsDatum bs) e (datum_right bs) in
+    utf8_if_text x f.is.1
 
 signed_starts : (c : Limits) (b : ℕ) → (b == 45 || is_digit b) ≡ true → BeginsSigned w64 c (b ∷ [])
 signed_starts c b e = elim (or_cases (b == 45) (is_digit b) e) [

@@ -1,11 +1,12 @@
 -- Reading byte string literals.
-use Rattle.std.proofs.Common.{◌≡◌, ℕ, zero, suc, ◌+◌, ◌*◌, ◌/◌, ◌%◌, ◌<◌, ◌==◌, Bool, true, false, cond, List, [], ◌∷◌, ◌++◌, Option, None, Some, refl, ap, sym, subst, ◌∙◌, append_assoc, append-nil, arith}
+use Rattle.std.proofs.Common.{◌≡◌, ℕ, zero, suc, ◌+◌, ◌-◌, ◌*◌, ◌/◌, ◌%◌, ◌<◌, ◌≤◌, ◌==◌, Bool, true, false, cond, List, [], ◌∷◌, ◌++◌, length, take, drop, get_or, Option, None, Some, refl, ap, sym, subst, ◌∙◌, append_assoc, append-nil, arith}
 use Rattle.std.proofs.lemmas.Bool.{eqb-true}
+use Rattle.std.proofs.lemmas.List.{take_all}
 use Rattle.std.specs.List.{flat_map}
 use Rattle.tuple_tree.specs.Values.{bytes, AreBytes}
 use Rattle.tuple_text.specs.Texts.{hex_digit, hex_pair, datum_text}
 use Rattle.tuple_text.specs.Read.{got, stop}
-use Rattle.tuple_text.specs.Literals.{is_hex, hex_value, pairs, bytes_literal}
+use Rattle.tuple_text.specs.Literals.{is_hex, hex_value, AreHex, NoHex, pairs, bytes_literal}
 use Rattle.tuple_text.specs.declared.reader.Stop.TheVariants.{BadByte}
 use Rattle.tuple_text.proofs.Right.{Limits, both, RightAs, right_on}
 use Rattle.tuple_text.proofs.Local.{LocalAs, IsLocal, local_got, local_stop, local_empty, local_test}
@@ -104,13 +105,50 @@ pub bytes_head : (s : List ℕ) → (t : List ℕ) × (datum_text (bytes s) ≡ 
 bytes_head s = (flat_map hex_pair s, refl)
 
 -- Again: the text of a byte string, and something that doesn't go on with a hexadecimal digit.
-abbrev pub NoHex : List ℕ → Type 0
-NoHex [] = Unit {0}
-NoHex (b ∷ bs) = is_hex b ≡ false
-
-pairs_end : (s u : List ℕ) → NoHex u → pairs s None u ≡ got s u
+pub pairs_end : (s u : List ℕ) → NoHex u → pairs s None u ≡ got s u
 pairs_end s [] h = refl
 pairs_end s (b ∷ u) h = ap (λ t. cond t (pairs s (Some (hex_value b)) u) (got s (b ∷ u))) h
+
+-- two digits of a byte string
+pub pair_passed : (s : List ℕ) (a b : ℕ) (u : List ℕ) → is_hex a ≡ true → is_hex b ≡ true → pairs s None (a ∷ b ∷ u) ≡ pairs (s ++ (hex_value a * 16 + hex_value b) ∷ []) None u
+pair_passed s a b u p q = rw (p, q) refl
+
+-- Two digits more are passed. The rest is taken at its whole length.
+pub pairs_more : (digits s left : List ℕ) (n v : ℕ) → 2 ≤ length left → n ≡ length left - 2 → AreHex left → length left % 2 ≡ 0 → ((rest : List ℕ) → pairs [] None (digits ++ rest) ≡ pairs s None (left ++ rest))
+    → v ≡ hex_value (get_or left 0 0) * 16 + hex_value (get_or left 1 0)
+    → AreHex (take n (drop 2 left)) × (length (take n (drop 2 left)) % 2 ≡ 0) × ((rest : List ℕ) → pairs [] None (digits ++ rest) ≡ pairs (s ++ v ∷ []) None (take n (drop 2 left) ++ rest)) × (length (take n (drop 2 left)) ≡ n)
+pairs_more digits s [] n v l m h e p q = absurd (omega arith)
+pairs_more digits s (a ∷ []) n v l m h e p q = absurd (omega arith)
+pairs_more digits s (a ∷ b ∷ left) n v l m h e p q =
+    let k : take n left ≡ left = take_all n left (omega (arith, m)) in
+    let f : length left % 2 ≡ 0 = omega (arith, e) in
+    let w : length left ≡ n = omega (arith, m) in (
+      subst AreHex (sym k) (λ i j. h (suc (suc i)) (omega arith)),
+      ap (λ xs. length xs % 2) k ∙ f,
+      λ rest. p rest ∙ pair_passed s a b (left ++ rest) (h 0 (omega arith)) (h 1 (omega arith)) ∙ ap (λ x. pairs (s ++ x ∷ []) None (left ++ rest)) (sym q) ∙ ap (λ xs. pairs (s ++ v ∷ []) None (xs ++ rest)) (sym k),
+      ap length k ∙ w,
+    )
+
+-- a digit too many
+pub pairs_odd : (digits s rest : List ℕ) → AreHex digits → length digits % 2 ≡ 1 → NoHex rest → pairs s None (digits ++ rest) ≡ stop BadByte rest
+pairs_odd [] s rest h o e = absurd (omega arith)
+pairs_odd (a ∷ []) s [] h o e = rw (h 0 (omega arith)) refl
+pairs_odd (a ∷ []) s (b ∷ rest) h o e = rw (h 0 (omega arith), e) refl
+pairs_odd (a ∷ b ∷ digits) s rest h o e =
+    pair_passed s a b (digits ++ rest) (h 0 (omega arith)) (h 1 (omega arith))
+    ∙ pairs_odd digits (s ++ (hex_value a * 16 + hex_value b) ∷ []) rest (λ k l. h (suc (suc k)) (omega arith)) (omega arith) e
+
+pub front_hex : (bs : List ℕ) (n : ℕ) → n ≤ length bs → ((k : ℕ) → k < n → is_hex (get_or bs k 0) ≡ true) → AreHex (take n bs)
+front_hex bs zero h p k l = absurd (omega arith)
+front_hex [] (suc n) h p k l = absurd (omega arith)
+front_hex (b ∷ bs) (suc n) h p zero l = p 0 (omega arith)
+front_hex (b ∷ bs) (suc n) h p (suc k) l = front_hex bs n (omega arith) (λ j q. p (suc j) (omega arith)) k (omega arith)
+
+pub rest_no_hex : (bs : List ℕ) (n : ℕ) → n ≤ length bs → (n < length bs → is_hex (get_or bs n 0) ≡ false) → NoHex (drop n bs)
+rest_no_hex [] zero h p = tt
+rest_no_hex (b ∷ bs) zero h p = p (omega arith)
+rest_no_hex [] (suc n) h p = absurd (omega arith)
+rest_no_hex (b ∷ bs) (suc n) h p = rest_no_hex bs n (omega arith) (λ l. p (omega arith))
 
 first_again : (s : List ℕ) (d : ℕ) (u : List ℕ) → d < 16 → pairs s None (hex_digit d ∷ u) ≡ pairs s (Some d) u
 first_again s d u p =

@@ -444,10 +444,3 @@ pub text_local : IsLocal text_literal
 unfolding text_literal
 text_local [] = local_empty text_literal refl
 text_local (b ∷ bs) = local_test (b == 34) text_literal (text_from Character []) (λ u. stop BadByte u) b (λ u. refl) bs (text_from_local bs Character []) (local_stop BadByte)
-
--- The bytes read after the first quote are UTF-8.
-pub read_utf8 : (bs s rest : List ℕ) → text_from Character [] bs ≡ got s rest → IsUtf8 s
-read_utf8 bs s rest e =
-    let f = subst (RightAs (IsFrom Character []) (BeginsFrom Character) bs) e (text_from_right bs Character []) in
-    let h = whole_text f.is.0 f.passed f.is.2 in
-    subst IsUtf8 (sym f.is.1) h.1

@@ -1,5 +1,5 @@
 -- Readers of the literals of texts and byte strings at the front of bytes.
-use Rattle.std.specs.Prelude.{ℕ, ◌+◌, ◌-◌, ◌*◌, ◌==◌, nat_le, nat_lt, ◌≡◌, Bool, not, ◌&&◌, ◌||◌, if◌then◌else◌, List, [], ◌∷◌, ◌++◌, Option, None, Some, MatchOption}
+use Rattle.std.specs.Prelude.{ℕ, ◌+◌, ◌-◌, ◌*◌, ◌<◌, ◌==◌, nat_le, nat_lt, ◌≡◌, Bool, true, false, not, ◌&&◌, ◌||◌, if◌then◌else◌, List, [], ◌∷◌, ◌++◌, length, slice_index, Option, None, Some}
 use Rattle.tuple_text.specs.Read.{got, stop, Reading}
 use Rattle.tuple_text.specs.declared.reader.Stop.TheVariants.{BadByte}
 use Rattle.tuple_text.specs.declared.literals.Expected.{Expected}
@@ -82,17 +82,14 @@ unfoldable pub text_literal : Reading (List ℕ)
 text_literal [] = stop BadByte []
 text_literal (b ∷ bs) = if b == 34 then text_rest bs else stop BadByte (b ∷ bs)
 
-abbrev pub hex_of : ℕ → Option ℕ
-hex_of b = if is_hex b then Some (hex_value b) else None
+-- Each is a hexadecimal digit.
+abbrev pub AreHex : List ℕ → Type 0
+AreHex bs = (k : ℕ) → k < length bs → is_hex (slice_index bs k) ≡ true
 
--- the digit at the front
-abbrev pub hex_front : List ℕ → Option (ℕ × List ℕ)
-hex_front [] = None
-hex_front (b ∷ bs) = if is_hex b then Some (hex_value b, bs) else None
-
--- A digit is passed and its value given, or there is none.
-abbrev pub PassesDigit : Option ℕ → List ℕ → List ℕ → Type 0
-PassesDigit given old new = MatchOption given (hex_front old ≡ None) (λ h. hex_front old ≡ Some (h, new))
+-- No hexadecimal digit stands at the front.
+abbrev pub NoHex : List ℕ → Type 0
+NoHex [] = Unit {0}
+NoHex (b ∷ bs) = is_hex b ≡ false
 
 -- the rest of a byte string; s are the bytes read before, and high perhaps the first digit of a pair
 abbrev pub pairs : List ℕ → Option ℕ → Reading (List ℕ)
@@ -102,6 +99,10 @@ pairs s (Some high) [] = stop BadByte []
 pairs s (Some high) (b ∷ bs) =
     if is_hex b then pairs (s ++ (high * 16 + hex_value b) ∷ []) None bs
     else stop BadByte (b ∷ bs)
+
+-- The digits are passed as the front of a byte string, and spell these bytes.
+abbrev pub PassesPairs : List ℕ → List ℕ → Type 0
+PassesPairs s digits = (rest : List ℕ) → pairs [] None (digits ++ rest) ≡ pairs s None rest
 
 unfoldable pub bytes_literal : Reading (List ℕ)
 bytes_literal [] = stop BadByte []

@@ -1,17 +1,50 @@
 //! Lists that grow as they are read.
 
-ghost use Rattle.std.specs.Prelude.{Some};
+ghost use Rattle.std.specs.Prelude.{◌≡◌, Some, None, OnOk};
+ghost use Rattle.tuple_tree.specs.Items.{leaf};
+ghost use Rattle.tuple_tree.specs.Values.{actual, IsUtf8IfText};
+ghost use Rattle.tuple_tree.specs.Seen.{seen_datum};
 ghost use Rattle.tuple_tree.specs.TupleView.{value_of};
 ghost use Rattle.tuple_tree.specs.TemplateView.{field_of};
 ghost use Rattle.tuple_text.specs.Parts.{Becomes, tuple_with, template_with};
 
 use crate::reader::Stop;
 use std::alloc::Allocator;
-use tuple_tree::{Field, Refusal, Template, Tuple, Value};
+use tuple_tree::{AtomRef, Field, Refusal, Template, Tuple, Value};
 
-/// Adds a value to a tuple, unless the tuple is too long. One that gets too long isn't kept, but its bytes are still
-/// judged. The reader keeps the other limits itself.
-// Each caller knows the kind of its value, so most of the judging falls away there.
+// A list that gets too long isn't kept, but its bytes are still judged. The reader keeps the other limits itself.
+fn refuse<L: Drop>(list: &mut Option<L>, refusal: Refusal) -> Result<(), Stop>
+    ensures forgotten { Becomes result None list.new }
+    ensures too_long { OnOk result (refusal ≡ Refusal.TooLong) }
+{
+    match refusal {
+        Refusal::TooLong => {
+            *list = None;
+            Ok(())
+        }
+        Refusal::TooManyFields | Refusal::TooDeep | Refusal::NoMemory => Err(Stop::NoMemory),
+    }
+}
+
+/// Adds a value that is no tuple, unless the tuple is too long.
+#[inline(always)]
+pub(crate) fn add_atom<A: Allocator>(
+    tuple: &mut Option<Tuple<A>>,
+    atom: AtomRef<'_>,
+) -> Result<(), Stop>
+    requires { IsUtf8IfText (seen_datum atom) }
+    ensures { Becomes result (tuple_with tuple.old (Some (leaf (seen_datum atom.entry)))) tuple.new }
+{
+    let Some(kept) = tuple else {
+        return Ok(());
+    };
+    match kept.push_atom(atom) {
+        Ok(()) => Ok(()),
+        Err(refusal) => refuse(tuple, refusal),
+    }
+}
+
+/// Adds a nested tuple, unless the tuple is too long.
 #[inline(always)]
 pub(crate) fn add_value<A: Allocator>(
     tuple: &mut Option<Tuple<A>>,
@@ -24,17 +57,29 @@ pub(crate) fn add_value<A: Allocator>(
     };
     match kept.push(value) {
         Ok(()) => Ok(()),
-        Err(refused) => match refused.refusal {
-            Refusal::TooLong => {
-                *tuple = None;
-                Ok(())
-            }
-            Refusal::TooManyFields | Refusal::TooDeep | Refusal::NoMemory => Err(Stop::NoMemory),
-        },
+        Err(refused) => refuse(tuple, refused.refusal),
     }
 }
 
-/// The same of a template.
+/// Adds an actual, unless the template is too long.
+#[inline(always)]
+pub(crate) fn add_actual<A: Allocator>(
+    template: &mut Option<Template<A>>,
+    atom: AtomRef<'_>,
+) -> Result<(), Stop>
+    requires { IsUtf8IfText (seen_datum atom) }
+    ensures { Becomes result (template_with template.old (Some (leaf (actual (seen_datum atom.entry))))) template.new }
+{
+    let Some(kept) = template else {
+        return Ok(());
+    };
+    match kept.push_atom(atom) {
+        Ok(()) => Ok(()),
+        Err(refusal) => refuse(template, refusal),
+    }
+}
+
+/// Adds another field, unless the template is too long.
 #[inline(always)]
 pub(crate) fn add_field<A: Allocator>(
     template: &mut Option<Template<A>>,
@@ -47,12 +92,6 @@ pub(crate) fn add_field<A: Allocator>(
     };
     match kept.push(field) {
         Ok(()) => Ok(()),
-        Err(refused) => match refused.refusal {
-            Refusal::TooLong => {
-                *template = None;
-                Ok(())
-            }
-            Refusal::TooManyFields | Refusal::TooDeep | Refusal::NoMemory => Err(Stop::NoMemory),
-        },
+        Err(refused) => refuse(template, refused.refusal),
     }
 }

@@ -1,13 +1,14 @@
 //! The reader of text literals and byte string literals.
 
-ghost use Rattle.std.specs.Prelude.{◌≡◌, ◌+◌, ◌++◌, ◌∷◌, ◌<◌, ◌≤◌, ℕ, [], None, Some, true, length, slice_index, IfOk, IfErr, IfSome, IfNone, OnOk, IsTrue, string_bytes};
-ghost use Rattle.std.specs.Str.{IsUtf8};
-ghost use Rattle.tuple_text.specs.Literals.{is_hex, hex_value, hex_of, led, step, is_plain, text_rest, PassesPlain, text_literal, PassesDigit, pairs, bytes_literal};
-ghost use Rattle.tuple_text.specs.Parts.{Reads};
+ghost use Rattle.std.specs.Prelude.{◌≡◌, ◌+◌, ◌++◌, ◌∷◌, ◌<◌, ◌≤◌, ◌%◌, ℕ, [], None, true, false, length, slice_index, vec_len, vec_capacity, IfOk, IfErr, OnOk, IsTrue};
+ghost use Rattle.tuple_tree.specs.Seen.{seen_datum};
+ghost use Rattle.tuple_text.specs.Literals.{is_hex, hex_value, led, step, is_plain, text_from, PassesPlain, AreHex, NoHex, PassesPairs, pairs};
+ghost use Rattle.tuple_text.specs.Reading.{quoted, byte_string};
+ghost use Rattle.tuple_text.specs.Parts.{Reads, datum_read, text_behind};
 
 use crate::reader::{Reader, Stop};
 use std::alloc::Allocator;
-use std::string::String;
+use tuple_tree::AtomRef;
 
 // So many bytes of a text are tested together.
 const GROUP: usize = 16;
@@ -43,6 +44,29 @@ pub(crate) enum Step {
     Passes(Expected),
     /// It is passed, this byte is added to the text, and this is expected next.
     Adds(u8, Expected),
+}
+
+/// A value that is no tuple, as it was read.
+#[derive(Drop)]
+pub(crate) enum Literal<'a, A: Allocator> {
+    /// A value that takes no memory. The bytes of a text lie in the line.
+    Lent(AtomRef<'a>),
+    /// The bytes of a text that has an escape, or a character of several bytes.
+    Text(Vec<u8, A>),
+    Bytes(Vec<u8, A>),
+}
+
+impl<'a, A: Allocator> Literal<'a, A> {
+    /// The value.
+    pub(crate) fn atom(&self) -> AtomRef<'_>
+        ensures { seen_datum result ≡ datum_read self.now }
+    {
+        match self {
+            Literal::Lent(atom) => *atom,
+            Literal::Text(bytes) => AtomRef::Text(bytes.as_slice()),
+            Literal::Bytes(bytes) => AtomRef::Bytes(bytes.as_slice()),
+        }
+    }
 }
 
 impl Expected {
@@ -106,18 +130,6 @@ fn hex_value(digit: u8) -> u8
         digit - b'0'
     } else {
         digit - b'a' + 10
-    }
-}
-
-// The value of a byte, if it is a lower case hexadecimal digit.
-fn hex_of(byte: u8) -> Option<u8>
-    ensures value { result ≡ hex_of byte }
-    ensures bound { IfSome result (λ h. h < 16) }
-{
-    match byte {
-        b'0'..=b'9' => Some(byte - b'0'),
-        b'a'..=b'f' => Some(byte - b'a' + 10),
-        _ => None,
     }
 }
 
@@ -210,24 +222,64 @@ fn copy_of<A: Allocator + Copy>(alloc: A, bytes: &[u8]) -> Result<Vec<u8, A>, St
     }
 }
 
+// So many bytes at the front are hexadecimal digits, and no more.
+fn hex_len(bytes: &[u8]) -> usize
+    ensures within { result ≤ length bytes.now }
+    ensures hex { (k : ℕ) → k < result → is_hex (slice_index bytes.now k) ≡ true }
+    ensures ends { result < length bytes.now → is_hex (slice_index bytes.now result) ≡ false }
+{
+    match bytes
+        .iter()
+        .position(|byte| !matches!(*byte, b'0'..=b'9' | b'a'..=b'f'))
+    {
+        Some(place) => place,
+        None => bytes.len(),
+    }
+}
+
+// Empty, with room for so many bytes.
+fn room_for<A: Allocator>(alloc: A, len: usize) -> Result<Vec<u8, A>, Stop>
+    ensures ok { IfOk result (λ v. v.items ≡ []) }
+    ensures room { IfOk result (λ v. vec_len v + len ≤ vec_capacity v) }
+    ensures err { IfErr result (λ s. s ≡ Stop.NoMemory) }
+{
+    match Vec::with_capacity(alloc, len) {
+        Ok(bytes) => Ok(bytes),
+        Err(_full) => Err(Stop::NoMemory),
+    }
+}
+
+// The bytes that the digits spell.
+fn bytes_of<A: Allocator>(alloc: A, digits: &[u8]) -> Result<Vec<u8, A>, Stop>
+    requires hex { AreHex digits.now }
+    requires even { length digits.now % 2 ≡ 0 }
+    ensures ok { IfOk result (λ v. PassesPairs v.items digits.now) }
+    ensures err { IfErr result (λ s. s ≡ Stop.NoMemory) }
+{
+    let mut bytes = room_for(alloc, digits.len() / 2)?;
+    let mut left = digits;
+    while let [high, low, rest @ ..] = left {
+        bytes.push_reserved(hex_value(*high) * 16 + hex_value(*low));
+        left = rest;
+    }
+    Ok(bytes)
+}
+
 impl<'a> Reader<'a> {
     // Passes the bytes at the front that stand for themselves, all at once, and gives them.
-    fn plain_bytes<A: Allocator + Copy>(&mut self, alloc: A) -> Result<Vec<u8, A>, Stop>
-        ensures ok { IfOk result (λ v. PassesPlain v.items self.old.rest.now self.new.rest.now) }
-        ensures err { IfErr result (λ s. s ≡ Stop.NoMemory) }
+    fn plain_bytes(&mut self) -> &'a [u8]
+        ensures { PassesPlain result.now self.old.rest.now self.new.rest.now }
     {
         let (front, rest) = self.rest.split_at(plain_len(self.rest));
-        let bytes = copy_of(alloc, front)?;
         self.rest = rest;
-        Ok(bytes)
+        front
     }
 
-    // The rest of a text after its first quote.
-    fn text_bytes<A: Allocator + Copy>(&mut self, alloc: A) -> Result<Vec<u8, A>, Stop>
-        ensures gives { Reads (λ v. v.items) result text_rest self.old self.new }
-        ensures utf8 { IfOk result (λ v. IsUtf8 v.items) }
+    // The rest of a text, after the bytes that were read.
+    fn text_bytes<A: Allocator>(&mut self, read: Vec<u8, A>) -> Result<Vec<u8, A>, Stop>
+        ensures { Reads (λ v. v.items) result (text_from Expected.Character read.items) self.old self.new }
     {
-        let mut bytes = self.plain_bytes(alloc)?;
+        let mut bytes = read;
         let mut expected = Expected::Character;
         while let [byte, rest @ ..] = self.rest {
             match expected.step(*byte) {
@@ -247,64 +299,83 @@ impl<'a> Reader<'a> {
         Err(Stop::BadByte)
     }
 
+    // The rest of a text, after the bytes that stand for themselves: these are copied, since something else follows.
+    // Such texts are rare, so the common way is kept free of it.
+    #[inline(never)]
+    fn other_text<A: Allocator + Copy>(
+        &mut self,
+        alloc: A,
+        plain: &[u8],
+    ) -> Result<Literal<'a, A>, Stop>
+        ensures { Reads datum_read result (text_behind plain.now) self.old self.new }
+    {
+        let read = copy_of(alloc, plain)?;
+        let bytes = self.text_bytes(read)?;
+        Ok(Literal::Text(bytes))
+    }
+
+    // The rest of a text after its first quote.
+    fn text_value<A: Allocator + Copy>(&mut self, alloc: A) -> Result<Literal<'a, A>, Stop>
+        ensures { Reads datum_read result (text_behind []) self.old self.new }
+    {
+        let plain = self.plain_bytes();
+        if let [b'"', rest @ ..] = self.rest {
+            self.rest = rest;
+            return Ok(Literal::Lent(AtomRef::Text(plain)));
+        }
+        self.other_text(alloc, plain)
+    }
+
     /// Reads a text literal.
-    #[tactic(auto, unfolding(crate::specs::Literals::text_literal))]
-    pub(crate) fn text_literal<A: Allocator + Copy>(&mut self, alloc: A) -> Result<String<A>, Stop>
-        ensures { Reads (λ s. string_bytes s) result text_literal self.old self.new }
+    #[tactic(auto, unfolding(crate::specs::Reading::quoted, crate::specs::Literals::text_literal))]
+    pub(crate) fn text_literal<A: Allocator + Copy>(
+        &mut self,
+        alloc: A,
+    ) -> Result<Literal<'a, A>, Stop>
+        ensures { Reads datum_read result quoted self.old self.new }
     {
         match self.rest {
             [b'"', rest @ ..] => {
                 self.rest = rest;
-                let bytes = self.text_bytes(alloc)?;
-                // That these bytes are UTF-8 is proved, so no one looks at them again.
-                Ok(unsafe { String::from_utf8_unchecked(bytes) })
+                self.text_value(alloc)
             }
             _ => Err(Stop::BadByte),
         }
     }
 
-    // Passes a hexadecimal digit, and gives its value.
-    fn hex_digit(&mut self) -> Option<u8>
-        ensures value { PassesDigit result self.old.rest.now self.new.rest.now }
-        ensures left { IfNone result (self.new.rest.now ≡ self.old.rest.now) }
-        ensures bound { IfSome result (λ h. h < 16) }
+    // Passes the hexadecimal digits at the front, and gives them.
+    fn hex_digits(&mut self) -> &'a [u8]
+        ensures passed { self.old.rest.now ≡ result.now ++ self.new.rest.now }
+        ensures hex { AreHex result.now }
+        ensures ends { NoHex self.new.rest.now }
     {
-        match self.rest {
-            [] => None,
-            [first, rest @ ..] => {
-                let digit = hex_of(*first)?;
-                self.rest = rest;
-                Some(digit)
-            }
-        }
+        let (digits, rest) = self.rest.split_at(hex_len(self.rest));
+        self.rest = rest;
+        digits
     }
 
     // The rest of a byte string after its first letter.
-    fn pairs<A: Allocator + Copy>(&mut self, alloc: A) -> Result<Vec<u8, A>, Stop>
+    #[inline(never)]
+    fn pairs<A: Allocator>(&mut self, alloc: A) -> Result<Vec<u8, A>, Stop>
         ensures { Reads (λ v. v.items) result (pairs [] None) self.old self.new }
     {
-        let mut bytes = Vec::new(alloc);
-        while let Some(high) = self.hex_digit() {
-            let Some(low) = self.hex_digit() else {
-                return Err(Stop::BadByte);
-            };
-            push_byte(&mut bytes, high * 16 + low)?;
+        let digits = self.hex_digits();
+        if digits.len() % 2 == 1 {
+            return Err(Stop::BadByte);
         }
-        Ok(bytes)
+        bytes_of(alloc, digits)
     }
 
     /// Reads a byte string literal.
-    #[tactic(auto, unfolding(crate::specs::Literals::bytes_literal))]
-    pub(crate) fn bytes_literal<A: Allocator + Copy>(
-        &mut self,
-        alloc: A,
-    ) -> Result<Vec<u8, A>, Stop>
-        ensures { Reads (λ v. v.items) result bytes_literal self.old self.new }
+    #[tactic(auto, unfolding(crate::specs::Reading::byte_string, crate::specs::Literals::bytes_literal))]
+    pub(crate) fn bytes_literal<A: Allocator>(&mut self, alloc: A) -> Result<Literal<'a, A>, Stop>
+        ensures { Reads datum_read result byte_string self.old self.new }
     {
         match self.rest {
             [b'x', rest @ ..] => {
                 self.rest = rest;
-                self.pairs(alloc)
+                let bytes = self.pairs(alloc)?;
+                Ok(Literal::Bytes(bytes))
             }
             _ => Err(Stop::BadByte),
         }

@@ -1,29 +1,27 @@
 //! The reader of lines, a method for each part of the grammar.
 
-ghost use Rattle.std.specs.Prelude.{◌≡◌, ◌+◌, ◌-◌, ◌/◌, ◌≤◌, ◌<◌, ◌^◌, codes, true, length, pos, negsuc, ◌≤ℤ◌, IfOk, IfErr, OnOk, IsTrue, ◌↔◌, Option, option_map};
+ghost use Rattle.std.specs.Prelude.{◌≡◌, ◌+◌, ◌-◌, ◌≤◌, ◌<◌, ◌^◌, codes, true, length, pos, negsuc, ◌≤ℤ◌, IfOk, IfErr, OnOk, IsTrue, ◌↔◌, Option, option_map};
 ghost use Rattle.tuple_tree.specs.Values.{truth as truth_datum};
-ghost use Rattle.tuple_tree.specs.AtomView.{datum_of};
-ghost use Rattle.tuple_tree.specs.TupleView.{value_of};
-ghost use Rattle.tuple_tree.specs.TemplateView.{field_of};
 ghost use Rattle.tuple_codec.specs.OperationView.{operation_of};
 ghost use Rattle.tuple_text.specs.Texts.{AreBlanks};
-ghost use Rattle.tuple_text.specs.Reading.{fault_at, blanks, word, gap, finish, digits, positive, signed, numeral, wide_numeral, datum, kind, named, behind_b, behind_t, slot_item, turn, follows, got, opens, tuple, template, argument, ending, last, operation, line, out_line, cas_line, upgrade_line, one_line, all_line, verb_line, lone_template};
-ghost use Rattle.tuple_text.specs.Parts.{HasNoValueRoom, HasNoFieldRoom, adding_atom, adding_slot, adding_tuple, adding_template, adding_value, adding_field, value_follows, field_follows, values_at, fields_at, close_tuple, close_template, Reads};
+ghost use Rattle.tuple_text.specs.Reading.{fault_at, blanks, word, gap, finish, digits, positive, signed, numeral, wide_numeral, datum, kind, named, behind_b, behind_t, slot_item, turn, follows, got, stop, opens, tuple, template, argument, ending, last, operation, line, out_line, cas_line, upgrade_line, one_line, all_line, verb_line, lone_template};
+ghost use Rattle.tuple_text.specs.Parts.{HasNoValueRoom, HasNoFieldRoom, datum_read, adding_atom, adding_slot, adding_tuple, adding_template, adding_value, adding_field, value_follows, field_follows, values_at, fields_at, close_tuple, close_template, Reads};
 
 use crate::faults::LineFault;
-use crate::growing::{add_field, add_value};
+use crate::growing::{add_actual, add_atom, add_field, add_value};
+use crate::literals::Literal;
 use crate::verbs::Verb;
 use std::alloc::Allocator;
 use tuple_codec::{Max, Op};
-use tuple_tree::{Atom, Field, Kind, MAX_FIELDS, Template, Tuple, Value};
+use tuple_tree::{AtomRef, Field, Kind, MAX_FIELDS, Template, Tuple};
 
 // The greatest number, and the greatest wide one.
 const MOST: u128 = 9223372036854775807;
 
 const MOST_WIDE: u128 = 170141183460469231731687303715884105727;
 
-// Ten times less than 2 to the power of 64.
-const SHORT: u128 = 1844674407370955161;
+// Any digit may follow a number below this one within 64 bits.
+const SHORT: u64 = 1844674407370955161;
 
 // How many levels may lie below the outermost list.
 const BELOW: usize = 7;
@@ -130,6 +128,31 @@ impl<'a> Reader<'a> {
         }
     }
 
+    // Passes digits as long as the number surely fits 64 bits, since sums of 128 take longer.
+    fn short_digits(&mut self, limit: u128, first: u64) -> Result<u64, Stop>
+        requires low { 9 ≤ limit }
+        requires first { first ≤ limit }
+        requires positive { 1 ≤ first }
+        ensures ok { IfOk result (λ n. digits limit n self.new.rest.now ≡ digits limit first self.old.rest.now) }
+        ensures err { IfErr result (λ s. digits limit first self.old.rest.now ≡ stop s self.new.rest.now) }
+        ensures low { IfOk result (λ n. 1 ≤ n) }
+        ensures high { IfOk result (λ n. n ≤ limit) }
+    {
+        let mut number = first;
+        while let [byte @ b'0'..=b'9', rest @ ..] = self.rest {
+            if number >= SHORT {
+                return Ok(number);
+            }
+            let longer = number * 10 + u64::from(*byte - b'0');
+            if u128::from(longer) > limit {
+                return Err(Stop::BadByte);
+            }
+            number = longer;
+            self.rest = rest;
+        }
+        Ok(number)
+    }
+
     // The digits after `first`, the number that the digits before them spell.
     fn digits(&mut self, limit: u128, first: u128) -> Result<u128, Stop>
         requires low { 9 ≤ limit }
@@ -143,7 +166,7 @@ impl<'a> Reader<'a> {
         let mut number = first;
         while let [byte @ b'0'..=b'9', rest @ ..] = self.rest {
             let digit = u128::from(*byte - b'0');
-            if is_beyond(number, digit, limit) {
+            if number > (limit - digit) / 10 {
                 return Err(Stop::BadByte);
             }
             number = number * 10 + digit;
@@ -163,7 +186,8 @@ impl<'a> Reader<'a> {
         match self.rest {
             [byte @ b'1'..=b'9', rest @ ..] => {
                 self.rest = rest;
-                self.digits(limit, u128::from(*byte - b'0'))
+                let number = self.short_digits(limit, u64::from(*byte - b'0'))?;
+                self.digits(limit, u128::from(number))
             }
             _ => Err(Stop::BadByte),
         }
@@ -196,46 +220,40 @@ impl<'a> Reader<'a> {
     }
 
     #[tactic(auto, unfolding(crate::specs::Reading::numeral))]
-    fn numeral<A: Allocator>(&mut self) -> Result<Atom<A>, Stop>
-        ensures { Reads datum_of result numeral self.old self.new }
+    fn numeral<A: Allocator>(&mut self) -> Result<Literal<'a, A>, Stop>
+        ensures { Reads datum_read result numeral self.old self.new }
     {
         let number = self.signed(MOST)?;
-        Ok(Atom::Number(number as i64))
+        Ok(Literal::Lent(AtomRef::Number(number as i64)))
     }
 
     // A wide number, after its `w`.
     #[tactic(auto, unfolding(crate::specs::Reading::wide_numeral))]
-    fn wide_numeral<A: Allocator>(&mut self) -> Result<Atom<A>, Stop>
-        ensures { Reads datum_of result wide_numeral self.old self.new }
+    fn wide_numeral<A: Allocator>(&mut self) -> Result<Literal<'a, A>, Stop>
+        ensures { Reads datum_read result wide_numeral self.old self.new }
     {
         self.word(b"w")?;
         let number = self.signed(MOST_WIDE)?;
-        Ok(Atom::Wide(number))
+        Ok(Literal::Lent(AtomRef::Wide(number)))
     }
 
     // A word that stands for a truth value.
-    fn truth<A: Allocator>(&mut self, letters: &[u8], truth: bool) -> Result<Atom<A>, Stop>
-        ensures { Reads datum_of result (named letters.now (truth_datum truth)) self.old self.new }
+    fn truth<A: Allocator>(&mut self, letters: &[u8], truth: bool) -> Result<Literal<'a, A>, Stop>
+        ensures { Reads datum_read result (named letters.now (truth_datum truth)) self.old self.new }
     {
         self.word(letters)?;
-        Ok(Atom::Truth(truth))
+        Ok(Literal::Lent(AtomRef::Truth(truth)))
     }
 
     // A value that is no tuple.
-    #[tactic(auto, unfolding(crate::specs::Reading::datum, crate::specs::Reading::quoted, crate::specs::Reading::byte_string))]
-    fn atom<A: Allocator + Copy>(&mut self, alloc: A) -> Result<Atom<A>, Stop>
-        ensures { Reads datum_of result datum self.old self.new }
+    #[tactic(auto, unfolding(crate::specs::Reading::datum))]
+    fn literal<A: Allocator + Copy>(&mut self, alloc: A) -> Result<Literal<'a, A>, Stop>
+        ensures { Reads datum_read result datum self.old self.new }
     {
         match self.rest {
             [] => Err(Stop::BadByte),
-            [b'"', ..] => {
-                let text = self.text_literal(alloc)?;
-                Ok(Atom::Text(text))
-            }
-            [b'x', ..] => {
-                let bytes = self.bytes_literal(alloc)?;
-                Ok(Atom::Bytes(bytes))
-            }
+            [b'"', ..] => self.text_literal(alloc),
+            [b'x', ..] => self.bytes_literal(alloc),
             [b'w', ..] => self.wide_numeral(),
             [b't', ..] => self.truth(b"true", true),
             [b'f', ..] => self.truth(b"false", false),
@@ -359,8 +377,8 @@ impl<'a> Reader<'a> {
     ) -> Result<(), Stop>
         ensures { Reads (λ _. tuple.new) result (adding_atom tuple.old) self.old self.new }
     {
-        let atom = self.atom(alloc)?;
-        add_value(tuple, Value::Atom(atom))
+        let literal = self.literal(alloc)?;
+        add_atom(tuple, literal.atom())
     }
 
     // Passes the closing parenthesis of a nested tuple, and adds it.
@@ -480,8 +498,8 @@ impl<'a> Reader<'a> {
                 add_field(template, Field::Formal(kind))
             }
             [_, ..] => {
-                let atom = self.atom(alloc)?;
-                add_field(template, Field::Actual(atom))
+                let literal = self.literal(alloc)?;
+                add_actual(template, literal.atom())
             }
         }
     }
@@ -747,19 +765,5 @@ impl<'a> Reader<'a> {
     {
         self.blanks(true);
         self.operation(alloc)
-    }
-}
-
-// Whether the number with this digit behind it is more than the limit. A product that surely fits is compared as it is,
-// since a division of 128 bits takes long.
-fn is_beyond(number: u128, digit: u128, limit: u128) -> bool
-    requires digit { digit ≤ 9 }
-    requires low { 9 ≤ limit }
-    ensures { IsTrue result ↔ ((limit - digit) / 10 < number) }
-{
-    if number < SHORT {
-        number * 10 + digit > limit
-    } else {
-        number > (limit - digit) / 10
     }
 }
