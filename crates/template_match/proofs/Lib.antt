@@ -3,3 +3,4 @@ mod Stripping
 mod Walking
 mod TwoWalking
 mod BothWalks
+mod Fronts

@@ -18,6 +18,7 @@ ghost use Rattle.tuple_tree.specs.Values.{TupleTree, TemplateTree};
 ghost use Rattle.template_match.specs.Matches.{Matches};
 ghost use Rattle.template_match.specs.Tests.{is_match};
 
+use crate::strip::strip_front;
 use crate::walks::match_fields;
 use std::alloc::Allocator;
 use tuple_tree::{Template, Tuple};
@@ -36,7 +37,15 @@ fn walks_match<A: Allocator, B: Allocator>(template: &Template<A>, tuple: &Tuple
     if template.len() != tuple.len() {
         return false;
     }
-    match match_fields(template.len() as u8, template.bytes(), tuple.bytes(), 7) {
+    let values = tuple.bytes();
+    // The bytes before the first open field tell most tuples apart, by one comparison.
+    let Some(_) = strip_front(template.fixed_bytes(), values) else {
+        return false;
+    };
+    if template.is_fixed() {
+        return true;
+    }
+    match match_fields(template.len() as u8, template.bytes(), values, 7) {
         Some(_) => true,
         None => false,
     }

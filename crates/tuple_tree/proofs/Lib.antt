@@ -10,3 +10,4 @@ pub mod Flat
 pub mod Loosening
 pub mod Seeing
 pub mod Telling
+pub mod Fixing

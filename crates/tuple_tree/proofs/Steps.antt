@@ -46,7 +46,7 @@ pub whole : {L : Type 0} (at : Reader (Item L)) (bs front rest : List ℕ) (n i 
 unfolding items_with
 whole at bs front rest n i t e p h = let l : ltb 32 n ≡ false = le-ltb 32 n p in h ∙ sym (rw (e, l) refl)
 
-not_equal : (a b : ℕ) → (a ≡ b → ⊥) → eqb a b ≡ false
+pub not_equal : (a b : ℕ) → (a ≡ b → ⊥) → eqb a b ≡ false
 not_equal a b ne =
     let cases : (c : Bool) → eqb a b ≡ c → eqb a b ≡ false = elim [ true ↦ λ e. absurd (ne (eqb-true a b e)) | false ↦ λ e. e ] in
     cases (eqb a b) refl

@@ -1,9 +1,10 @@
 -- Which items bytes spell, one after another.
-use Rattle.std.specs.Prelude.{◌≡◌, ℕ, Bool, List, Option, Some, None, IsTrue, is_some}
+use Rattle.std.specs.Prelude.{◌≡◌, ℕ, Bool, List, length, Option, Some, None, IsTrue, is_some}
 use Rattle.tuple_tree.specs.Items.{Items, none, with_last, how_many}
 use Rattle.tuple_tree.specs.Extents.{IsMeasured}
 use Rattle.tuple_tree.specs.Reading.{Reader, item_at, more}
 use Rattle.tuple_tree.specs.Spelling.{datum_spelling, slot_spelling, items_spelling}
+use Rattle.tuple_tree.specs.Fronts.{front_of}
 use Rattle.tuple_tree.specs.Values.{TupleTree, TemplateTree, datum_length, slot_length, is_wide, is_wide_slot, IsDatum, IsSlot}
 use Rattle.tuple_tree.specs.declared.limits.Extent.{Extent}
 
@@ -30,5 +31,6 @@ pub record IsFlat {L : Type 0} (IsLeaf : L → Type 0) (length_of : L → ℕ) (
 abbrev pub IsFlatTuple : ℕ → List ℕ → Extent → TupleTree → Type 0
 IsFlatTuple count bs extent t = IsFlat IsDatum datum_length is_wide datum_spelling count bs extent t
 
-abbrev pub IsFlatTemplate : ℕ → List ℕ → Extent → TemplateTree → Type 0
-IsFlatTemplate count bs extent p = IsFlat IsSlot slot_length is_wide_slot slot_spelling count bs extent p
+abbrev pub IsFlatTemplate : ℕ → List ℕ → Extent → ℕ → TemplateTree → Type 0
+IsFlatTemplate count bs extent fixed p =
+    IsFlat IsSlot slot_length is_wide_slot slot_spelling count bs extent p × (fixed ≡ length (front_of p))

@@ -16,3 +16,4 @@ pub mod Loose
 pub mod Flat
 pub mod Seen
 pub mod Judging
+pub mod Fronts

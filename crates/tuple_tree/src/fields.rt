@@ -1,7 +1,8 @@
 //! The fields of a template, where they lie in its bytes.
 
-ghost use Rattle.std.specs.Prelude.{◌≡◌, ◌+◌, IfSome, IfNone};
+ghost use Rattle.std.specs.Prelude.{◌≡◌, ◌+◌, ◌≤◌, length, IfSome, IfNone};
 ghost use Rattle.tuple_tree.specs.Items.{none, item};
+ghost use Rattle.tuple_tree.specs.Fronts.{slot_front};
 ghost use Rattle.tuple_tree.specs.Gives.{Yields};
 ghost use Rattle.tuple_tree.specs.Reading.{inner_at, item_at};
 ghost use Rattle.tuple_tree.specs.Loose.{loose_slot_at};
@@ -40,6 +41,18 @@ impl<'b> SlotRef<'b> {
         match self {
             SlotRef::Actual(atom) => atom.encoded_len(),
             SlotRef::Any | SlotRef::Formal(_) => 1,
+        }
+    }
+
+    /// How many bytes of the encoding stand in each value that this field matches.
+    #[inline]
+    pub fn fixed_len(&self) -> usize
+        ensures value { result ≡ length (slot_front (seen_slot self.now)) }
+        ensures bound { result ≤ slot_length (seen_slot self.now) }
+    {
+        match self {
+            SlotRef::Actual(atom) => atom.encoded_len(),
+            SlotRef::Any | SlotRef::Formal(_) => 0,
         }
     }
 

@@ -60,7 +60,7 @@ impl Extent {
     #[inline]
     fn with_item(
         self,
-        len: usize,
+        len: u8,
         item_depth: u8,
         item_len: usize,
         item_wide: bool,
@@ -69,7 +69,7 @@ impl Extent {
         requires bytes { self.encoded_len ≤ 1024 }
         ensures within { Extends self len item_depth item_len item_wide result }
     {
-        if len >= MAX_FIELDS {
+        if len as usize >= MAX_FIELDS {
             return Err(Refusal::TooManyFields);
         }
         let depth = self.depth.max(1 + item_depth);
@@ -90,7 +90,7 @@ impl Extent {
     #[inline]
     pub fn with_room<A: Allocator>(
         self,
-        len: usize,
+        len: u8,
         item_depth: u8,
         item_len: usize,
         item_wide: bool,

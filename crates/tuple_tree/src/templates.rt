@@ -1,10 +1,11 @@
 //! Templates: lists of fields, kept as the bytes that spell the fields.
 
-ghost use Rattle.std.specs.Prelude.{◌≡◌, ◌+◌, ◌≤◌, ◌++◌, OnOk, OnErr, IfErr, IfOk, IsTrue, ◌↔◌, length};
+ghost use Rattle.std.specs.Prelude.{◌≡◌, ◌+◌, ◌≤◌, ◌++◌, OnOk, OnErr, IfErr, IfOk, IsTrue, ◌↔◌, false, length};
 ghost use Rattle.tuple_tree.specs.Items.{none, leaf, inner, how_many, with_last, item_levels, levels_of, item_length, whole_length, item_has, has_leaf};
 ghost use Rattle.tuple_tree.specs.Limits.{IsItem};
 ghost use Rattle.tuple_tree.specs.Pushes.{JudgesTemplate, AddsField};
 ghost use Rattle.tuple_tree.specs.Puts.{Puts};
+ghost use Rattle.tuple_tree.specs.Fronts.{is_open, front_of};
 ghost use Rattle.tuple_tree.specs.Gives.{Yields};
 ghost use Rattle.tuple_tree.specs.Reading.{slot_at, items_at};
 ghost use Rattle.tuple_tree.specs.Seen.{seen_datum, seen_slot};
@@ -14,6 +15,7 @@ ghost use Rattle.tuple_tree.specs.TemplateView.{field_of};
 
 use crate::atoms::{Atom, Kind, note_bytes};
 use crate::fields::{Fields, SlotRef};
+use crate::fronts::{longer_front, spelled_front};
 use crate::judging::judge_template;
 use crate::limits::{Extent, Refusal, Refused};
 use crate::put::{put_byte, put_bytes, put_nested, put_slot};
@@ -43,6 +45,8 @@ pub struct Template<A: Allocator> {
     fields: Vec<u8, A>,
     count: u8,
     extent: Extent,
+    // How many of the bytes stand before the first open field, at any level.
+    fixed: u16,
 }
 
 impl<A: Allocator> Model for Template<A> {
@@ -57,7 +61,7 @@ impl<A: Allocator> Model for Template<A> {
 
     ghost view = { λ a. items_in slot_at 7 a.count a.fields.items };
 
-    ghost invariant = { λ a. IsFlatTemplate a.count a.fields.items a.extent (items_in slot_at 7 a.count a.fields.items) };
+    ghost invariant = { λ a. IsFlatTemplate a.count a.fields.items a.extent a.fixed (items_in slot_at 7 a.count a.fields.items) };
 }
 
 /// A field that was not added, and why.
@@ -113,6 +117,7 @@ impl<A: Allocator> Template<A> {
             fields: Vec::new(alloc),
             count: 0,
             extent: Extent::EMPTY,
+            fixed: 0,
         }
     }
 
@@ -174,6 +179,21 @@ impl<A: Allocator> Template<A> {
         &self.fields
     }
 
+    /// The bytes of these that stand before the first open field, at any level: each tuple that matches begins with them.
+    pub fn fixed_bytes(&self) -> &[u8]
+        ensures value { result.now ≡ front_of self.now }
+        ensures valid { IsTemplate self.now }
+    {
+        self.fields.split_at(self.fixed as usize).0
+    }
+
+    /// Whether no field is open, at any level. Constant time.
+    pub fn is_fixed(&self) -> bool
+        ensures { IsTrue result ↔ (has_leaf is_open self.now ≡ false) }
+    {
+        self.extent.encoded_len as usize == 1 + self.fixed as usize
+    }
+
     /// The template that the front of the bytes spells, and the bytes after it: a test, and then a copy.
     pub fn read_in<'b>(
         alloc: A,
@@ -190,6 +210,7 @@ impl<A: Allocator> Template<A> {
             return Ok(None);
         };
         let (spelled, _) = fields.split_at(fields.len() - rest.len());
+        let fixed = spelled_front(count, spelled);
         let fields = Vec::from_slice(alloc, spelled)?;
         let extent = Extent {
             depth: 1 + below,
@@ -200,6 +221,7 @@ impl<A: Allocator> Template<A> {
             fields,
             count,
             extent,
+            fixed,
         };
         Ok(Some((template, rest)))
     }
@@ -227,6 +249,7 @@ impl<A: Allocator> Template<A> {
             fields,
             count: self.count,
             extent: self.extent,
+            fixed: self.fixed,
         })
     }
 
@@ -285,15 +308,13 @@ impl<A: Allocator> Template<A> {
         ensures refusal { AddsField result self.new (with_last self.old (leaf (seen_slot slot.entry))) }
     {
         let len = slot.encoded_len();
-        let extent = self.extent.with_room(
-            self.count as usize,
-            0,
-            len,
-            slot.is_wide(),
-            &mut self.fields,
-        )?;
+        let extent = self
+            .extent
+            .with_room(self.count, 0, len, slot.is_wide(), &mut self.fields)?;
+        let fixed = longer_front(self.fixed, self.extent, slot.fixed_len());
         put_slot(&slot, &mut self.fields);
         self.count += 1;
+        self.fixed = fixed;
         self.extent = extent;
         Ok(())
     }
@@ -305,14 +326,16 @@ impl<A: Allocator> Template<A> {
     {
         let len = 1 + template.encoded_len();
         let extent = self.extent.with_room(
-            self.count as usize,
+            self.count,
             template.depth(),
             len,
             template.has_wide(),
             &mut self.fields,
         )?;
+        let fixed = longer_front(self.fixed, self.extent, 2 + template.fixed as usize);
         put_nested(template.len() as u8, template.bytes(), &mut self.fields);
         self.count += 1;
+        self.fixed = fixed;
         self.extent = extent;
         Ok(())
     }

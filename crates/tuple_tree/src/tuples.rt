@@ -258,13 +258,9 @@ impl<A: Allocator> Tuple<A> {
     {
         atom.note_valid();
         let len = atom.encoded_len();
-        let extent = self.extent.with_room(
-            self.count as usize,
-            0,
-            len,
-            atom.is_wide(),
-            &mut self.values,
-        )?;
+        let extent = self
+            .extent
+            .with_room(self.count, 0, len, atom.is_wide(), &mut self.values)?;
         put_atom(&atom, &mut self.values);
         self.count += 1;
         self.extent = extent;
@@ -278,7 +274,7 @@ impl<A: Allocator> Tuple<A> {
     {
         let len = 1 + tuple.encoded_len();
         let extent = self.extent.with_room(
-            self.count as usize,
+            self.count,
             tuple.depth(),
             len,
             tuple.has_wide(),
