@@ -140,14 +140,15 @@ front_taken {count} {bs} {extent} {fixed} {p} h =
     let e : bs ≡ front_of p ++ r.0 = h.0.spelled ∙ r.1 in
     (omega (arith, h.1, ap length e, length-append (front_of p) r.0), ap (take fixed) e ∙ take_at (front_of p) r.0 fixed (sym h.1))
 
-pub fixed_whole : {count : ℕ} {bs : List ℕ} {extent : Extent} {fixed : ℕ} {p q : TemplateTree} → IsFlatTemplate count bs extent fixed p → p ≡ q → (extent.encoded_len ≡ 1 + fixed) ↔ (has_leaf is_open q ≡ false)
-fixed_whole {count} {bs} {extent} {fixed} {p} {q} h e =
-    let k = subst (IsFlatTemplate count bs extent fixed) e h in
-    let cases : (o : Bool) → has_leaf is_open q ≡ o → extent.encoded_len ≡ 1 + fixed → o ≡ false = elim [
-      | true ↦ λ o m. absurd (omega (arith, no_whole_front q o, k.0.measured.2, k.1, m))
+pub fixed_whole : {count : ℕ} {bs : List ℕ} {extent : Extent} {fixed : ℕ} {p q : TemplateTree} (len : ℕ) → IsFlatTemplate count bs extent fixed p → p ≡ q → len ≡ whole_length slot_length q
+    → (len ≡ 1 + fixed) ↔ (has_leaf is_open q ≡ false)
+fixed_whole {fixed = fixed} {q = q} len h e l =
+    let f = fixed_of h e in
+    let cases : (o : Bool) → has_leaf is_open q ≡ o → len ≡ 1 + fixed → o ≡ false = elim [
+      | true ↦ λ o m. absurd (omega (arith, no_whole_front q o, f, l, m))
       | false ↦ λ o m. refl
     ] in
-    (cases (has_leaf is_open q) refl, λ o. omega (arith, whole_front q o, k.0.measured.2, k.1))
+    (cases (has_leaf is_open q) refl, λ o. omega (arith, whole_front q o, f, l))
 
 -- the fields of a template, as the cursor reads them
 pub fields_seen : {count : ℕ} {bs : List ℕ} {extent : Extent} {p : TemplateTree} → IsFlat IsSlot slot_length is_wide_slot slot_spelling count bs extent p

@@ -191,7 +191,7 @@ impl<A: Allocator> Template<A> {
     pub fn is_fixed(&self) -> bool
         ensures { IsTrue result ↔ (has_leaf is_open self.now ≡ false) }
     {
-        self.extent.encoded_len as usize == 1 + self.fixed as usize
+        self.encoded_len() == 1 + self.fixed as usize
     }
 
     /// The template that the front of the bytes spells, and the bytes after it: a test, and then a copy.
