@@ -29,13 +29,13 @@ pub passes_plain : (bs : List ℕ) (n : ℕ) → n ≤ length bs → ((k : ℕ) 
 passes_plain bs n h p = read_plain bs [] n h p
 
 -- what holds of the first n bytes, and of the m behind them
-pub further : (xs : List ℕ) (n m : ℕ) → ((k : ℕ) → k < n → is_plain (get_or xs k 0) ≡ true)
-    → ((k : ℕ) → k < m → is_plain (get_or (drop n xs) k 0) ≡ true) → (k : ℕ) → k < n + m → is_plain (get_or xs k 0) ≡ true
-further xs zero m p q k h = q k (omega arith)
-further [] (suc n) m p q k h = p 0 (omega arith)
-further (x ∷ xs) (suc n) m p q zero h = p 0 (omega arith)
-further (x ∷ xs) (suc n) m p q (suc k) h = further xs n m (λ j l. p (suc j) (omega arith)) q k (omega arith)
+pub further : (P : ℕ → Bool) (xs : List ℕ) (n m : ℕ) → ((k : ℕ) → k < n → P (get_or xs k 0) ≡ true)
+    → ((k : ℕ) → k < m → P (get_or (drop n xs) k 0) ≡ true) → (k : ℕ) → k < n + m → P (get_or xs k 0) ≡ true
+further P xs zero m p q k h = q k (omega arith)
+further P [] (suc n) m p q k h = p 0 (omega arith)
+further P (x ∷ xs) (suc n) m p q zero h = p 0 (omega arith)
+further P (x ∷ xs) (suc n) m p q (suc k) h = further P xs n m (λ j l. p (suc j) (omega arith)) q k (omega arith)
 
-pub in_front : (xs ys : List ℕ) (n m : ℕ) → ys ≡ take n xs → m ≤ n → ((k : ℕ) → k < m → is_plain (get_or ys k 0) ≡ true)
-    → (k : ℕ) → k < m → is_plain (get_or xs k 0) ≡ true
-in_front xs ys n m e l p k h = subst (λ b. is_plain b ≡ true) (ap (λ zs. get_or zs k 0) e ∙ get_or-take n xs k 0 (omega (arith, l, h))) (p k h)
+pub in_front : (P : ℕ → Bool) (xs ys : List ℕ) (n m : ℕ) → ys ≡ take n xs → m ≤ n → ((k : ℕ) → k < m → P (get_or ys k 0) ≡ true)
+    → (k : ℕ) → k < m → P (get_or xs k 0) ≡ true
+in_front P xs ys n m e l p k h = subst (λ b. P b ≡ true) (ap (λ zs. get_or zs k 0) e ∙ get_or-take n xs k 0 (omega (arith, l, h))) (p k h)

@@ -228,6 +228,17 @@ fn hex_len(bytes: &[u8]) -> usize
     ensures hex { (k : ℕ) → k < result → is_hex (slice_index bytes.now k) ≡ true }
     ensures ends { result < length bytes.now → is_hex (slice_index bytes.now result) ≡ false }
 {
+    let groups = hex_groups(bytes);
+    let (_, rest) = bytes.split_at(groups);
+    groups + hex_front(rest)
+}
+
+// The same, byte by byte.
+fn hex_front(bytes: &[u8]) -> usize
+    ensures within { result ≤ length bytes.now }
+    ensures hex { (k : ℕ) → k < result → is_hex (slice_index bytes.now k) ≡ true }
+    ensures ends { result < length bytes.now → is_hex (slice_index bytes.now result) ≡ false }
+{
     match bytes
         .iter()
         .position(|byte| !matches!(*byte, b'0'..=b'9' | b'a'..=b'f'))
@@ -235,6 +246,36 @@ fn hex_len(bytes: &[u8]) -> usize
         Some(place) => place,
         None => bytes.len(),
     }
+}
+
+// So many bytes at the front are groups of 16 digits.
+fn hex_groups(bytes: &[u8]) -> usize
+    ensures within { result ≤ length bytes.now }
+    ensures hex { (k : ℕ) → k < result → is_hex (slice_index bytes.now k) ≡ true }
+{
+    let mut passed = 0;
+    while bytes.len() - passed >= GROUP {
+        let (_, rest) = bytes.split_at(passed);
+        let (group, _) = rest.split_at(GROUP);
+        if !are_hex(group) {
+            return passed;
+        }
+        passed += GROUP;
+    }
+    passed
+}
+
+// Whether each byte is a hexadecimal digit. It looks at each, as `are_plain` does.
+fn are_hex(bytes: &[u8]) -> bool
+    ensures { IsTrue result → AreHex bytes.now }
+{
+    let mut hex = true;
+    for byte in bytes {
+        if *byte < b'0' || *byte > b'f' || (*byte > b'9' && *byte < b'a') {
+            hex = false;
+        }
+    }
+    hex
 }
 
 // Empty, with room for so many bytes.
@@ -300,8 +341,6 @@ impl<'a> Reader<'a> {
     }
 
     // The rest of a text, after the bytes that stand for themselves: these are copied, since something else follows.
-    // Such texts are rare, so the common way is kept free of it.
-    #[inline(never)]
     fn other_text<A: Allocator + Copy>(
         &mut self,
         alloc: A,
@@ -355,7 +394,6 @@ impl<'a> Reader<'a> {
     }
 
     // The rest of a byte string after its first letter.
-    #[inline(never)]
     fn pairs<A: Allocator>(&mut self, alloc: A) -> Result<Vec<u8, A>, Stop>
         ensures { Reads (λ v. v.items) result (pairs [] None) self.old self.new }
     {

@@ -8,8 +8,8 @@ loop-passed-preserved c =
     let bytes = c.args.bytes.now in
     let passed = c.loop-passed.passed in
     let group : (k : ℕ) → k < 16 → is_plain (get_or c.split_at.result.1.now k 0) ≡ true =
-    in_front c.split_at.result.1.now c.split_at-in-loop-passed.result.0.now 16 16 c.split_at-in-loop-passed.ensures.front (omega arith) (λ k h. c.are_plain.ensures c.if-not-are_plain.false k (omega (arith, h, c.split_at-in-loop-passed.ensures.front_len))) in
+    in_front is_plain c.split_at.result.1.now c.split_at-in-loop-passed.result.0.now 16 16 c.split_at-in-loop-passed.ensures.front (omega arith) (λ k h. c.are_plain.ensures c.if-not-are_plain.false k (omega (arith, h, c.split_at-in-loop-passed.ensures.front_len))) in
     record {
       within = omega (arith, c.loop-passed-test.true, c.loop-passed.invariant.within);
-      plain = further bytes passed 16 c.loop-passed.invariant.plain (subst (λ xs. (k : ℕ) → k < 16 → is_plain (get_or xs k 0) ≡ true) c.split_at.ensures.back group);
+      plain = further is_plain bytes passed 16 c.loop-passed.invariant.plain (subst (λ xs. (k : ℕ) → k < 16 → is_plain (get_or xs k 0) ≡ true) c.split_at.ensures.back group);
     }
