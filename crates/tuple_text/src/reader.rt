@@ -452,6 +452,7 @@ impl<'a> Reader<'a> {
         Ok(tuple)
     }
 
+    #[inline(always)]
     #[tactic(auto, unfolding(crate::specs::Reading::close))]
     fn close_tuple<A: Allocator>(&mut self, tuple: Option<Tuple<A>>) -> Result<Tuple<A>, Stop>
         ensures { Reads (λ t. t) result (close_tuple tuple) self.old self.new }
@@ -575,6 +576,7 @@ impl<'a> Reader<'a> {
         Ok(template)
     }
 
+    #[inline(always)]
     #[tactic(auto, unfolding(crate::specs::Reading::close))]
     fn close_template<A: Allocator>(
         &mut self,
