@@ -114,18 +114,19 @@ pub pair_passed : (s : List ℕ) (a b : ℕ) (u : List ℕ) → is_hex a ≡ tru
 pair_passed s a b u p q = rw (p, q) refl
 
 -- Two digits more are passed. The rest is taken at its whole length.
-pub pairs_more : (digits s left : List ℕ) (n v : ℕ) → 2 ≤ length left → n ≡ length left - 2 → AreHex left → length left % 2 ≡ 0 → ((rest : List ℕ) → pairs [] None (digits ++ rest) ≡ pairs s None (left ++ rest))
-    → v ≡ hex_value (get_or left 0 0) * 16 + hex_value (get_or left 1 0)
-    → AreHex (take n (drop 2 left)) × (length (take n (drop 2 left)) % 2 ≡ 0) × ((rest : List ℕ) → pairs [] None (digits ++ rest) ≡ pairs (s ++ v ∷ []) None (take n (drop 2 left) ++ rest)) × (length (take n (drop 2 left)) ≡ n)
-pairs_more digits s [] n v l m h e p q = absurd (omega arith)
-pairs_more digits s (a ∷ []) n v l m h e p q = absurd (omega arith)
-pairs_more digits s (a ∷ b ∷ left) n v l m h e p q =
+pub pairs_more : (digits s t left : List ℕ) (n v : ℕ) → 2 ≤ length left → n ≡ length left - 2 → AreHex left → length left % 2 ≡ 0 → ((rest : List ℕ) → pairs [] None (digits ++ rest) ≡ pairs s None (left ++ rest))
+    → v ≡ hex_value (get_or left 0 0) * 16 + hex_value (get_or left 1 0) → t ≡ s ++ v ∷ []
+    → AreHex (take n (drop 2 left)) × (length (take n (drop 2 left)) % 2 ≡ 0) × ((rest : List ℕ) → pairs [] None (digits ++ rest) ≡ pairs t None (take n (drop 2 left) ++ rest)) × (length (take n (drop 2 left)) ≡ n)
+pairs_more digits s t [] n v l m h e p q r = absurd (omega arith)
+pairs_more digits s t (a ∷ []) n v l m h e p q r = absurd (omega arith)
+pairs_more digits s t (a ∷ b ∷ left) n v l m h e p q r =
     let k : take n left ≡ left = take_all n left (omega (arith, m)) in
     let f : length left % 2 ≡ 0 = omega (arith, e) in
     let w : length left ≡ n = omega (arith, m) in (
       subst AreHex (sym k) (λ i j. h (suc (suc i)) (omega arith)),
       ap (λ xs. length xs % 2) k ∙ f,
-      λ rest. p rest ∙ pair_passed s a b (left ++ rest) (h 0 (omega arith)) (h 1 (omega arith)) ∙ ap (λ x. pairs (s ++ x ∷ []) None (left ++ rest)) (sym q) ∙ ap (λ xs. pairs (s ++ v ∷ []) None (xs ++ rest)) (sym k),
+      λ rest. p rest ∙ pair_passed s a b (left ++ rest) (h 0 (omega arith)) (h 1 (omega arith)) ∙ ap (λ x. pairs (s ++ x ∷ []) None (left ++ rest)) (sym q) ∙ ap (λ y. pairs y None (left ++ rest)) (sym r)
+          ∙ ap (λ xs. pairs t None (xs ++ rest)) (sym k),
       ap length k ∙ w,
     )
 

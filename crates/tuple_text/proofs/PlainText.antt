@@ -1,7 +1,9 @@
 -- Bytes that stand for themselves in a text literal are read all at once.
-use Rattle.std.proofs.Common.{◌≡◌, ℕ, zero, suc, ◌+◌, ◌≤◌, ◌<◌, ◌==◌, Bool, true, false, not, ◌&&◌, ◌||◌, if◌then◌else◌, List, [], ◌∷◌, ◌++◌, length, take, drop, get_or, get_or-take, refl, ap, sym, subst, ◌∙◌, append_assoc, append-nil, arith}
-use Rattle.tuple_text.specs.Literals.{is_between, is_plain, led, step, stepped, text_from, PassesPlain}
-use Rattle.tuple_text.specs.Read.{got, stop}
+use Rattle.std.proofs.Common.{◌≡◌, ℕ, zero, suc, ◌+◌, ◌-◌, ◌≤◌, ◌<◌, ◌==◌, Bool, true, false, not, ◌&&◌, ◌||◌, if◌then◌else◌, List, [], ◌∷◌, ◌++◌, length, take, drop, get_or, get_or-take, refl, ap, sym, subst, ◌∙◌, append_assoc, append-nil, arith}
+use Rattle.std.proofs.lemmas.List.{take_all}
+use Rattle.tuple_tree.specs.Values.{text}
+use Rattle.tuple_text.specs.Literals.{is_between, is_plain, led, step, stepped, text_from, PassesPlain, text_literal}
+use Rattle.tuple_text.specs.Reading.{got, stop, ◌>>=◌, quoted, datum}
 use Rattle.tuple_text.specs.declared.reader.Stop.TheVariants.{BadByte}
 use Rattle.tuple_text.specs.declared.literals.Expected.TheVariants.{Character, Escape}
 use Rattle.tuple_text.specs.declared.literals.Step.TheVariants.{Ends, Passes, Adds}
@@ -27,6 +29,18 @@ read_plain (b ∷ bs) s (suc n) h p =
 
 pub passes_plain : (bs : List ℕ) (n : ℕ) → n ≤ length bs → ((k : ℕ) → k < n → is_plain (get_or bs k 0) ≡ true) → PassesPlain (take n bs) bs (drop n bs)
 passes_plain bs n h p = read_plain bs [] n h p
+
+pub first_of : (bs : List ℕ) (b n : ℕ) → 1 ≤ length bs → get_or bs 0 0 ≡ b → n ≡ length bs - 1 → bs ≡ b ∷ take n (drop 1 bs)
+first_of [] b n h e k = absurd (omega arith)
+first_of (x ∷ xs) b n h e k = ap (λ y. y ∷ xs) e ∙ ap (λ ys. b ∷ ys) (sym (take_all n xs (omega (arith, k))))
+
+-- a text literal of such bytes alone
+pub plain_whole : (bs front behind rest plain : List ℕ) (n : ℕ) → bs ≡ 34 ∷ front → behind ≡ 34 ∷ rest → n ≤ length front → ((k : ℕ) → k < n → is_plain (get_or front k 0) ≡ true)
+    → plain ≡ take n front → behind ≡ drop n front → datum bs ≡ got (text plain) rest
+unfolding datum quoted text_literal
+plain_whole bs front behind rest plain n e f h p k l =
+    let read : text_from Character [] front ≡ got plain rest = sym (passes_plain front n h p) ∙ ap (text_from Character (take n front)) (sym l ∙ f) ∙ ap (λ s. got s rest) (sym k) in
+    ap datum e ∙ ap (λ x. x >>= λ s u. got (text s) u) read
 
 -- what holds of the first n bytes, and of the m behind them
 pub further : (P : ℕ → Bool) (xs : List ℕ) (n m : ℕ) → ((k : ℕ) → k < n → P (get_or xs k 0) ≡ true)

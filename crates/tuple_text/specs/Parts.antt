@@ -1,13 +1,11 @@
 -- Definitions for the private methods of the reader: the parts of a tuple, and those of a template.
-use Rattle.std.specs.Prelude.{◌≡◌, ℕ, List, Bool, codes, Result, Ok, Err, Option, option_map}
+use Rattle.std.specs.Prelude.{◌≡◌, ℕ, Bool, codes, Result, Ok, Err, Option, option_map}
 use Rattle.tuple_tree.specs.Items.{Item, inner, Items}
 use Rattle.tuple_tree.specs.Seen.{seen_datum}
 use Rattle.tuple_tree.specs.Values.{Datum, text, bytes, Slot, TupleTree, TemplateTree, datum_length, slot_length}
 use Rattle.tuple_text.specs.Reading.{◌>>=◌, got, stop, Reading, named, datum, slot, begins_datum, begins_slot, full, further, no_room, kept_with, leaf_item, item_at, items_at, close, Gives}
-use Rattle.tuple_text.specs.Literals.{text_from}
-use Rattle.tuple_text.specs.declared.literals.Expected.TheVariants.{Character}
 use Rattle.tuple_text.specs.declared.literals.Literal.{Literal}
-use Rattle.tuple_text.specs.declared.literals.Literal.TheVariants.{Lent, Text, Bytes}
+use Rattle.tuple_text.specs.declared.literals.Literal.TheVariants.{Scalar, Text, Bytes}
 use Rattle.tuple_text.specs.declared.reader.Reader.{Reader}
 use Rattle.tuple_text.specs.declared.reader.Stop.{Stop}
 use Rattle.tuple_text.specs.declared.reader.Stop.TheVariants.{NoMemory}
@@ -18,13 +16,9 @@ Reads view result reading old new = Gives view result (reading old.rest.now) new
 
 -- the value that was read
 abbrev pub datum_read : {A : Type 0} → Literal A → Datum
-datum_read (Lent x) = seen_datum x
+datum_read (Scalar x) = seen_datum x
 datum_read (Text v) = text v.items
 datum_read (Bytes v) = bytes v.items
-
--- the rest of a text, after the bytes that were read
-abbrev pub text_behind : List ℕ → Reading Datum
-text_behind s bs = text_from Character s bs >>= λ t rest. got (text t) rest
 
 -- an item that is no list
 abbrev pub plain_value : Reading (Option (Item Datum))

@@ -1,10 +1,11 @@
 //! The reader of text literals and byte string literals.
 
-ghost use Rattle.std.specs.Prelude.{◌≡◌, ◌+◌, ◌++◌, ◌∷◌, ◌<◌, ◌≤◌, ◌%◌, ℕ, [], None, true, false, length, slice_index, vec_len, vec_capacity, IfOk, IfErr, OnOk, IsTrue};
+ghost use Rattle.std.specs.Prelude.{◌≡◌, ◌+◌, ◌++◌, ◌∷◌, ◌<◌, ◌≤◌, ◌%◌, ℕ, [], None, true, false, length, slice_index, vec_len, vec_capacity, IfOk, IfErr, IfSome, IfNone, OnOk, IsTrue};
 ghost use Rattle.tuple_tree.specs.Seen.{seen_datum};
-ghost use Rattle.tuple_text.specs.Literals.{is_hex, hex_value, led, step, is_plain, text_from, PassesPlain, AreHex, NoHex, PassesPairs, pairs};
-ghost use Rattle.tuple_text.specs.Reading.{quoted, byte_string};
-ghost use Rattle.tuple_text.specs.Parts.{Reads, datum_read, text_behind};
+ghost use Rattle.tuple_tree.specs.Values.{text};
+ghost use Rattle.tuple_text.specs.Literals.{is_hex, hex_value, led, step, is_plain, text_rest, PassesPlain, AreHex, NoHex, PassesPairs, pairs};
+ghost use Rattle.tuple_text.specs.Reading.{got, datum, quoted, byte_string};
+ghost use Rattle.tuple_text.specs.Parts.{Reads, datum_read};
 
 use crate::reader::{Reader, Stop};
 use std::alloc::Allocator;
@@ -48,21 +49,20 @@ pub(crate) enum Step {
 
 /// A value that is no tuple, as it was read.
 #[derive(Drop)]
-pub(crate) enum Literal<'a, A: Allocator> {
-    /// A value that takes no memory. The bytes of a text lie in the line.
-    Lent(AtomRef<'a>),
-    /// The bytes of a text that has an escape, or a character of several bytes.
+pub(crate) enum Literal<A: Allocator> {
+    /// A number or a truth value.
+    Scalar(AtomRef<'static>),
     Text(Vec<u8, A>),
     Bytes(Vec<u8, A>),
 }
 
-impl<'a, A: Allocator> Literal<'a, A> {
+impl<A: Allocator> Literal<A> {
     /// The value.
     pub(crate) fn atom(&self) -> AtomRef<'_>
         ensures { seen_datum result ≡ datum_read self.now }
     {
         match self {
-            Literal::Lent(atom) => *atom,
+            Literal::Scalar(atom) => *atom,
             Literal::Text(bytes) => AtomRef::Text(bytes.as_slice()),
             Literal::Bytes(bytes) => AtomRef::Bytes(bytes.as_slice()),
         }
@@ -308,19 +308,21 @@ fn bytes_of<A: Allocator>(alloc: A, digits: &[u8]) -> Result<Vec<u8, A>, Stop>
 
 impl<'a> Reader<'a> {
     // Passes the bytes at the front that stand for themselves, all at once, and gives them.
-    fn plain_bytes(&mut self) -> &'a [u8]
-        ensures { PassesPlain result.now self.old.rest.now self.new.rest.now }
+    fn plain_bytes<A: Allocator + Copy>(&mut self, alloc: A) -> Result<Vec<u8, A>, Stop>
+        ensures ok { IfOk result (λ v. PassesPlain v.items self.old.rest.now self.new.rest.now) }
+        ensures err { IfErr result (λ s. s ≡ Stop.NoMemory) }
     {
         let (front, rest) = self.rest.split_at(plain_len(self.rest));
+        let bytes = copy_of(alloc, front)?;
         self.rest = rest;
-        front
+        Ok(bytes)
     }
 
-    // The rest of a text, after the bytes that were read.
-    fn text_bytes<A: Allocator>(&mut self, read: Vec<u8, A>) -> Result<Vec<u8, A>, Stop>
-        ensures { Reads (λ v. v.items) result (text_from Expected.Character read.items) self.old self.new }
+    // The rest of a text after its first quote.
+    fn text_bytes<A: Allocator + Copy>(&mut self, alloc: A) -> Result<Vec<u8, A>, Stop>
+        ensures { Reads (λ v. v.items) result text_rest self.old self.new }
     {
-        let mut bytes = read;
+        let mut bytes = self.plain_bytes(alloc)?;
         let mut expected = Expected::Character;
         while let [byte, rest @ ..] = self.rest {
             match expected.step(*byte) {
@@ -340,43 +342,34 @@ impl<'a> Reader<'a> {
         Err(Stop::BadByte)
     }
 
-    // The rest of a text, after the bytes that stand for themselves: these are copied, since something else follows.
-    fn other_text<A: Allocator + Copy>(
-        &mut self,
-        alloc: A,
-        plain: &[u8],
-    ) -> Result<Literal<'a, A>, Stop>
-        ensures { Reads datum_read result (text_behind plain.now) self.old self.new }
+    /// Reads a text literal without escapes and characters of several bytes, and gives its text where it lies. If no such
+    /// literal stands there, nothing is passed.
+    #[inline(always)]
+    pub(crate) fn plain_text(&mut self) -> Option<&'a [u8]>
+        ensures some { IfSome result (λ s. datum self.old.rest.now ≡ got (text s.now) self.new.rest.now) }
+        ensures none { IfNone result (self.new.rest.now ≡ self.old.rest.now) }
     {
-        let read = copy_of(alloc, plain)?;
-        let bytes = self.text_bytes(read)?;
-        Ok(Literal::Text(bytes))
-    }
-
-    // The rest of a text after its first quote.
-    fn text_value<A: Allocator + Copy>(&mut self, alloc: A) -> Result<Literal<'a, A>, Stop>
-        ensures { Reads datum_read result (text_behind []) self.old self.new }
-    {
-        let plain = self.plain_bytes();
-        if let [b'"', rest @ ..] = self.rest {
-            self.rest = rest;
-            return Ok(Literal::Lent(AtomRef::Text(plain)));
-        }
-        self.other_text(alloc, plain)
+        let [b'"', front @ ..] = self.rest else {
+            return None;
+        };
+        let (plain, behind) = front.split_at(plain_len(front));
+        let [b'"', rest @ ..] = behind else {
+            return None;
+        };
+        self.rest = rest;
+        Some(plain)
     }
 
     /// Reads a text literal.
     #[tactic(auto, unfolding(crate::specs::Reading::quoted, crate::specs::Literals::text_literal))]
-    pub(crate) fn text_literal<A: Allocator + Copy>(
-        &mut self,
-        alloc: A,
-    ) -> Result<Literal<'a, A>, Stop>
+    pub(crate) fn text_literal<A: Allocator + Copy>(&mut self, alloc: A) -> Result<Literal<A>, Stop>
         ensures { Reads datum_read result quoted self.old self.new }
     {
         match self.rest {
             [b'"', rest @ ..] => {
                 self.rest = rest;
-                self.text_value(alloc)
+                let bytes = self.text_bytes(alloc)?;
+                Ok(Literal::Text(bytes))
             }
             _ => Err(Stop::BadByte),
         }
@@ -406,7 +399,7 @@ impl<'a> Reader<'a> {
 
     /// Reads a byte string literal.
     #[tactic(auto, unfolding(crate::specs::Reading::byte_string, crate::specs::Literals::bytes_literal))]
-    pub(crate) fn bytes_literal<A: Allocator>(&mut self, alloc: A) -> Result<Literal<'a, A>, Stop>
+    pub(crate) fn bytes_literal<A: Allocator>(&mut self, alloc: A) -> Result<Literal<A>, Stop>
         ensures { Reads datum_read result byte_string self.old self.new }
     {
         match self.rest {

@@ -220,34 +220,34 @@ impl<'a> Reader<'a> {
     }
 
     #[tactic(auto, unfolding(crate::specs::Reading::numeral))]
-    fn numeral<A: Allocator>(&mut self) -> Result<Literal<'a, A>, Stop>
+    fn numeral<A: Allocator>(&mut self) -> Result<Literal<A>, Stop>
         ensures { Reads datum_read result numeral self.old self.new }
     {
         let number = self.signed(MOST)?;
-        Ok(Literal::Lent(AtomRef::Number(number as i64)))
+        Ok(Literal::Scalar(AtomRef::Number(number as i64)))
     }
 
     // A wide number, after its `w`.
     #[tactic(auto, unfolding(crate::specs::Reading::wide_numeral))]
-    fn wide_numeral<A: Allocator>(&mut self) -> Result<Literal<'a, A>, Stop>
+    fn wide_numeral<A: Allocator>(&mut self) -> Result<Literal<A>, Stop>
         ensures { Reads datum_read result wide_numeral self.old self.new }
     {
         self.word(b"w")?;
         let number = self.signed(MOST_WIDE)?;
-        Ok(Literal::Lent(AtomRef::Wide(number)))
+        Ok(Literal::Scalar(AtomRef::Wide(number)))
     }
 
     // A word that stands for a truth value.
-    fn truth<A: Allocator>(&mut self, letters: &[u8], truth: bool) -> Result<Literal<'a, A>, Stop>
+    fn truth<A: Allocator>(&mut self, letters: &[u8], truth: bool) -> Result<Literal<A>, Stop>
         ensures { Reads datum_read result (named letters.now (truth_datum truth)) self.old self.new }
     {
         self.word(letters)?;
-        Ok(Literal::Lent(AtomRef::Truth(truth)))
+        Ok(Literal::Scalar(AtomRef::Truth(truth)))
     }
 
     // A value that is no tuple.
     #[tactic(auto, unfolding(crate::specs::Reading::datum))]
-    fn literal<A: Allocator + Copy>(&mut self, alloc: A) -> Result<Literal<'a, A>, Stop>
+    fn literal<A: Allocator + Copy>(&mut self, alloc: A) -> Result<Literal<A>, Stop>
         ensures { Reads datum_read result datum self.old self.new }
     {
         match self.rest {
@@ -377,6 +377,9 @@ impl<'a> Reader<'a> {
     ) -> Result<(), Stop>
         ensures { Reads (λ _. tuple.new) result (adding_atom tuple.old) self.old self.new }
     {
+        if let Some(text) = self.plain_text() {
+            return add_atom(tuple, AtomRef::Text(text));
+        }
         let literal = self.literal(alloc)?;
         add_atom(tuple, literal.atom())
     }
@@ -499,6 +502,9 @@ impl<'a> Reader<'a> {
                 add_field(template, Field::Formal(kind))
             }
             [_, ..] => {
+                if let Some(text) = self.plain_text() {
+                    return add_actual(template, AtomRef::Text(text));
+                }
                 let literal = self.literal(alloc)?;
                 add_actual(template, literal.atom())
             }
