@@ -11,7 +11,7 @@ ghost use Rattle.tuple_text.specs.Walks.{field_at, fields_at, field_written, fie
 use crate::write::{append, put_atom, put_byte};
 use std::alloc::Allocator;
 use terms::NoMemory;
-use tuple_tree::{read_atom, read_byte};
+use tuple_tree::read_atom;
 
 /// Appends the text of a template of so many fields, with at most so many levels in each, and gives the bytes after
 /// them.

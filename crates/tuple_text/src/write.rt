@@ -19,9 +19,7 @@ use terms::NoMemory;
 use tuple_codec::{Answer, Tuples};
 use tuple_tree::{AtomRef, Tuple};
 
-const DIGITS: &[u8; 16] = b"0123456789abcdef";
-
-// So many bytes of a text are tested together.
+// So many bytes of a text are tested together, and so many of a byte string written.
 const GROUP: usize = 16;
 
 /// Appends the text of the tuple: its values in parentheses, one blank between them. An `Err` leaves the bytes as they
@@ -303,6 +301,33 @@ fn put_bytes<B: Allocator>(bytes: &[u8], out: &mut Vec<u8, B>) -> Result<(), NoM
 {
     out.reserve(1 + 2 * bytes.len())?;
     out.push_reserved(b'x');
+    let mut left = bytes;
+    while left.len() >= GROUP {
+        let (group, rest) = left.split_at(GROUP);
+        append(&hex_digits(group), out)?;
+        left = rest;
+    }
+    put_pairs(left, out)
+}
+
+// The digits of a group of bytes, made in place, so that many are made by one instruction.
+fn hex_digits(group: &[u8]) -> [u8; 2 * GROUP]
+    requires { length group.now ≡ 16 }
+    ensures { result ≡ flat_map hex_pair group.now }
+{
+    let mut digits = [0; 2 * GROUP];
+    for i in 0..GROUP {
+        digits[2 * i] = hex_digit(group[i] / 16);
+        digits[2 * i + 1] = hex_digit(group[i] % 16);
+    }
+    digits
+}
+
+// Two digits for each byte.
+fn put_pairs<B: Allocator>(bytes: &[u8], out: &mut Vec<u8, B>) -> Result<(), NoMemory>
+    ensures { Appends result out.old.items (flat_map hex_pair bytes.now) out.new.items }
+{
+    out.reserve(2 * bytes.len())?;
     for byte in bytes {
         out.push_reserved(hex_digit(*byte / 16));
         out.push_reserved(hex_digit(*byte % 16));
@@ -314,5 +339,9 @@ fn hex_digit(digit: u8) -> u8
     requires { digit < 16 }
     ensures { result ≡ Texts.hex_digit digit }
 {
-    DIGITS[digit as usize]
+    if digit < 10 {
+        b'0' + digit
+    } else {
+        b'a' + (digit - 10)
+    }
 }
