@@ -1,6 +1,6 @@
 -- The keys of tuples and templates.
-use Rattle.std.proofs.Common.{◌≡◌, ℕ, suc, ◌+◌, ◌/◌, ◌<◌, Bool, true, false, cond, List, [], ◌∷◌, ◌++◌, length, Some, None, refl, sym, ap, subst, ◌∙◌, arith, eq-eqb, append-nil}
-use Rattle.std.specs.Prelude.{◌==◌, ◌&&◌, ◌||◌}
+use Rattle.std.proofs.Common.{◌≡◌, ℕ, suc, ◌+◌, ◌/◌, ◌<◌, Bool, true, false, List, [], ◌∷◌, ◌++◌, length, Some, None, refl, sym, ap, subst, ◌∙◌, arith, eq-eqb, append-nil}
+use Rattle.std.specs.Prelude.{◌==◌, ◌&&◌}
 use Rattle.std.specs.Bool.{Decides}
 use Rattle.std.specs.Str.{bytes_eq}
 use Rattle.std.proofs.lemmas.Bool.{and_parts, and_from, ne_eqb, eqb-true}
@@ -9,14 +9,14 @@ use Rattle.std.proofs.lemmas.Slice.Eq.{bytes_eq-Decides}
 use Rattle.tuple_tree.specs.Items.{Item, leaf, inner, none, item, how_many}
 use Rattle.tuple_tree.specs.Values.{Datum, number, text, bytes, truth, wide, Slot, actual, any, formal, TupleTree, TemplateTree, AreBytes, IsTuple, IsTemplate}
 use Rattle.tuple_codec.specs.Operations.{out}
-use Rattle.tuple_tree.specs.Spelling.{string, wide_bytes, datum_spelling, tuple_spelling}
+use Rattle.tuple_tree.specs.Spelling.{datum_spelling, tuple_spelling}
 use Rattle.tuple_tree.specs.Reading.{tuple_at}
 use Rattle.tuple_codec.proofs.Grammar.{one, tuple_reads}
 use Rattle.tuple_codec.proofs.SpelledBytes.{operation_bytes}
 use Rattle.template_match.specs.Tests.{is_match, is_field_match, datum_eq}
 use Rattle.template_match.proofs.Deciding.{datum_decides}
 use Rattle.space.specs.Candidates.{fits_field, fits_first, is_candidate}
-use Rattle.space.specs.Keys.{words, datum_tag, datum_bytes, datum_key, tuple_key, template_key}
+use Rattle.space.specs.Keys.{words, key_of, datum_key, tuple_key, template_key}
 use Rattle.space.proofs.Wording.{same_head, same_bytes}
 
 -- ---- a match is a candidate
@@ -69,48 +69,40 @@ spelled_once x y h k e =
     (record { valid = h; spelled = refl }) (record { valid = k; spelled = refl }) (ap (λ s. (1 ∷ (s ++ [])) ++ []) e)).1 in
     cc
 
--- the spelling of a value by its tag and bytes
-spelling_of : ℕ → List ℕ → List ℕ
-spelling_of tag bs = tag ∷ cond (tag == 2 || tag == 3) (string bs) bs
+bytes_of : (x : Datum) → IsTuple (item (leaf x) none) → AreBytes (datum_spelling x)
+bytes_of x h = subst AreBytes (append-nil (datum_spelling x)) (λ i. operation_bytes (out (item (leaf x) none)) h (suc (suc i)))
 
-by_parts : (x : Datum) → datum_spelling x ≡ spelling_of (datum_tag x) (datum_bytes x)
-unfolding spelling_of
-by_parts (number n) = refl
-by_parts (text s) = refl
-by_parts (bytes s) = refl
-by_parts (truth b) = refl
-by_parts (wide n) = refl
+-- a value's tag, and the bytes after it
+record Tagged (x : Datum) : Type 0 where
+  pub tag : ℕ
+  pub rest : List ℕ
+  pub is : datum_spelling x ≡ tag ∷ rest
+  pub small : tag < 8
 
-bytes_of : (x : Datum) → AreBytes (datum_spelling x ++ []) → AreBytes (datum_bytes x)
-bytes_of (number n) h i = h (suc i)
-bytes_of (text s) h i = subst AreBytes (append-nil s) (λ j. h (suc (suc (suc j)))) i
-bytes_of (bytes s) h i = subst AreBytes (append-nil s) (λ j. h (suc (suc (suc j)))) i
-bytes_of (truth b) h i = h (suc i)
-bytes_of (wide n) h i = subst AreBytes (append-nil (wide_bytes n)) (λ j. h (suc j)) i
+tagged : (x : Datum) → Tagged x
+tagged (number n) = record { tag = 1; rest = _; is = refl; small = omega arith }
+tagged (text s) = record { tag = 2; rest = _; is = refl; small = omega arith }
+tagged (bytes s) = record { tag = 3; rest = _; is = refl; small = omega arith }
+tagged (truth b) = record { tag = 4; rest = _; is = refl; small = omega arith }
+tagged (wide n) = record { tag = 6; rest = _; is = refl; small = omega arith }
 
-are_bytes : (x : Datum) → IsTuple (item (leaf x) none) → AreBytes (datum_bytes x)
-are_bytes x h = bytes_of x (λ i. operation_bytes (out (item (leaf x) none)) h (suc (suc i)))
-
-small_tag : (x : Datum) → datum_tag x < 8
-small_tag (number n) = omega arith
-small_tag (text s) = omega arith
-small_tag (bytes s) = omega arith
-small_tag (truth b) = omega arith
-small_tag (wide n) = omega arith
+rest_bytes : (x : Datum) → IsTuple (item (leaf x) none) → AreBytes (tagged x).rest
+rest_bytes x h i = subst AreBytes (tagged x).is (bytes_of x h) (suc i)
 
 module _ (c d : ℕ) (x y : Datum) (h : IsTuple (item (leaf x) none)) (k : IsTuple (item (leaf y) none)) where
   same_key : c < 64 → d < 64 → datum_key d y ≡ datum_key c x → (d ≡ c) × (x ≡ y)
   same_key l m e =
-      let p = same_head _ _ (words (length (datum_bytes y) / 8) (datum_bytes y)) (words (length (datum_bytes x) / 8) (datum_bytes x)) e in
-      let s = small_tag x in
-      let t = small_tag y in
+      let a = tagged x in
+      let b = tagged y in
+      let p = same_head _ _ (words (length b.rest / 8) b.rest) (words (length a.rest / 8) a.rest) (ap (key_of d) (sym b.is) ∙ e ∙ ap (key_of c) a.is) in
+      let s = a.small in
+      let t = b.small in
       let count : d ≡ c = omega (arith, p.0, s, t, l, m) in
-      let tag : datum_tag y ≡ datum_tag x = omega (arith, p.0, s, t, l, m) in
-      let long : length (datum_bytes y) ≡ length (datum_bytes x) = omega (arith, p.0, s, t, l, m) in
-      let number = length (datum_bytes y) / 8 in
-      let held : words number (datum_bytes y) ≡ words number (datum_bytes x) = p.1 ∙ ap (λ n. words (n / 8) (datum_bytes x)) (sym long) in
-      let same = same_bytes number (datum_bytes y) (datum_bytes x) refl long (are_bytes y k) (are_bytes x h) held in
-      (count, spelled_once x y h k (by_parts x ∙ ap (λ n. spelling_of n (datum_bytes x)) (sym tag) ∙ ap (spelling_of (datum_tag y)) (sym same) ∙ sym (by_parts y)))
+      let tag : b.tag ≡ a.tag = omega (arith, p.0, s, t, l, m) in
+      let long : length b.rest ≡ length a.rest = omega (arith, p.0, s, t, l, m) in
+      let held : words (length b.rest / 8) b.rest ≡ words (length b.rest / 8) a.rest = p.1 ∙ ap (λ n. words (n / 8) a.rest) (sym long) in
+      let same = same_bytes (length b.rest / 8) b.rest a.rest refl long (rest_bytes y k) (rest_bytes x h) held in
+      (count, spelled_once x y h k (a.is ∙ ap (λ n. n ∷ a.rest) (sym tag) ∙ ap (λ bs. b.tag ∷ bs) (sym same) ∙ sym b.is))
 
   key_decides : c < 64 → d < 64 → bytes_eq (datum_key d y) (datum_key c x) ≡ ((d == c) && datum_eq x y)
   key_decides l m =
@@ -126,12 +118,15 @@ no_first : (b : Bool) → false ≡ (b && false)
 no_first true = refl
 no_first false = refl
 
+no_key : (count : ℕ) (x : Datum) → bytes_eq [] (datum_key count x) ≡ false
+no_key count x = ap (λ s. bytes_eq [] (key_of count s)) (tagged x).is
+
 closed : (x : Datum) (p : TemplateTree) (t : TupleTree) → IsTemplate (item (leaf (actual x)) p) → IsTuple t
     → bytes_eq (tuple_key t) (datum_key (how_many (item (leaf (actual x)) p)) x) ≡ is_candidate (item (leaf (actual x)) p) t
-closed x p none h k = ap (λ b. b && true) (sym (ne_eqb 0 (1 + how_many p) (λ e. omega arith)))
+closed x p none h k = no_key (1 + how_many p) x ∙ ap (λ b. b && true) (sym (ne_eqb 0 (1 + how_many p) (λ e. omega arith)))
 closed x p (item (leaf y) t) h k =
     key_decides (1 + how_many p) (1 + how_many t) x y (alone_actual x p h) (alone y t k) (let f = h.fields in omega (arith, f)) (let f = k.fields in omega (arith, f))
-closed x p (item (inner u) t) h k = no_first ((1 + how_many t) == (1 + how_many p))
+closed x p (item (inner u) t) h k = no_key (1 + how_many p) x ∙ no_first ((1 + how_many t) == (1 + how_many p))
 
 pub closed_key : (p : TemplateTree) (t : TupleTree) (key : List ℕ) → template_key p ≡ Some key → IsTemplate p → IsTuple t → bytes_eq (tuple_key t) key ≡ is_candidate p t
 closed_key none t key e h k = absurd (let g : ⊥ = cc in g)

@@ -16,6 +16,7 @@ pub mod Fronts
 pub mod Loading
 pub mod Restoring
 pub mod Wording
+pub mod Firsts
 pub mod Keying
 pub mod Trees
 pub mod Storing

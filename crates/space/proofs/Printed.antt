@@ -7,7 +7,7 @@ use Rattle.std.specs.Map.{lookup}
 use Rattle.std.specs.BTreeMap.{is_at}
 use Rattle.std.proofs.lemmas.List.{map-set, map-append, length-map, get_or_default}
 use Rattle.std.proofs.Math.ListN.{get_or-map}
-use Rattle.tuple_tree.specs.Items.{Item, leaf, Items, none, item, as_list}
+use Rattle.tuple_tree.specs.Items.{Item, leaf, none, item, as_list}
 use Rattle.tuple_tree.specs.Values.{Datum, Slot, actual, formal, TupleTree, TemplateTree}
 use Rattle.tuple_tree.specs.declared.atoms.Kind.{Kind}
 use Rattle.template_match.specs.Matches.{Matches, FieldMatches}
@@ -21,9 +21,6 @@ use Rattle.space.specs.declared.prints.Label.{Label}
 use Rattle.space.specs.declared.prints.Wanted.{Wanted}
 use Rattle.space.proofs.InOrder.{lookup-in_order}
 use Rattle.space.proofs.Places.{found_there}
-
-pub first_seen : {L : Type 0} (t u : Items L) (x : Item L) → t ≡ item x u → slice_get (as_list t) 0 ≡ Some x
-first_seen t u x e = rw e refl
 
 -- ---- a template and the tuples that it matches
 

@@ -1,10 +1,9 @@
 -- The keys by which the index finds tuples by their first value.
 use Rattle.std.specs.Prelude.{ℕ, zero, suc, ◌+◌, ◌*◌, ◌/◌, List, [], ◌∷◌, length, drop, Option, Some, None}
-use Rattle.std.specs.Int.{w64, to_be_bytes, cast_unsigned}
 use Rattle.byteorder.specs.Endian.{little_number}
 use Rattle.tuple_tree.specs.Items.{leaf, inner, none, item, how_many}
-use Rattle.tuple_tree.specs.Values.{Datum, number, text, bytes, truth, wide, actual, any, formal, TupleTree, TemplateTree}
-use Rattle.tuple_tree.specs.Spelling.{flag, wide_bytes}
+use Rattle.tuple_tree.specs.Values.{Datum, actual, any, formal, TupleTree, TemplateTree}
+use Rattle.tuple_tree.specs.Spelling.{datum_spelling}
 
 -- all bytes, if there are any, as one number
 abbrev pub last_word : List ℕ → List ℕ
@@ -16,27 +15,13 @@ unfoldable pub words : ℕ → List ℕ → List ℕ
 words zero bs = last_word bs
 words (suc n) bs = little_number 8 bs ∷ words n (drop 8 bs)
 
--- the tag and the bytes of a value
-abbrev pub datum_tag : Datum → ℕ
-datum_tag (number n) = 1
-datum_tag (text s) = 2
-datum_tag (bytes s) = 3
-datum_tag (truth b) = 4
-datum_tag (wide n) = 6
-
-abbrev pub datum_bytes : Datum → List ℕ
-datum_bytes (number n) = to_be_bytes w64 (cast_unsigned w64 n)
-datum_bytes (text s) = s
-datum_bytes (bytes s) = s
-datum_bytes (truth b) = flag b ∷ []
-datum_bytes (wide n) = wide_bytes n
-
--- a count below 64, a tag below 8 and how many bytes there are, in one number, and the bytes
-abbrev pub key_of : ℕ → ℕ → List ℕ → List ℕ
-key_of count tag bs = (count + 64 * (tag + 8 * length bs)) ∷ words (length bs / 8) bs
+-- A count below 64, a value's tag below 8 and how many bytes spell it after the tag are one number. These bytes follow.
+abbrev pub key_of : ℕ → List ℕ → List ℕ
+key_of count [] = []
+key_of count (tag ∷ bs) = (count + 64 * (tag + 8 * length bs)) ∷ words (length bs / 8) bs
 
 abbrev pub datum_key : ℕ → Datum → List ℕ
-datum_key count x = key_of count (datum_tag x) (datum_bytes x)
+datum_key count x = key_of count (datum_spelling x)
 
 -- how many values there are, and the first one, if it is no tuple
 abbrev pub tuple_key : TupleTree → List ℕ

@@ -7,6 +7,7 @@ pub mod Births
 pub mod Candidates
 pub mod Counted
 pub mod Filing
+pub mod Firsts
 pub mod Found
 pub mod KeyBirths
 pub mod Keys

@@ -26,6 +26,11 @@ value_print None = 0
 value_print (Some (leaf x)) = datum_print x
 value_print (Some (inner t)) = 0
 
+-- the same of a value that is read at the front of bytes
+abbrev pub front_print : Option Datum → ℕ
+front_print None = 0
+front_print (Some x) = datum_print x
+
 -- what the second value tells
 abbrev pub tuple_print : TupleTree → ℕ
 tuple_print t = value_print (slice_get (as_list t) 1)

@@ -1,16 +1,15 @@
 //! Keys of numbers.
 
-ghost use Rattle.std.specs.Prelude.{◌≡◌, ◌+◌, ◌*◌, ◌≤◌, ◌<◌, ◌++◌, ◌∷◌, [], length, ◌/◌, Some, None, if◌then◌else◌};
+ghost use Rattle.std.specs.Prelude.{◌≡◌, ◌+◌, ◌*◌, ◌≤◌, ◌<◌, ◌++◌, ◌∷◌, [], length, ◌/◌, Some, None, option_map, if◌then◌else◌};
 ghost use Rattle.tuple_tree.specs.Items.{whole_length};
 ghost use Rattle.tuple_tree.specs.Values.{datum_length, slot_length, IsTemplate};
-ghost use Rattle.tuple_tree.specs.Seen.{seen_datum};
-ghost use Rattle.tuple_tree.specs.Spelling.{wide_bytes as wide_spelling};
-ghost use Rattle.space.specs.Keys.{tuple_key, template_key, datum_key, key_of, words};
+ghost use Rattle.space.specs.Firsts.{front_spelling};
+ghost use Rattle.space.specs.Keys.{tuple_key, template_key, key_of, words};
 
 use arrayvec::ArrayVec;
 use byteorder::{ByteOrder, LittleEndian};
 use std::alloc::Allocator;
-use tuple_tree::{AtomRef, FieldRef, Template, Tuple, ValueRef};
+use tuple_tree::{Template, Tuple, read_byte, skip_atom};
 
 /// A key has at most so many numbers: the first one, and those of at most 1,021 bytes, eight in each.
 pub const KEY_LEN: usize = 130;
@@ -31,10 +30,9 @@ pub fn put_tuple_key<A: Allocator, const N: usize>(tuple: &Tuple<A>, key: &mut A
     requires room { whole_length datum_length tuple.now / 8 + 2 ≤ N }
     ensures { key.new.items ≡ tuple_key tuple.now }
 {
-    let mut values = tuple.values();
-    match values.next() {
-        Some(ValueRef::Atom(atom)) => put_key(tuple.len(), &atom, key),
-        _ => {}
+    match first_value(tuple.bytes()) {
+        Some((tag, bytes)) => put_key(tuple.len(), tag, bytes, key),
+        None => {}
     }
 }
 
@@ -48,50 +46,35 @@ pub fn put_template_key<A: Allocator, const N: usize>(
     ensures value { (if result then Some key.new.items else None) ≡ template_key template.now }
     ensures valid { IsTemplate template.now }
 {
-    let mut fields = template.fields();
-    match fields.next() {
-        Some(FieldRef::Actual(atom)) => {
-            put_key(template.len(), &atom, key);
+    match first_value(template.bytes()) {
+        Some((tag, bytes)) => {
+            put_key(template.len(), tag, bytes, key);
             true
         }
-        _ => false,
+        None => false,
     }
 }
 
-/// Fills in the key of a number of fields and a first value.
-pub fn put_key<const N: usize>(count: usize, first: &AtomRef<'_>, key: &mut ArrayVec<u64, N>)
-    requires empty { key.old.items ≡ [] }
-    requires few { count ≤ 32 }
-    requires room { datum_length (seen_datum first.now) / 8 + 2 ≤ N }
-    requires fits { datum_length (seen_datum first.now) ≤ 1024 }
-    ensures { key.new.items ≡ datum_key count (seen_datum first.now) }
+// The tag and the bytes after it of the value at the front. There is none if a list or a formal stands there.
+fn first_value(bytes: &[u8]) -> Option<(u8, &[u8])>
+    ensures { option_map (λ x. x.0 ∷ x.1.now) result ≡ front_spelling bytes.now }
 {
-    match first {
-        AtomRef::Number(number) => put(key, count, 1, &number.to_be_bytes()),
-        AtomRef::Text(text) => put(key, count, 2, text),
-        AtomRef::Bytes(bytes) => put(key, count, 3, bytes),
-        AtomRef::Truth(truth) => put(key, count, 4, &[*truth as u8]),
-        AtomRef::Wide(number) => put(key, count, 6, &wide_bytes(*number)),
-    }
+    let (tag, after) = read_byte(bytes)?;
+    let rest = skip_atom(tag, after)?;
+    let (value, _) = after.split_at(after.len() - rest.len());
+    Some((tag, value))
 }
 
-#[tactic(auto, unfolding(tuple_tree::specs::Spelling::wide_bytes))]
-fn wide_bytes(number: i128) -> [u8; 16]
-    ensures { result ≡ wide_spelling number }
-{
-    number.to_be_bytes()
-}
-
-// Fills in a key by a number of fields, and the tag and the bytes of the first one.
-fn put<const N: usize>(key: &mut ArrayVec<u64, N>, count: usize, tag: u64, bytes: &[u8])
+// Fills in the key of a number of fields, and of a first value by its tag and the bytes after it.
+fn put_key<const N: usize>(count: usize, tag: u8, bytes: &[u8], key: &mut ArrayVec<u64, N>)
     requires empty { key.old.items ≡ [] }
     requires few { count ≤ 32 }
     requires tag { tag < 8 }
     requires fits { length bytes.now ≤ 1024 }
     requires room { length bytes.now / 8 + 2 ≤ N }
-    ensures { key.new.items ≡ key_of count tag bytes.now }
+    ensures { key.new.items ≡ key_of count (tag ∷ bytes.now) }
 {
-    key.push(count as u64 + 64 * (tag + 8 * bytes.len() as u64));
+    key.push(count as u64 + 64 * (tag as u64 + 8 * bytes.len() as u64));
     put_words(bytes, key);
 }
 

@@ -1,12 +1,15 @@
 //! Labels of tuples, by which most tuples that don't match are told without a look at them.
 
-ghost use Rattle.std.specs.Prelude.{◌≡◌, IsTrue, option_map, slice_get};
-ghost use Rattle.tuple_tree.specs.Items.{as_list};
-ghost use Rattle.tuple_tree.specs.Seen.{seen_datum, seen_value, seen_field};
-ghost use Rattle.space.specs.Prints.{datum_print, entry_label, first_kind, tuple_print, IsUnlike, TellsMatches};
+ghost use Rattle.std.specs.Prelude.{◌≡◌, IsTrue, IfSome, Some, option_map, slice_get};
+ghost use Rattle.tuple_tree.specs.Items.{leaf, as_list};
+ghost use Rattle.tuple_tree.specs.Values.{actual, formal, datum_kind};
+ghost use Rattle.tuple_tree.specs.Seen.{seen_datum};
+ghost use Rattle.tuple_tree.specs.Spelling.{formal_tag};
+ghost use Rattle.space.specs.Firsts.{front_at};
+ghost use Rattle.space.specs.Prints.{datum_print, front_print, entry_label, first_kind, tuple_print, IsUnlike, TellsMatches};
 
 use std::alloc::Allocator;
-use tuple_tree::{AtomRef, FieldRef, Fields, Kind, Template, Tuple, ValueRef, Values};
+use tuple_tree::{AtomRef, Kind, Template, Tuple, read_atom, read_byte, skip_field, skip_value};
 
 /// What is told of a tuple without a look at it.
 #[derive(Clone, Copy)]
@@ -53,19 +56,45 @@ pub fn is_of(label: &Label, birth: u64) -> bool {
 pub fn wanted_by<A: Allocator>(template: &Template<A>) -> Wanted
     ensures { TellsMatches template.now result }
 {
-    match second_field(template.fields()) {
-        Some(FieldRef::Actual(atom)) => Wanted::Second(print_of(&atom)),
-        _ => wanted_first(template),
+    match second_actual(template) {
+        Some(atom) => Wanted::Second(print_of(&atom)),
+        None => wanted_first(template),
     }
+}
+
+fn second_actual<A: Allocator>(template: &Template<A>) -> Option<AtomRef<'_>>
+    ensures { IfSome result (λ atom. slice_get (as_list template.now) 1 ≡ Some (leaf (actual (seen_datum atom)))) }
+{
+    front_atom(skip_field(template.bytes(), 7)?)
 }
 
 fn wanted_first<A: Allocator>(template: &Template<A>) -> Wanted
     ensures { TellsMatches template.now result }
 {
-    let mut fields = template.fields();
-    match fields.next() {
-        Some(FieldRef::Formal(kind)) => Wanted::First(kind),
-        _ => Wanted::Anything,
+    match first_formal(template) {
+        Some(kind) => Wanted::First(kind),
+        None => Wanted::Anything,
+    }
+}
+
+fn first_formal<A: Allocator>(template: &Template<A>) -> Option<Kind>
+    ensures { IfSome result (λ kind. slice_get (as_list template.now) 0 ≡ Some (leaf (formal kind))) }
+{
+    let (tag, _) = read_byte(template.bytes())?;
+    formal_kind(tag)
+}
+
+fn formal_kind(tag: u8) -> Option<Kind>
+    ensures { IfSome result (λ kind. tag ≡ formal_tag kind) }
+{
+    match tag {
+        0x11 => Some(Kind::Number),
+        0x12 => Some(Kind::Text),
+        0x13 => Some(Kind::Bytes),
+        0x14 => Some(Kind::Truth),
+        0x15 => Some(Kind::Tuple),
+        0x16 => Some(Kind::Wide),
+        _ => None,
     }
 }
 
@@ -82,28 +111,30 @@ fn is_unlike(label: &Label, wanted: &Wanted) -> bool
 fn print_of_tuple<A: Allocator>(tuple: &Tuple<A>) -> u64
     ensures { result ≡ tuple_print tuple.now }
 {
-    match second_value(tuple.values()) {
-        Some(ValueRef::Atom(atom)) => print_of(&atom),
-        _ => 0,
+    match skip_value(tuple.bytes(), 7) {
+        Some(rest) => print_at(rest),
+        None => 0,
     }
 }
 
-fn second_value<'b>(values: Values<'b>) -> Option<ValueRef<'b>>
-    ensures { option_map (λ v. seen_value v) result ≡ slice_get (as_list values.entry) 1 }
+// What the value at the front tells.
+fn print_at(bytes: &[u8]) -> u64
+    ensures { result ≡ front_print (front_at bytes.now) }
 {
-    let mut left = values;
-    match left.next() {
-        Some(_) => left.next(),
-        None => None,
+    match front_atom(bytes) {
+        Some(atom) => print_of(&atom),
+        None => 0,
     }
 }
 
-fn second_field<'b>(fields: Fields<'b>) -> Option<FieldRef<'b>>
-    ensures { option_map (λ f. seen_field f) result ≡ slice_get (as_list fields.entry) 1 }
+// The value at the front, unless a list or a formal stands there.
+#[tactic(auto, unfolding(crate::specs::Firsts::front_at))]
+fn front_atom(bytes: &[u8]) -> Option<AtomRef<'_>>
+    ensures { option_map (λ atom. seen_datum atom) result ≡ front_at bytes.now }
 {
-    let mut left = fields;
-    match left.next() {
-        Some(_) => left.next(),
+    let (tag, rest) = read_byte(bytes)?;
+    match read_atom(tag, rest) {
+        Some((atom, _)) => Some(atom),
         None => None,
     }
 }
@@ -112,10 +143,21 @@ fn second_field<'b>(fields: Fields<'b>) -> Option<FieldRef<'b>>
 fn first_kind<A: Allocator>(tuple: &Tuple<A>) -> Kind
     ensures { result ≡ first_kind tuple.now }
 {
-    let mut values = tuple.values();
-    match values.next() {
-        Some(value) => value.kind(),
+    match front_atom(tuple.bytes()) {
+        Some(atom) => kind_of(&atom),
         None => Kind::Tuple,
+    }
+}
+
+fn kind_of(atom: &AtomRef<'_>) -> Kind
+    ensures { result ≡ datum_kind (seen_datum atom.now) }
+{
+    match atom {
+        AtomRef::Number(_) => Kind::Number,
+        AtomRef::Text(_) => Kind::Text,
+        AtomRef::Bytes(_) => Kind::Bytes,
+        AtomRef::Truth(_) => Kind::Truth,
+        AtomRef::Wide(_) => Kind::Wide,
     }
 }
 
