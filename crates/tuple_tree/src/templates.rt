@@ -273,7 +273,8 @@ impl<A: Allocator> Template<A> {
     }
 
     // Adds a field at the end. A refusal leaves the template as it was.
-    #[inline]
+    // Inlined, so that one arm is left where the kind is known.
+    #[inline(always)]
     fn add(&mut self, field: &Field<A>) -> Result<(), Refusal>
         ensures ok { OnOk result (self.new ≡ with_last self.old (field_of field.now)) }
         ensures err { OnErr result (self.new ≡ self.old) }

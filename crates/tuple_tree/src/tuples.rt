@@ -235,7 +235,8 @@ impl<A: Allocator> Tuple<A> {
     }
 
     // Adds a value at the end. A refusal leaves the tuple as it was.
-    #[inline]
+    // Inlined, so that one arm is left where the kind is known.
+    #[inline(always)]
     fn add(&mut self, value: &Value<A>) -> Result<(), Refusal>
         ensures ok { OnOk result (self.new ≡ with_last self.old (value_of value.now)) }
         ensures err { OnErr result (self.new ≡ self.old) }
