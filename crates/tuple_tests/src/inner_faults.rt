@@ -139,12 +139,14 @@ fn inner_faults_with_plenty_of_memory(rt: HostRuntime) {
     assert_eq!(rt; refusal_of_all(&alloc, WHOLE.as_slice(), None), None);
 }
 
-// A heap of no bytes refuses whatever it is asked for.
+// A heap whose only block is taken refuses whatever it is asked for.
 #[test]
 fn inner_faults_without_memory(rt: HostRuntime) -> Result<(), Fail> {
     let heap = LocalHeap::new(rt.alloc(), 0)?;
+    let taken: Vec<u8, &LocalHeap> = Vec::with_capacity(&heap, 1)?;
     let faulty = refusal_of_all(&heap, FAULTS.as_slice(), Some(Bad::Malformed));
     let whole = refusal_of_all(&heap, WHOLE.as_slice(), Some(Bad::NoMemory));
+    drop(taken);
     drop(heap);
     assert!(rt; faulty == Some(Bad::Malformed));
     assert!(rt; whole == Some(Bad::NoMemory));

@@ -1,7 +1,8 @@
 //! How much memory calls take. Their results fill a heap, so they take no more beside them, not even for a while. In
 //! a heap with one block less they say that memory ran out.
 //!
-//! A heap hands out blocks of multiples of 16 bytes. So each list of four is one block, and each short string another.
+//! A heap hands out blocks of multiples of 16 bytes. A tuple or template is one block, with the spellings of its items
+//! and without their count, whatever is nested in it. An empty one has no block.
 
 use crate::items::{Item, Sort, copied, read, write};
 use linked_list_allocator::LocalHeap;
@@ -9,20 +10,16 @@ use std::alloc::{AllocError, Global};
 use std::mem::size_of;
 use std::test::Fail;
 use tuple_codec::Bad;
-use tuple_tree::{Field, Tuple, Value};
+use tuple_tree::Tuple;
 
 type Heap = &'static LocalHeap;
 
-// The room of four values, of four fields, of four tuples, and of a string of up to 16 bytes.
-const VALUES: usize = 4 * size_of::<Value<Heap>>();
-
-const FIELDS: usize = 4 * size_of::<Field<Heap>>();
+// The unit of a heap's blocks, and the room of four tuples.
+const UNIT: usize = 16;
 
 const TUPLES: usize = 4 * size_of::<Tuple<Heap>>();
 
-const STRING: usize = 16;
-
-// The sort of a value, its spelling, and the room for its parts.
+// The sort of a value, its spelling, and the room for its blocks.
 type Row<'a> = (Sort, &'a [u8], usize);
 
 static ROWS: [Row<'static>; 6] = [
@@ -30,37 +27,37 @@ static ROWS: [Row<'static>; 6] = [
     (
         Sort::Tuple,
         b"\x04\x01\0\0\0\0\0\0\0\x01\x02\0\x01a\x03\0\x01\x09\x04\x01",
-        VALUES + 2 * STRING,
+        2 * UNIT,
     ),
     // (("a" "b" "c" "d") x09 x0a "e")
     (
         Sort::Tuple,
         b"\x04\x05\x04\x02\0\x01a\x02\0\x01b\x02\0\x01c\x02\0\x01d\x03\0\x01\x09\x03\0\x01\x0a\x02\0\x01e",
-        2 * VALUES + 7 * STRING,
+        2 * UNIT,
     ),
-    // (* ?text (* * * "a") "b")
+    // (* ?text (* * * "a") "bcd")
     (
         Sort::Template,
-        b"\x04\x10\x12\x05\x04\x10\x10\x10\x02\0\x01a\x02\0\x01b",
-        2 * FIELDS + 2 * STRING,
+        b"\x04\x10\x12\x05\x04\x10\x10\x10\x02\0\x01a\x02\0\x03bcd",
+        2 * UNIT,
     ),
     // cas ("k" * * *) ("k" 1 true "l")
     (
         Sort::Op,
         b"\x24\x04\x02\0\x01k\x10\x10\x10\x04\x02\0\x01k\x01\0\0\0\0\0\0\0\x01\x04\x01\x02\0\x01l",
-        FIELDS + VALUES + 3 * STRING,
+        3 * UNIT,
     ),
-    // found ("k" true true true)
+    // found ("a longer" true true true)
     (
         Sort::Answer,
-        b"\x32\x04\x02\0\x01k\x04\x01\x04\x01\x04\x01",
-        VALUES + STRING,
+        b"\x32\x04\x02\0\x08a longer\x04\x01\x04\x01\x04\x01",
+        2 * UNIT,
     ),
     // all 4 () () (true true true true) ()
     (
         Sort::Answer,
         b"\x35\x04\0\0\x04\x04\x01\x04\x01\x04\x01\x04\x01\0",
-        TUPLES + VALUES,
+        TUPLES + UNIT,
     ),
 ];
 
@@ -78,7 +75,7 @@ fn fills(alloc: Global, (sort, bytes, room): Row<'_>) -> Result<bool, AllocError
 }
 
 fn wants_all(alloc: Global, (sort, bytes, room): Row<'_>) -> Result<bool, AllocError> {
-    let heap = LocalHeap::new(alloc, room.saturating_sub(STRING))?;
+    let heap = LocalHeap::new(alloc, room.saturating_sub(UNIT))?;
     Ok(decoded(&heap, sort, bytes) == Err(Bad::NoMemory) && heap.used() == 0)
 }
 

@@ -72,8 +72,9 @@ fn values<A: Allocator + Clone>(alloc: A) -> Result<bool, Bad> {
 fn fields<A: Allocator + Clone>(alloc: A) -> Result<bool, Bad> {
     let mut template: Template<A> = Template::new_in(alloc);
     for number in 0..PUSHES {
-        if let Err(pushed) = template.push(Field::Any) {
-            let is_back = matches!(&pushed.value, Field::Any);
+        if let Err(pushed) = template.push(Field::Actual(Atom::Number(i64::from(number)))) {
+            let is_back =
+                matches!(&pushed.value, Field::Actual(Atom::Number(n)) if *n == i64::from(number));
             return refused(
                 pushed.refusal,
                 is_back && template.len() == usize::from(number),
