@@ -4,7 +4,7 @@ use Rattle.wire.specs.Messages.{FrameData}
 use Rattle.wire.specs.Spelling.{SpellsFrame}
 use Rattle.authenticator.specs.declared.sealed.OpenFault.{OpenFault}
 use Rattle.authenticator.specs.declared.sealed.OpenFault.TheVariants as faults
-use Rattle.wire.specs.Messages.{MessageData, request, pre_prepare, prepare, commit, checkpoint, view_change, new_view, reply, fetch, meta, page}
+use Rattle.wire.specs.Messages.{MessageData, request}
 use Rattle.wire.specs.Headers.{HeaderData, header_of, asks, HasHeader}
 use Rattle.wire.proofs.Whole.{one_frame}
 use Rattle.authenticator.specs.Headers.{takes_part, header_refusal}
@@ -49,16 +49,7 @@ module _ (m : Membership) (party : ℕ) (bytes : List ℕ) (frame : FrameData) (
 
 pub sends_so : (m : Membership) (party : ℕ) (message : MessageData) → takes_part m party (asks message) ≡ sends m party message
 sends_so m party (request timestamp mode operation) = refl
-sends_so m party (pre_prepare view number batch) = refl
-sends_so m party (prepare view number digest) = refl
-sends_so m party (commit view number digest) = refl
-sends_so m party (checkpoint number root) = refl
-sends_so m party (view_change c) = refl
-sends_so m party (new_view n) = refl
-sends_so m party (reply client timestamp kind number outcome) = refl
-sends_so m party (fetch number level index) = refl
-sends_so m party (meta number level index digests) = refl
-sends_so m party (page number index text) = refl
+sends_so m party _ = refl
 
 refusal_so : (m : Membership) (party : ℕ) (frame : FrameData) → header_refusal m party (header_of frame) ≡ refusal m party frame
 refusal_so m party frame = ap (λ known. by_tests known (may_open m.seed party frame)) (sends_so m frame.body.sender frame.body.message)

@@ -3,7 +3,7 @@ use Rattle.std.proofs.Common.{◌≡◌, refl, false, ◌<◌, ◌≤◌, ℕ, �
 use Rattle.std.proofs.lemmas.List.{length-map}
 use Rattle.wire.specs.Lists.{Each, each_spelling, leads, ascends}
 use Rattle.wire.specs.Counts.{CountsFit}
-use Rattle.wire.specs.Messages.{BodyData, MacData, macs, MessageData, request, pre_prepare, prepare, commit, checkpoint, view_change, new_view, reply, fetch, meta, page}
+use Rattle.wire.specs.Messages.{BodyData, MacData, macs, MessageData, view_change, new_view}
 use Rattle.wire.specs.Spelling.{SpellsFrame, IsMac, mac_spelling, mac_before, body_spelling, authenticator_spelling, piece, frame_limit, frame_spelling, is_signed}
 use Rattle.authenticator.specs.Keys.{key_between}
 use Rattle.authenticator.specs.Sealing.{IsSealable, IsTooLong, entry_for, sealed_for}
@@ -67,12 +67,4 @@ sealed-short seed body ps short long = let over = sealed-over seed body ps long 
 pub counts_fit : (m : MessageData) → is_signed m ≡ false → CountsFit m
 counts_fit (view_change c) unsigned = absurd cc
 counts_fit (new_view n) unsigned = absurd cc
-counts_fit (request timestamp mode operation) unsigned = tt
-counts_fit (pre_prepare view number batch) unsigned = tt
-counts_fit (prepare view number digest) unsigned = tt
-counts_fit (commit view number digest) unsigned = tt
-counts_fit (checkpoint number root) unsigned = tt
-counts_fit (reply client timestamp kind number outcome) unsigned = tt
-counts_fit (fetch number level index) unsigned = tt
-counts_fit (meta number level index digests) unsigned = tt
-counts_fit (page number index text) unsigned = tt
+counts_fit _ unsigned = tt

@@ -14,7 +14,7 @@ use Rattle.protocol.specs.System.Trace.{Entry, Has}
 use Rattle.wire.specs.Lists.{Each}
 use Rattle.protocol.specs.Replica.Certificates.{low, is_in_marks, logged}
 use Rattle.protocol.proofs.Agreement.Marks.{low_grows}
-use Rattle.protocol.proofs.Words.Elements.{each_has, has_some, has_weaker}
+use Rattle.protocol.proofs.Words.Elements.{each_has, has_some, has_weaker, each_where, each_weaker}
 use Rattle.claims.specs.Recording.{same_number, same_name, later_of, with_claim, with_prepared, with_logged, with_all, above_mark, IsPreparedAs, IsLoggedAs, Adds, Ascends, IsLatest, IsEach, AreDigests, MovesUp, RecordsBegin, LatestIsRecorded, EachIsRecorded, PreparedIsRecorded, LoggedIsRecorded, RecordsAreLists}
 use Rattle.claims.proofs.ByteOrder.{bytes_trans, bytes_irreflexive}
 
@@ -92,10 +92,6 @@ each_with before same P new (x ∷ xs) h p = go (same x new) (before new x) (eac
     go false true below = (p, h)
     go false false below = (h.0, below)
 
-pub weaker : {A : Type 0} (P Q : A → Type 0) → ((x : A) → P x → Q x) → (xs : List A) → Each P xs → Each Q xs
-weaker P Q f [] h = tt
-weaker P Q f (x ∷ xs) h = (f x h.0, weaker P Q f xs h.1)
-
 pub ascends_with : (before same : Claim → Claim → Bool) → IsOrder before same → (new : Claim) (claims : List Claim) → Each (λ x. length x.digest ≡ length new.digest) claims → Ascends before claims → Ascends before (with_claim before same new claims)
 ascends_with before same order new [] long up = (tt, tt)
 ascends_with before same order new (x ∷ xs) long up = go (same x new) refl (before new x) refl (ascends_with before same order new xs long.1 up.1)
@@ -103,8 +99,8 @@ ascends_with before same order new (x ∷ xs) long up = go (same x new) refl (be
     go : (b : Bool) → same x new ≡ b → (d : Bool) → before new x ≡ d → Ascends before (with_claim before same new xs)
         → Ascends before (cond b (later_of x new ∷ xs) (cond d (new ∷ x ∷ xs) (x ∷ with_claim before same new xs)))
     go true e d f below =
-        (later_is (λ (z : Claim). Each (λ y. before z y ≡ true) xs) x new up.0 (weaker (λ y. before x y ≡ true) (λ y. before new y ≡ true) (λ y l. order.first x new y e l) xs up.0), up.1)
-    go false e true f below = ((f, weaker (λ y. before x y ≡ true) (λ y. before new y ≡ true) (λ y l. order.trans new x y f l) xs up.0), up)
+        (later_is (λ (z : Claim). Each (λ y. before z y ≡ true) xs) x new up.0 (each_weaker (λ y. before x y ≡ true) (λ y. before new y ≡ true) (λ y l. order.first x new y e l) xs up.0), up.1)
+    go false e true f below = ((f, each_weaker (λ y. before x y ≡ true) (λ y. before new y ≡ true) (λ y l. order.trans new x y f l) xs up.0), up)
     go false e false f below = (each_with before same (λ y. before x y ≡ true) new xs up.0 (order.total x new long.0 e f), below)
 
 -- each earlier claim is there, or a later one that names the same; and the new one, or a later one
@@ -232,10 +228,6 @@ by_name = record {
 abbrev With : (ℕ → ℕ → List ℕ → Type 0) → Claim → ℕ → ℕ → List ℕ → Type 0
 With holds new v i digest = holds v i digest ⊎ ((new.view ≡ v) × (new.number ≡ i) × (new.digest ≡ digest))
 
-pub each_of : {A : Type 0} (P : A → Type 0) (xs : List A) → ((x : A) → Has (λ y. y ≡ x) xs → P x) → Each P xs
-each_of P [] f = tt
-each_of P (x ∷ xs) f = (f x (inl refl), each_of P xs (λ y has. f y (inr has)))
-
 -- a claim of the longer list is still the latest of its number
 latest_listed : (holds : ℕ → ℕ → List ℕ → Type 0) (in_marks : ℕ → Bool) (new : Claim) (claims : List Claim) → in_marks new.number ≡ true → IsLatest holds in_marks claims
     → (y : Claim) → Stands same_number new claims y
@@ -292,7 +284,7 @@ latest_with holds in_marks new claims digests long marked old = record {
   listed = λ claim has. latest_listed holds in_marks new claims marked old claim (stands batch_entry_before same_number by_number new claims claim old.ascending has);
   all = all;
   ascending = ascends_with batch_entry_before same_number by_number new claims
-      (each_of (λ (x : Claim). length x.digest ≡ length new.digest) claims (λ x has. digests x.view x.number x.digest (old.listed x has).0 ∙ sym long)) old.ascending;
+      (each_where (λ (x : Claim). length x.digest ≡ length new.digest) claims (λ x has. digests x.view x.number x.digest (old.listed x has).0 ∙ sym long)) old.ascending;
 }
   where
     all : (v i : ℕ) (digest : List ℕ) → in_marks i ≡ true → With holds new v i digest → Has (λ (x : Claim). x.number ≡ i) (with_prepared new claims)
@@ -308,7 +300,7 @@ each_with_one holds in_marks new claims digests long marked old = record {
   listed = λ claim has. listed claim (stands named_before same_name by_name new claims claim old.ascending has);
   all = all;
   ascending = ascends_with named_before same_name by_name new claims
-      (each_of (λ (x : Claim). length x.digest ≡ length new.digest) claims (λ x has. digests x.view x.number x.digest (old.listed x has).0 ∙ sym long)) old.ascending;
+      (each_where (λ (x : Claim). length x.digest ≡ length new.digest) claims (λ x has. digests x.view x.number x.digest (old.listed x has).0 ∙ sym long)) old.ascending;
 }
   where
     listed : (y : Claim) → Stands same_name new claims y → With holds new y.view y.number y.digest × (in_marks y.number ≡ true)
@@ -484,14 +476,14 @@ is_added before after in_marks new adds v i digest (inr h) =
 prepared_digests : (c : Configuration) (me : ℕ) (past : List Entry) → AreDigests (IsPreparedAs c me past)
 prepared_digests c me past v i digest h = ap length (sym h.2) ∙ length-sha256 h.0
 
-logged_digests : (c : Configuration) (me : ℕ) (past : List Entry) → AreDigests (IsLoggedAs c me past)
+pub logged_digests : (c : Configuration) (me : ℕ) (past : List Entry) → AreDigests (IsLoggedAs c me past)
 logged_digests c me past v i digest h = ap length (sym h.2) ∙ length-sha256 h.0
 
 pub latest_is_recorded : LatestIsRecorded
 latest_is_recorded before after in_marks later low claims new digests fresh up old adds =
     latest_same (WithAll before new) after later (with_all with_prepared new (above_mark low claims)) (is_added before after later new adds) adds.only
     (latest_all new before later (above_mark low claims) digests
-    (weaker (λ (x : Claim). after x.view x.number x.digest × (later x.number ≡ true)) (λ (x : Claim). (length x.digest ≡ 32) × (later x.number ≡ true))
+    (each_weaker (λ (x : Claim). after x.view x.number x.digest × (later x.number ≡ true)) (λ (x : Claim). (length x.digest ≡ 32) × (later x.number ≡ true))
     (λ x h. (fresh x.view x.number x.digest h.0, h.1)) new adds.new)
     (latest_cut before in_marks later low claims up old))
 
@@ -499,7 +491,7 @@ pub each_is_recorded : EachIsRecorded
 each_is_recorded before after in_marks later low claims new digests fresh up old adds =
     each_same (WithAll before new) after later (with_all with_logged new (above_mark low claims)) (is_added before after later new adds) adds.only
     (each_all new before later (above_mark low claims) digests
-    (weaker (λ (x : Claim). after x.view x.number x.digest × (later x.number ≡ true)) (λ (x : Claim). (length x.digest ≡ 32) × (later x.number ≡ true))
+    (each_weaker (λ (x : Claim). after x.view x.number x.digest × (later x.number ≡ true)) (λ (x : Claim). (length x.digest ≡ 32) × (later x.number ≡ true))
     (λ x h. (fresh x.view x.number x.digest h.0, h.1)) new adds.new)
     (each_cut before in_marks later low claims up old))
 
@@ -529,7 +521,7 @@ all_of P (x ∷ xs) h (suc k) d l = all_of P xs h.1 k d (omega arith)
 
 pairs_of : (before : Claim → Claim → Bool) (R : Claim → Claim → Type 0) → ((x y : Claim) → before x y ≡ true → R x y) → (xs : List Claim) → Ascends before xs → AllPairs R xs
 pairs_of before R f [] h = λ i j d less within. absurd (omega arith)
-pairs_of before R f (x ∷ xs) h = AllPairs-cons R x xs (all_of (R x) xs (weaker (λ y. before x y ≡ true) (R x) (λ y t. f x y t) xs h.0)) (pairs_of before R f xs h.1)
+pairs_of before R f (x ∷ xs) h = AllPairs-cons R x xs (all_of (R x) xs (each_weaker (λ y. before x y ≡ true) (R x) (λ y t. f x y t) xs h.0)) (pairs_of before R f xs h.1)
 
 pub records_are_lists : RecordsAreLists
 records_are_lists c me past prepared logged p q = (

@@ -10,11 +10,11 @@ use Rattle.sha2.proofs.Facts256.{length-sha256}
 use Rattle.wire.specs.Lists.{Each, ascends}
 use Rattle.wire.specs.Messages.{BatchEntryData as Claim}
 use Rattle.wire.specs.Spelling.{batch_entry_before, named_before}
-use Rattle.protocol.proofs.Words.Elements.{each_append}
+use Rattle.protocol.proofs.Words.Elements.{each_append, each_where, each_weaker}
 use Rattle.claims.specs.declared.claim.Claim.{Claim as Kept}
 use Rattle.claims.specs.ClaimsView.{claims_of, digests_of, texts_in, IsAmong}
 use Rattle.claims.specs.Recording.{same_number, same_name, with_prepared, with_logged, above_mark, Ascends}
-use Rattle.claims.proofs.Keeping.{ascends_with, ascends_left, by_number, by_name, each_of, weaker}
+use Rattle.claims.proofs.Keeping.{ascends_with, ascends_left, by_number, by_name}
 
 adjacent : (before : Claim → Claim → Bool) (xs : List Claim) → Ascends before xs → ascends before xs ≡ true
 adjacent before [] h = refl
@@ -32,7 +32,7 @@ named [] = tt
 named (x ∷ xs) = (ap length x.named ∙ length-sha256 (arc_value x.batch), named xs)
 
 as_long : (n : ℕ) (claims : List Claim) → n ≡ 32 → Each (λ (x : Claim). length x.digest ≡ 32) claims → Each (λ (x : Claim). length x.digest ≡ n) claims
-as_long n claims is long = weaker (λ (x : Claim). length x.digest ≡ 32) (λ (x : Claim). length x.digest ≡ n) (λ x e. e ∙ sym is) claims long
+as_long n claims is long = each_weaker (λ (x : Claim). length x.digest ≡ 32) (λ (x : Claim). length x.digest ≡ n) (λ x e. e ∙ sym is) claims long
 
 pub prepared_ascends : (claims : List Kept) (new : Claim) → length new.digest ≡ 32 → Ascends batch_entry_before (claims_of claims) → Ascends batch_entry_before (with_prepared new (claims_of claims))
 prepared_ascends claims new long up =
@@ -67,10 +67,10 @@ texts_named (x ∷ xs) = ap₂ (λ (d : List ℕ) (ds : List (List ℕ)). d ∷ 
 -- ---- texts of the claims
 
 among_all : (texts : List (List ℕ)) → Each (IsAmong texts) texts
-among_all texts = each_of (IsAmong texts) texts (λ x has. has)
+among_all texts = each_where (IsAmong texts) texts (λ x has. has)
 
 among_more : (one : List ℕ) (texts some : List (List ℕ)) → Each (IsAmong texts) some → Each (IsAmong (one ∷ texts)) some
-among_more one texts some h = weaker (IsAmong texts) (IsAmong (one ∷ texts)) (λ x has. inr has) some h
+among_more one texts some h = each_weaker (IsAmong texts) (IsAmong (one ∷ texts)) (λ x has. inr has) some h
 
 pub texts_same : (one : List ℕ) (texts : List (List ℕ)) → Each (IsAmong (one ∷ texts)) texts
 texts_same one texts = among_more one texts texts (among_all texts)

@@ -10,15 +10,16 @@ use Rattle.terms.specs.declared.order.Mode.TheVariants as modes
 use Rattle.tuple_codec.specs.Operations.{Outcome}
 use Rattle.tuple_codec.specs.Spelling.{outcome_spelling}
 use Rattle.wire.specs.Headers.{HeaderData, HasHeader}
-use Rattle.wire.specs.Messages.{BodyData as Body, MessageData, request, pre_prepare, prepare, commit, checkpoint, view_change, new_view, reply, fetch, meta, page, AuthenticatorData, macs, signature, FrameData}
+use Rattle.wire.specs.Messages.{BodyData as Body, MessageData, reply, FrameData}
 use Rattle.wire.specs.Spelling.{IsMessage, SpellsFrame, authenticator_is_signed, body_spelling, frame_spelling, is_signed, message_type, mode_byte}
 use Rattle.authenticator.specs.declared.sealed.OpenFault.{OpenFault}
 use Rattle.authenticator.specs.Headers.{header_refusal}
 use Rattle.authenticator.specs.Membership.{Membership}
 use Rattle.signing.specs.Heard.{heard}
-use Rattle.signing.specs.Hearing.{authenticator_holds, signature_holds}
+use Rattle.signing.specs.Hearing.{signature_holds}
 use Rattle.signing.proofs.Heard.{heard_was_opened}
 use Rattle.signing.proofs.Opened.{heard_by_header, own_not_heard, refused_not_heard}
+use Rattle.signing.proofs.Requests.{macs_hold, none_given}
 use Rattle.protocol.specs.Client.RightClient.{Vote, vote_of}
 use Rattle.client_cert.specs.declared.hearing.Heard.{Heard}
 use Rattle.client_cert.specs.Hearing.{HearsAnswer, HearsVote, is_for, mode_of}
@@ -57,16 +58,7 @@ record IsReply (message : MessageData) : Type 0 where
 is_reply : (message : MessageData) → (message_type message == 0x48) ≡ true → IsReply message
 is_reply (reply client timestamp kind number answer) e =
     record { client = client; timestamp = timestamp; kind = kind; number = number; answer = answer; is = refl }
-is_reply (request timestamp mode operation) e = absurd (let g : ⊥ = cc in g)
-is_reply (pre_prepare view number batch) e = absurd (let g : ⊥ = cc in g)
-is_reply (prepare view number digest) e = absurd (let g : ⊥ = cc in g)
-is_reply (commit view number digest) e = absurd (let g : ⊥ = cc in g)
-is_reply (checkpoint number root) e = absurd (let g : ⊥ = cc in g)
-is_reply (view_change v) e = absurd (let g : ⊥ = cc in g)
-is_reply (new_view n) e = absurd (let g : ⊥ = cc in g)
-is_reply (fetch number level index) e = absurd (let g : ⊥ = cc in g)
-is_reply (meta number level index digests) e = absurd (let g : ⊥ = cc in g)
-is_reply (page number index text) e = absurd (let g : ⊥ = cc in g)
+is_reply _ e = absurd (let g : ⊥ = cc in g)
 
 mode_back : (kind : Mode) → mode_of (mode_byte kind) ≡ kind
 mode_back modes.Ordered = refl
@@ -120,9 +112,6 @@ module _ (bytes : List ℕ) (frame : FrameData) (spells : SpellsFrame bytes fram
     text_is : text ≡ body_spelling (record { sender = frame.body.sender; message = reply r.client r.timestamp r.kind r.number r.answer })
     text_is = is ∙ ap (λ message. body_spelling (record { sender = frame.body.sender; message = message })) r.is
 
-    text_length : 22 ≤ length text
-    text_length = longer 21 text (ap (λ bs. has_item (drop 21 bs)) text_is)
-
     mode_is : mode_of (slice_index text 13) ≡ r.kind
     mode_is = ap (λ bs. mode_of (slice_index bs 13)) text_is ∙ mode_back r.kind
 
@@ -147,16 +136,7 @@ unread me t s sender client timestamp number kind answer e =
 -- a message of another type brings no vote
 typed_votes : (me t s sender : ℕ) (x : MessageData) → (message_type x == 0x48) ≡ false → vote_of me t s (record { sender = sender; message = x }) ≡ None
 typed_votes me t s sender (reply client timestamp kind number outcome) e = absurd cc
-typed_votes me t s sender (request timestamp mode operation) e = refl
-typed_votes me t s sender (pre_prepare view number batch) e = refl
-typed_votes me t s sender (prepare view number digest) e = refl
-typed_votes me t s sender (commit view number digest) e = refl
-typed_votes me t s sender (checkpoint number root) e = refl
-typed_votes me t s sender (view_change v) e = refl
-typed_votes me t s sender (new_view n) e = refl
-typed_votes me t s sender (fetch number level index) e = refl
-typed_votes me t s sender (meta number level index digests) e = refl
-typed_votes me t s sender (page number index text) e = refl
+typed_votes me t s sender _ e = refl
 
 -- nor does a frame of replies that is for another party or call
 frame_votes : (me t s : ℕ) (bytes : List ℕ) (frame : FrameData) → SpellsFrame bytes frame → is_for me t bytes ≡ false → vote_of me t s frame.body ≡ None
@@ -179,16 +159,6 @@ hears_no_call m me t bytes other s = go (heard m me bytes) refl
         ap (vote_of me t s) (sym was.body_is) ∙ frame_votes me t s bytes was.frame was.opens.spelled other
 
 -- ---- a reply to the call
-
--- MACs are no signature that could fail
-macs_hold : (seed text : List ℕ) (sender : ℕ) (authenticator : AuthenticatorData) → authenticator_is_signed authenticator ≡ false
-    → authenticator_holds seed sender text authenticator ≡ true
-macs_hold seed text sender (macs entries) plain = refl
-macs_hold seed text sender (signature s) plain = absurd (let g : ⊥ = cc in g)
-
-none_given : (refusal : Option OpenFault) → is_some refusal ≡ false → None ≡ refusal
-none_given None e = refl
-none_given (Some fault) e = absurd (let g : ⊥ = cc in g)
 
 body_is : (body : Body) (sender : ℕ) (message : MessageData) → body.sender ≡ sender → body.message ≡ message
     → body ≡ record { sender = sender; message = message }
@@ -217,9 +187,6 @@ module _ (me t : ℕ) (bytes : List ℕ) (header : HeaderData) (has : HasHeader 
 
   text_of : header.text ≡ body_spelling frame.body
   text_of = ap (λ (h : HeaderData). h.text) has.2
-
-  pub has_long_text : 22 ≤ length header.text
-  has_long_text = text_length bytes frame has.1 the_reply header.text text_of
 
   is_mine : (the_reply.client ≡ me) × (the_reply.timestamp ≡ t)
   is_mine =

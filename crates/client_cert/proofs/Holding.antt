@@ -15,28 +15,8 @@ use Rattle.protocol.specs.System.Frames.{same_mode}
 use Rattle.protocol.specs.System.Trace.{Entry}
 use Rattle.protocol.specs.System.Trace.Entry.{Invoke, Got, Tick, Sent, Accepted}
 use Rattle.protocol.specs.Client.RightClient.{Vote, vote_of, later_vote, latest, went_ordered, is_ordered_request}
-use Rattle.client_cert.specs.State.{Adds, Ballot, CallState, Takes, ballot_of, ballots_of, held, went}
+use Rattle.client_cert.specs.State.{CallState, Takes, ballot_of, ballots_of, held, went}
 use Rattle.client_cert.specs.Fits.{Holds}
-
--- ---- one more reply
-
-pub takes_ordered : (old new : CallState) (sender : ℕ) (ballot : Ballot) → new.op ≡ old.op → new.ordered ≡ old.ordered
-    → Adds old.ordered_ballots sender ballot new.ordered_ballots → new.read_ballots ≡ old.read_ballots
-    → Takes old modes.Ordered sender ballot new
-takes_ordered old new sender ballot op ordered adds same = record { op = op; ordered = ordered; at = at }
-  where
-    at : (m : Mode) (s : ℕ) → held (ballots_of m new) s ≡ cond (same_mode modes.Ordered m && (sender == s)) (Some ballot) (held (ballots_of m old) s)
-    at modes.Ordered s = adds.at s
-    at modes.ReadOnly s = ap (λ b. held b s) same
-
-pub takes_read : (old new : CallState) (sender : ℕ) (ballot : Ballot) → new.op ≡ old.op → new.ordered ≡ old.ordered
-    → Adds old.read_ballots sender ballot new.read_ballots → new.ordered_ballots ≡ old.ordered_ballots
-    → Takes old modes.ReadOnly sender ballot new
-takes_read old new sender ballot op ordered adds same = record { op = op; ordered = ordered; at = at }
-  where
-    at : (m : Mode) (s : ℕ) → held (ballots_of m new) s ≡ cond (same_mode modes.ReadOnly m && (sender == s)) (Some ballot) (held (ballots_of m old) s)
-    at modes.Ordered s = ap (λ b. held b s) same
-    at modes.ReadOnly s = adds.at s
 
 -- ---- entries
 

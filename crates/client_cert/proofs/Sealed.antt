@@ -4,6 +4,7 @@ use Rattle.std.specs.Prelude.{nat_lt, IfOk}
 use Rattle.std.specs.Int.{w16, w32, w64, to_be_bytes}
 use Rattle.std.specs.List.{range_with_len}
 use Rattle.std.proofs.lemmas.Bool.{and_from, lt-ltb}
+use Rattle.std.proofs.lemmas.List.FromFn.{length-range_with_len}
 use Rattle.terms.specs.declared.order.Mode.{Mode}
 use Rattle.terms.specs.declared.parties.Party.{Party}
 use Rattle.terms.specs.declared.parties.Party.TheVariants as parties
@@ -45,14 +46,10 @@ range_ascends : (a n : ℕ) → ascends nat_lt (range_with_len a n) ≡ true
 range_ascends a zero = refl
 range_ascends a (suc n) = and_from (leads nat_lt a (range_with_len (a + 1) n)) (ascends nat_lt (range_with_len (a + 1) n)) (first_below a n) (range_ascends (a + 1) n)
 
-range_length : (a n : ℕ) → length (range_with_len a n) ≡ n
-range_length a zero = refl
-range_length a (suc n) = ap suc (range_length (a + 1) n)
-
 pub may_seal : (sender t faults : ℕ) (mode : Mode) (op : Operation) (receivers : List ℕ) → sender < 2 ^ 16 → t < 2 ^ 64 → IsOperation op → faults ≤ 3
     → receivers ≡ range_with_len 0 (3 * faults + 1) → IsSealable (record { sender = sender; message = Request t mode op }) receivers
 may_seal sender t faults mode op receivers a b is few all =
-    let n : length receivers ≡ 3 * faults + 1 = ap length all ∙ range_length 0 (3 * faults + 1) in
+    let n : length receivers ≡ 3 * faults + 1 = ap length all ∙ length-range_with_len 0 (3 * faults + 1) in
     record {
       said = record { sender = a; message = (b, is) };
       unsigned = refl;
@@ -108,6 +105,6 @@ pub request_goes : (m : Membership) (me t faults : ℕ) (mode : Mode) (op : Oper
     → (c : Configuration) → members c ≡ m → numbers ≡ receivers_in c me text
 request_goes m me t faults mode op numbers text size goes asks c known =
     let count : faults ≡ c.faults = size ∙ ap (λ (x : Membership). x.faults) (sym known) in
-    let n : length (range_with_len 0 (3 * c.faults + 1)) ≡ 3 * c.faults + 1 = range_length 0 (3 * c.faults + 1) in
+    let n : length (range_with_len 0 (3 * c.faults + 1)) ≡ 3 * c.faults + 1 = length-range_with_len 0 (3 * c.faults + 1) in
     goes ∙ ap (λ (f : ℕ). range_with_len 0 (3 * f + 1)) count
     ∙ sym (sealed_is_for c me (Request t mode op) (range_with_len 0 (replicas c)) text (omega (arith, n)) (asks c known))

@@ -5,6 +5,7 @@ use Rattle.std.specs.declared.sync.Arc.{Arc}
 use Rattle.std.specs.List.{filter_map, flat_map, cons_option}
 use Rattle.std.specs.declared.alloc.Global.{Global}
 use Rattle.std.proofs.lemmas.List.{at_drop_more, at_drop_all, map-append}
+use Rattle.std.proofs.lemmas.List.Elements.{filter_map-append}
 use Rattle.wire.specs.Words.{requests_of}
 use Rattle.view_change.specs.Sets.{texts_of}
 use Rattle.protocol.specs.System.Configuration.{Configuration}
@@ -37,16 +38,8 @@ abbrev pub CallsLeft : ℕ → List (Bor (List ℕ)) → List BegunCall → List
 CallsLeft clients frames old new i =
     (c : Configuration) → c.clients ≡ clients → begun_of new ++ calls_in c (frames_in (drop i frames)) ≡ begun_of old ++ calls_in c (frames_in frames)
 
-filtered_both : {X Y : Type 0} (f : X → Option Y) (xs ys : List X) → filter_map f (xs ++ ys) ≡ filter_map f xs ++ filter_map f ys
-filtered_both f [] ys = refl
-filtered_both f (x ∷ xs) ys = go (f x) (filtered_both f xs ys)
-  where
-    go : (o : Option _) → filter_map f (xs ++ ys) ≡ filter_map f xs ++ filter_map f ys → cons_option o (filter_map f (xs ++ ys)) ≡ cons_option o (filter_map f xs) ++ filter_map f ys
-    go None e = e
-    go (Some y) e = ap (λ zs. y ∷ zs) e
-
 calls_both : (c : Configuration) (xs ys : List (List ℕ)) → calls_in c (xs ++ ys) ≡ calls_in c xs ++ calls_in c ys
-calls_both c xs ys = ap (map (λ (call : Call). record { client = call.client; timestamp = call.timestamp })) (filtered_both (call_of c) xs ys)
+calls_both c xs ys = ap (map (λ (call : Call). record { client = call.client; timestamp = call.timestamp })) (filter_map-append (call_of c) xs ys)
     ∙ map-append (λ (call : Call). record { client = call.client; timestamp = call.timestamp }) (filter_map (call_of c) xs) (filter_map (call_of c) ys)
 
 calls_first : (c : Configuration) (x : Bor (List ℕ)) (xs : List (Bor (List ℕ))) → calls_in c (frames_in (x ∷ xs)) ≡ calls_in c (x.now ∷ []) ++ calls_in c (frames_in xs)

@@ -1,16 +1,12 @@
 -- The test of a configuration decides whether it is valid.
 use Rattle.std.proofs.Common.{◌≡◌, ◌≢◌, ℕ, ◌<◌, ◌≤◌, suc, Bool, true, false, ◌||◌, ◌&&◌, not, ◌==◌, List, [], ◌∷◌, length, refl, sym, ap, ◌∙◌, arith}
 use Rattle.std.specs.Prelude.{All, AllPairs, nat_le, nat_lt}
-use Rattle.std.proofs.lemmas.Bool.{and_parts, and_from, not-true, eqb-false, ne_eqb, ltb-true, lt-ltb, leb-true, le-leb}
+use Rattle.std.proofs.lemmas.Bool.{and_parts, and_from, not-true, eqb-false, ne_eqb, ltb-true, lt-ltb, leb-true, le-leb, or_parts}
 use Rattle.std.proofs.lemmas.List.Elements.{All-cons, All-tail}
 use Rattle.std.proofs.lemmas.List.Kept.{AllPairs-cons}
 use Rattle.quorum.specs.Quorum.{member}
 use Rattle.protocol.specs.System.Configuration.{Configuration, IsConfiguration, replicas}
 use Rattle.events.specs.Checking.{each_once, is_within, is_configuration}
-
-either_false : (a b : Bool) → (a || b) ≡ false → (a ≡ false) × (b ≡ false)
-either_false false b e = (refl, e)
-either_false true b e = absurd cc
 
 -- ---- lists
 
@@ -21,10 +17,10 @@ below bound (x ∷ xs) e =
     let first = and_parts (nat_lt x bound) (not (member xs x)) both.0 in
     All-cons (λ y. y < bound) x xs (ltb-true x bound first.0) (below bound xs both.1)
 
-not_there : (xs : List ℕ) (x : ℕ) → member xs x ≡ false → All (λ y. x ≢ y) xs
+pub not_there : (xs : List ℕ) (x : ℕ) → member xs x ≡ false → All (λ y. x ≢ y) xs
 not_there [] x e = λ k d l. absurd (omega arith)
 not_there (y ∷ ys) x e =
-    let both = either_false (y == x) (member ys x) e in
+    let both = or_parts (y == x) (member ys x) e in
     All-cons (λ z. x ≢ z) y ys (λ same. eqb-false y x both.0 (sym same)) (not_there ys x both.1)
 
 differ : (bound : ℕ) (xs : List ℕ) → each_once bound xs ≡ true → AllPairs (λ x y. x ≢ y) xs
@@ -34,7 +30,7 @@ differ bound (x ∷ xs) e =
     let first = and_parts (nat_lt x bound) (not (member xs x)) both.0 in
     AllPairs-cons (λ a b. a ≢ b) x xs (not_there xs x (not-true (member xs x) first.1)) (differ bound xs both.1)
 
-absent : (xs : List ℕ) (x : ℕ) → All (λ y. x ≢ y) xs → member xs x ≡ false
+pub absent : (xs : List ℕ) (x : ℕ) → All (λ y. x ≢ y) xs → member xs x ≡ false
 absent [] x h = refl
 absent (y ∷ ys) x h = ap (λ b. b || member ys x) (ne_eqb y x (λ e. h 0 y (omega arith) (sym e))) ∙ absent ys x (All-tail (λ z. x ≢ z) y ys h)
 

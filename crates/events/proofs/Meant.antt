@@ -4,7 +4,7 @@ use Rattle.std.specs.Prelude.{◌==◌}
 use Rattle.std.specs.List.{range_with_len}
 use Rattle.std.specs.Option.{option_map_or}
 use Rattle.std.proofs.lemmas.Bool.{eq-eqb, ne_eqb}
-use Rattle.wire.specs.Messages.{BodyData as Body, MessageData as Message, FrameData as Frame, AuthenticatorData as Authenticator, macs, signature}
+use Rattle.wire.specs.Messages.{MessageData as Message, FrameData as Frame, AuthenticatorData as Authenticator, macs, signature}
 use Rattle.wire.specs.Spelling.{IsAuthenticator, SpellsFrame}
 use Rattle.wire.specs.Words.{frame_of, receivers_of}
 use Rattle.wire.proofs.Saying.{reads_frames, says_what_is_spelled}

@@ -24,12 +24,9 @@ use Rattle.evidence.proofs.FirstBatch.{still}
 use Rattle.protocol.proofs.Words.Options.{some_injective}
 use Rattle.evidence.proofs.FirstReplicasStages.{none, Stage, first_stage, got, sent, stage_fetch, stage_meta}
 use Rattle.evidence.proofs.FirstReplicasOwing.{logs_it, is_prepared}
+use Rattle.evidence.proofs.RefusingMarksLow.{low_at_first}
 use Rattle.quorum.proofs.Counting.{count_same}
 use Rattle.protocol.proofs.Words.Posting.{unsigned_have_no_leaf}
-
-low_first : (c : Configuration) (me : ℕ) → low c me [] ≡ 0
-unfolding low
-low_first c me = refl
 
 module _ (clients : ℕ) (seed : List ℕ) (me other : ℕ) (fetch digests : List ℕ) where
   abbrev c : Configuration
@@ -81,7 +78,7 @@ module _ (clients : ℕ) (seed : List ℕ) (me other : ℕ) (fetch digests : Lis
     kept_at past is P p = subst (λ (n : ℕ). Has (λ st. (st.number ≡ 0) × P st) (kept_states n (opening ∷ []))) (sym is) (inl (refl, p))
 
     kept_is : (k : ℕ) (st : State) → KeptState c me [] first_point k (λ x. x ≡ st) → opening ≡ st
-    kept_is k st h = go (subst (λ (n : ℕ). Has (λ x. (x.number ≡ k) × (x ≡ st)) (kept_states n (opening ∷ []))) (low_first c me) h)
+    kept_is k st h = go (subst (λ (n : ℕ). Has (λ x. (x.number ≡ k) × (x ≡ st)) (kept_states n (opening ∷ []))) (low_at_first c me) h)
       where
         go : ((opening.number ≡ k) × (opening ≡ st)) ⊎ ⊥ → opening ≡ st
         go (inl x) = x.1
@@ -121,7 +118,7 @@ module _ (clients : ℕ) (seed : List ℕ) (me other : ℕ) (fetch digests : Lis
       fetches_again = λ n index level tick asked_for above. absurd tick;
       view_changes = λ vc bytes moves may within says. absurd (no_reason c me [] fetch [] vc.view (λ s x asks. only_fetch (record { sender = s; message = ViewChange x }) asks) moves);
       new_views = λ new can. absurd (let left = can.left in let sent = (still c me now stage.plain).target_is in omega (arith, left, sent));
-      dropped = λ bytes same drops. absurd (drops asked (subst (λ (bs : List ℕ). heard (members c) me bs ≡ Some asked) (same_bytes bytes same) hears) (kept_at [] (low_first c me) (λ st. Rattle.std.specs.Prelude.⊤) tt));
+      dropped = λ bytes same drops. absurd (drops asked (subst (λ (bs : List ℕ). heard (members c) me bs ≡ Some asked) (same_bytes bytes same) hears) (kept_at [] (low_at_first c me) (λ st. Rattle.std.specs.Prelude.⊤) tt));
     }
 
     quiet : first_point ≡ record first_point { ran = []; waiting = waiting_after c me first_point fetch }

@@ -6,6 +6,7 @@ use Rattle.std.specs.Bool.{then_some}
 use Rattle.quorum.specs.Votes.{or_else}
 use Rattle.wire.specs.Messages.{BodyData as Body, NewViewData, CheckpointEntryData as CheckpointEntry, pre_prepare as PrePrepare, new_view as NewView}
 use Rattle.wire.specs.Words.{said}
+use Rattle.wire.proofs.Skipping.{none_chosen}
 use Rattle.signing.specs.Heard.{signed_body}
 use Rattle.protocol.specs.System.Configuration.{Configuration, members}
 use Rattle.protocol.specs.System.Frames.{leaf_of}
@@ -23,7 +24,7 @@ use Rattle.protocol.proofs.Words.Options.{some_injective}
 use Rattle.protocol.proofs.Words.Plain.{low_same}
 use Rattle.protocol.proofs.Words.Starts.{low_next}
 use Rattle.evidence.proofs.JoiningChanges as joining
-use Rattle.evidence.proofs.JoiningChangesOwing.{IsOfChange, Due, owes, none_if, brings_no_checkpoint, same_checkpoints, logs_begun}
+use Rattle.evidence.proofs.JoiningChangesOwing.{IsOfChange, Due, owes, brings_no_checkpoint, same_checkpoints, logs_begun}
 use Rattle.evidence.proofs.RefusingNewViews.{view_now, target_now, begun_is_selected}
 
 none_there : (k : ℕ) (batches : List (List ℕ)) → batches ≡ [] → slice_get batches k ≡ None
@@ -107,10 +108,10 @@ module _ (clients : ℕ) (seed root first second own new_view : List ℕ) (x : C
     -- ---- it begins with no batch
 
     no_batch : (v i : ℕ) → batch_begun v i new ≡ None
-    no_batch v i = none_if ((1 == v) && nat_lt 0 i) (slice_get new.batches (i - 0 - 1)) (none_there (i - 0 - 1) new.batches refl)
+    no_batch v i = none_chosen ((1 == v) && nat_lt 0 i) (slice_get new.batches (i - 0 - 1)) (none_there (i - 0 - 1) new.batches refl)
 
     none_begun : (v i : ℕ) → begun_proposal c 1 h3 e v i ≡ None
-    none_begun v i = none_if (is_in_marks c (low c 1 now) i) (option_and_then (batch_begun v i) (taken c h3 e)) (ap (option_and_then (batch_begun v i)) takes ∙ no_batch v i)
+    none_begun v i = none_chosen (is_in_marks c (low c 1 now) i) (option_and_then (batch_begun v i) (taken c h3 e)) (ap (option_and_then (batch_begun v i)) takes ∙ no_batch v i)
 
     logs : (v i : ℕ) → logged c 1 now v i ≡ None
     logs v i =

@@ -10,6 +10,7 @@ use Rattle.protocol.specs.System.Configuration.{Configuration, primary, members}
 use Rattle.wire.specs.Messages.{BodyData as Body, CheckpointEntryData as CheckpointEntry, request as Request, pre_prepare as PrePrepare, prepare as Prepare, commit as Commit, reply as Reply, fetch as Fetch, meta as Meta}
 use Rattle.signing.specs.Heard.{heard}
 use Rattle.wire.specs.Words.{said}
+use Rattle.wire.proofs.Skipping.{none_chosen}
 use Rattle.protocol.specs.System.Trace.{Entry}
 use Rattle.protocol.specs.System.Trace.Entry.{Got, Executed, Sent}
 use Rattle.protocol.specs.Replica.Certificates.{brought, low, is_active_in, is_in_marks, counts_at, are_genuine, logged, proposal, batch_from, prepare_of, prepare_from, commit_of, commit_from, vote_in, checkpoints_of, with_checkpoint, checkpoint_in}
@@ -45,10 +46,6 @@ one_more : (h a b : Bool) (d : List ℕ) → or_else (then_some (h && a) d) (the
 one_more true true b d = refl
 one_more true false b d = refl
 one_more false a b d = refl
-
-nothing_if : (n : Bool) (o : Option (List ℕ)) → o ≡ None → cond n o None ≡ None
-nothing_if true o h = h
-nothing_if false o h = refl
 
 -- a value that is given only if it counts needs no test whether it counts
 counted : (n b : Bool) (d : List ℕ) → (b ≡ true → n ≡ true) → cond n (then_some b d) None ≡ then_some b d
@@ -124,7 +121,7 @@ module _ (clients : ℕ) (seed batch : List ℕ) (me : ℕ) where
 
   gives_none : (past : List Entry) (e : Entry) (body : Body) → Brings past e body → (v i : ℕ) (vote : Body → Option (List ℕ)) → vote body ≡ None → vote_in c me past e vote v i ≡ None
   gives_none past e body x v i vote h =
-      nothing_if (counts_at c me past e v i) (option_and_then vote (brought c e)) (ap (option_and_then vote) x.brings ∙ h)
+      none_chosen (counts_at c me past e v i) (option_and_then vote (brought c e)) (ap (option_and_then vote) x.brings ∙ h)
 
   -- ---- the facts after an entry
 

@@ -10,7 +10,7 @@ use Rattle.protocol.specs.System.Trace.{Entry, is_output, Has}
 use Rattle.protocol.specs.System.Trace.Entry.{Got}
 use Rattle.protocol.specs.System.Schedule.{Step, Made, World, Goes, with_entry, is_delivered, next_receiver, next_pair, pending}
 use Rattle.protocol.specs.System.Schedule.Step.{deliver, flush}
-use Rattle.protocol.specs.System.Schedule.Goes.{ends, gives, called, delivers, gets, ticked, seals, signs, flushes, flushed}
+use Rattle.protocol.specs.System.Schedule.Goes.{ends, gives, called, delivers, gets, flushes, flushed}
 use Rattle.evidence.specs.Fed.{IsNext, with_delivery, FlushDeliversNext, FlushDeliversNoOther, FlushEnds}
 use Rattle.protocol.proofs.Words.Options.{some_injective}
 use Rattle.protocol.proofs.Words.Elements.{some_of_has}
@@ -240,14 +240,7 @@ module _ (c : Configuration) (v : World) (input : Entry) (more : List Entry) (fe
   none_fed : (w : World) (steps : List Step) (entries : List Entry) → Goes c w steps entries v → steps ≡ [] → entries ≡ input ∷ more → ⊥
   none_fed w _ _ ends none is = absurd cc
   none_fed w _ _ (gives {entries = entries} {e = e} o g) none is = not_output e entries o is ⊥
-  none_fed w _ _ (called a g) none is = absurd cc
-  none_fed w _ _ (delivers a s g) none is = absurd cc
-  none_fed w _ _ (gets a g) none is = absurd cc
-  none_fed w _ _ (ticked a g) none is = absurd cc
-  none_fed w _ _ (seals a j g) none is = absurd cc
-  none_fed w _ _ (signs a j g) none is = absurd cc
-  none_fed w _ _ (flushes p g) none is = absurd cc
-  none_fed w _ _ (flushed j p g) none is = absurd cc
+  none_fed w _ _ _ none is = absurd cc
 
   -- what a delivery feeds
   abbrev Delivers : World → ℕ → ℕ → Type 0
@@ -258,7 +251,6 @@ module _ (c : Configuration) (v : World) (input : Entry) (more : List Entry) (fe
       → steps ≡ deliver frame party ∷ flush ∷ [] → entries ≡ input ∷ more → Delivers w frame party
   delivery_feeds w _ _ frame party ends steps_are is = absurd cc
   delivery_feeds w _ _ frame party (gives {entries = entries} {e = e} o g) steps_are is = not_output e entries o is (Delivers w frame party)
-  delivery_feeds w _ _ frame party (called a g) steps_are is = absurd cc
   delivery_feeds w _ _ frame party (delivers {steps = steps} {entries = entries} {frame = n} {party = q} {made = made} a s g) steps_are is =
       let number : n ≡ frame = cc in
       let to : q ≡ party = cc in
@@ -271,12 +263,7 @@ module _ (c : Configuration) (v : World) (input : Entry) (more : List Entry) (fe
       let ending : Goes c (with_delivery c w frame party made.bytes) (flush ∷ []) more v =
       subst (λ (xs : List Step). Goes c (with_delivery c w frame party made.bytes) xs more v) later (subst (λ (es : List Entry). Goes c (with_delivery c w frame party made.bytes) steps es v) rest moved) in
       (made, subst (λ (i : ℕ). slice_get w.frames i ≡ Some made) number s, sym first ∙ ap (λ (p : ℕ). Got p made.bytes) to, ending)
-  delivery_feeds w _ _ frame party (gets a g) steps_are is = absurd cc
-  delivery_feeds w _ _ frame party (ticked a g) steps_are is = absurd cc
-  delivery_feeds w _ _ frame party (seals a j g) steps_are is = absurd cc
-  delivery_feeds w _ _ frame party (signs a j g) steps_are is = absurd cc
-  delivery_feeds w _ _ frame party (flushes p g) steps_are is = absurd cc
-  delivery_feeds w _ _ frame party (flushed j p g) steps_are is = absurd cc
+  delivery_feeds w _ _ frame party _ steps_are is = absurd cc
 
   abbrev DeliversNext : World → Type 0
   DeliversNext w =
@@ -285,12 +272,6 @@ module _ (c : Configuration) (v : World) (input : Entry) (more : List Entry) (fe
   flush_feeds : (w : World) (steps : List Step) (entries : List Entry) → Goes c w steps entries v → steps ≡ flush ∷ [] → entries ≡ input ∷ more → DeliversNext w
   flush_feeds w _ _ ends steps_are is = absurd cc
   flush_feeds w _ _ (gives {entries = entries} {e = e} o g) steps_are is = not_output e entries o is (DeliversNext w)
-  flush_feeds w _ _ (called a g) steps_are is = absurd cc
-  flush_feeds w _ _ (delivers a s g) steps_are is = absurd cc
-  flush_feeds w _ _ (gets a g) steps_are is = absurd cc
-  flush_feeds w _ _ (ticked a g) steps_are is = absurd cc
-  flush_feeds w _ _ (seals a j g) steps_are is = absurd cc
-  flush_feeds w _ _ (signs a j g) steps_are is = absurd cc
   flush_feeds w _ _ (flushes {steps = steps} {frame = frame} {party = party} p g) steps_are is =
       let none : steps ≡ [] = cc in
       let x = delivery_feeds w (deliver frame party ∷ flush ∷ steps) _ frame party g (ap (λ (xs : List Step). deliver frame party ∷ flush ∷ xs) none) is in
@@ -298,6 +279,7 @@ module _ (c : Configuration) (v : World) (input : Entry) (more : List Entry) (fe
       let same : next.0 ≡ x.0 = some_injective next.0 x.0 (sym next.1.is_frame ∙ x.1) in
       (frame, party, x.0, subst (λ (m : Made). IsNext c w frame party m) same next.1, x.2, x.3)
   flush_feeds w _ _ (flushed {steps = steps} j p g) steps_are is = let none : steps ≡ [] = cc in absurd (none_fed w steps _ g none is)
+  flush_feeds w _ _ _ steps_are is = absurd cc
 
 pub flush_delivers_no_other : FlushDeliversNoOther
 flush_delivers_no_other c w v input entries fed g = flush_feeds c v input entries fed w (flush ∷ []) (input ∷ entries) g refl refl

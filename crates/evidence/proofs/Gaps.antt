@@ -19,7 +19,7 @@ use Rattle.signing.proofs.Heard.{heard_was_opened}
 
 -- ---- values that are there
 
-has_value : (o : Option (List ℕ)) → is_some o ≡ true → (x : List ℕ) × (o ≡ Some x)
+pub has_value : (o : Option (List ℕ)) → is_some o ≡ true → (x : List ℕ) × (o ≡ Some x)
 has_value None h = absurd cc
 has_value (Some x) h = (x, refl)
 

@@ -30,13 +30,14 @@ use Rattle.evidence.proofs.FirstBatch.{Still, still}
 use Rattle.protocol.proofs.Words.Linking.{signed_said}
 use Rattle.protocol.proofs.Words.Moving.{no_time}
 use Rattle.protocol.proofs.Words.Options.{some_injective}
-use Rattle.evidence.proofs.JoiningChangesOwing.{IsOfChange, Due, owes, none_logged, none_checked, same_checkpoints, logs_nothing, moves_nothing}
+use Rattle.evidence.proofs.JoiningChangesOwing.{IsOfChange, Due, owes, none_logged, same_checkpoints, logs_nothing, moves_nothing}
 use Rattle.protocol.proofs.Words.Plain.{Plain, low_same, taken_none}
+use Rattle.protocol.proofs.Agreement.Checkpoints.{no_checkpoints}
 
 -- ---- a signed frame is sealed, and for all
 
 -- the condition on one authenticator of a sealed frame
-abbrev IsSealedBy : Configuration → Frame → Authenticator → Type 0
+abbrev pub IsSealedBy : Configuration → Frame → Authenticator → Type 0
 IsSealedBy c frame (macs entries) = All (λ x. x.mac ≡ mac_of c.seed x.receiver frame.body) entries
 IsSealedBy c frame (signature s) = has_signature c.seed frame ≡ true
 
@@ -125,7 +126,7 @@ module _ (clients : ℕ) (seed : List ℕ) (me one other : ℕ) (first second ow
     unprepared past none v i batch p = absurd (let bad : None ≡ Some batch = sym (none v i) ∙ p.logged in cc)
 
     checks1 : (s : ℕ) → checkpoints_of c h1 s ≡ []
-    checks1 s = same_checkpoints c [] (Got me first) (changing one) (hears one first first_other x) tt s ∙ none_checked c s
+    checks1 s = same_checkpoints c [] (Got me first) (changing one) (hears one first first_other x) tt s ∙ no_checkpoints c s
 
     checks2 : (s : ℕ) → checkpoints_of c h2 s ≡ []
     checks2 s = same_checkpoints c h1 (Got me second) (changing other) (hears other second second_other y) tt s ∙ checks1 s

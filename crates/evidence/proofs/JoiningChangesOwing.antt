@@ -1,5 +1,5 @@
 -- What a replica owes at a view change or a new view that it gets in the beginning, and what an entry leaves alone.
-use Rattle.std.proofs.Common.{◌≡◌, ◌≢◌, ℕ, ◌+◌, ◌≤◌, inl, Bool, true, false, cond, List, [], ◌∷◌, refl, sym, ap, ◌∙◌, subst, arith, Option, Some, None}
+use Rattle.std.proofs.Common.{◌≡◌, ◌≢◌, ℕ, ◌+◌, ◌≤◌, inl, true, false, List, [], ◌∷◌, refl, sym, ap, ◌∙◌, subst, arith, Option, Some, None}
 use Rattle.std.specs.Prelude.{option_and_then, ⊤}
 use Rattle.std.specs.Option.{option_map_or}
 use Rattle.sha2.specs.Sha256.{sha256}
@@ -9,6 +9,7 @@ use Rattle.protocol.specs.System.Configuration.{Configuration, primary, members}
 use Rattle.terms.specs.declared.order.Mode.TheVariants as modes
 use Rattle.terms.specs.declared.state.Level.TheVariants as levels
 use Rattle.wire.specs.Messages.{BodyData as Body, MessageData as Message, NewViewData, CheckpointEntryData as CheckpointEntry, request as Request, prepare as Prepare, view_change as ViewChange, new_view as NewView, fetch as Fetch, meta as Meta, page as Page}
+use Rattle.wire.proofs.Skipping.{none_chosen}
 use Rattle.signing.specs.Heard.{heard}
 use Rattle.protocol.specs.System.Trace.{Entry, Has}
 use Rattle.protocol.specs.System.Trace.Entry.{Got}
@@ -43,14 +44,6 @@ pub none_logged : (c : Configuration) (me v i : ℕ) → logged c me [] v i ≡ 
 unfolding logged
 none_logged c me v i = refl
 
-pub none_checked : (c : Configuration) (s : ℕ) → checkpoints_of c [] s ≡ []
-unfolding checkpoints_of
-none_checked c s = refl
-
-pub none_if : (b : Bool) (o : Option (List ℕ)) → o ≡ None → cond b o None ≡ None
-none_if true o h = h
-none_if false o h = refl
-
 no_batch : (c : Configuration) (me v i sender : ℕ) (message : Message) → IsNoProposal message → batch_from c me v i (record { sender = sender; message = message }) ≡ None
 no_batch c me v i sender (ViewChange vc) h = refl
 no_batch c me v i sender (NewView new) h = refl
@@ -74,7 +67,7 @@ same_checkpoints c past e body is h s =
 -- a message other than a pre-prepare logs at most the batches that a new view begins with
 entry_none : (c : Configuration) (me : ℕ) (past : List Entry) (e : Entry) (body : Body) → brought c e ≡ Some body → IsNoProposal body.message → (v i : ℕ) → entry_proposal c me past e v i ≡ None
 entry_none c me past e body is h v i =
-    none_if (counts_at c me past e v i) (option_and_then (batch_from c me v i) (brought c e)) (ap (option_and_then (batch_from c me v i)) is ∙ no_batch c me v i body.sender body.message h)
+    none_chosen (counts_at c me past e v i) (option_and_then (batch_from c me v i) (brought c e)) (ap (option_and_then (batch_from c me v i)) is ∙ no_batch c me v i body.sender body.message h)
 
 pub logs_begun : (c : Configuration) (me : ℕ) (past : List Entry) (e : Entry) (body : Body) → brought c e ≡ Some body → IsNoProposal body.message → (v i : ℕ)
     → logged c me (e ∷ past) v i ≡ or_else (logged c me past v i) (begun_proposal c me past e v i)
@@ -88,7 +81,7 @@ pub logs_nothing : (c : Configuration) (me : ℕ) (past : List Entry) (e : Entry
 logs_nothing c me past e body is h none v i =
     logs_begun c me past e body is h v i
     ∙ or_else_alone (logged c me past v i) (begun_proposal c me past e v i)
-    (none_if (is_in_marks c (low c me (e ∷ past)) i) (option_and_then (batch_begun v i) (taken c past e)) (ap (option_and_then (batch_begun v i)) none))
+    (none_chosen (is_in_marks c (low c me (e ∷ past)) i) (option_and_then (batch_begun v i) (taken c past e)) (ap (option_and_then (batch_begun v i)) none))
 
 -- ---- the points
 

@@ -3,7 +3,7 @@ use Rattle.std.proofs.Common.{◌≡◌, ℕ, suc, ◌+◌, ◌-◌, ◌≤◌, 
 use Rattle.std.specs.Prelude.{◌==◌, nat_lt, nat_le}
 use Rattle.std.specs.List.{concat}
 use Rattle.std.specs.Option.{option_map_or}
-use Rattle.std.proofs.lemmas.Bool.{and_parts, and_from, ltb-true, lt-ltb, leb-true, le-leb}
+use Rattle.std.proofs.lemmas.Bool.{and_parts, and_from, ltb-true, lt-ltb, leb-true, le-leb, or_cases, or_right, or_left}
 use Rattle.std.proofs.Math.Nat.{mod-eq_of_lt, add-mod_right}
 use Rattle.quorum.specs.Quorum.{member}
 use Rattle.tuple_codec.specs.Operations.{Operation, IsOperation}
@@ -122,18 +122,6 @@ clients_are_correct c k = (there, back)
         and_from (is_client c (256 + k)) (not (member c.faulty_clients (256 + k - 256)))
         (and_from (nat_le 256 (256 + k)) (nat_lt (256 + k) (256 + c.clients)) (le-leb 256 (256 + k) a) (lt-ltb (256 + k) (256 + c.clients) b))
         (subst (λ x. not (member c.faulty_clients x) ≡ true) (sym same) (is_left_out c.faulty_clients k h.1))
-
-or_cases : (x y : Bool) → (x || y) ≡ true → (x ≡ true) ⊎ (y ≡ true)
-or_cases true y h = inl refl
-or_cases false y h = inr h
-
-or_right : (x y : Bool) → y ≡ true → (x || y) ≡ true
-or_right true y h = refl
-or_right false y h = h
-
-or_left : (x y : Bool) → x ≡ true → (x || y) ≡ true
-or_left true y h = refl
-or_left false y h = absurd cc
 
 pub correct_are_both : CorrectAreBoth
 correct_are_both c p = (there, back)

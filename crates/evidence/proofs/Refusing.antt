@@ -1,8 +1,8 @@
 -- The definitions refuse what wrong bodies would do.
 use Rattle.std.specs.List.{list_all, range_with_len}
-use Rattle.std.proofs.Common.{drop, ◌≢◌, ◌^◌, ◌≡◌, ℕ, zero, suc, not, filter, ◌+◌, ◌-◌, ◌*◌, ◌≤◌, ◌<◌, ◌⊎◌, inl, inr, Bool, true, false, cond, List, [], bytes_eq, None, ◌∷◌, ◌++◌, length, slice_get, refl, sym, ap, ◌∙◌, subst, arith, ◌&&◌, ◌||◌, Option, Some, eqb-true, eq-eqb}
-use Rattle.std.specs.Prelude.{◌==◌, nat_le, nat_lt, is_some, All, ⊤}
-use Rattle.std.proofs.lemmas.Bool.{eqb-false, and_parts, or_cases, leb-true, ltb-true}
+use Rattle.std.proofs.Common.{drop, ◌≢◌, ◌^◌, ◌≡◌, ℕ, suc, not, filter, ◌+◌, ◌-◌, ◌*◌, ◌≤◌, ◌<◌, ◌⊎◌, inl, inr, Bool, true, false, cond, List, [], bytes_eq, None, ◌∷◌, ◌++◌, length, slice_get, refl, sym, ap, ◌∙◌, subst, arith, ◌&&◌, ◌||◌, Option, Some, eqb-true, eq-eqb}
+use Rattle.std.specs.Prelude.{◌==◌, nat_le, nat_lt, is_some, ⊤}
+use Rattle.std.proofs.lemmas.Bool.{and_parts, or_cases, leb-true, ltb-true}
 use Rattle.std.proofs.lemmas.Slice.Eq.{bytes_eq-Decides}
 use Rattle.tuple_codec.specs.Operations.{Outcome}
 use Rattle.tuple_codec.specs.Spelling.{outcome_spelling}
@@ -12,16 +12,15 @@ use Rattle.protocol.specs.System.Configuration.{Configuration, replicas, span, i
 use Rattle.terms.specs.declared.order.Mode.{Mode}
 use Rattle.terms.specs.declared.order.Mode.TheVariants as modes
 use Rattle.wire.specs.Messages.{fetch as Fetch, BodyData as Body, FrameData as Frame, AuthenticatorData as Authenticator, MacData, macs, signature, ViewChangeData, NewViewData, BatchEntryData as BatchEntry, pre_prepare as PrePrepare, prepare as Prepare, commit as Commit, checkpoint as Checkpoint, view_change as ViewChange, new_view as NewView, reply as Reply, meta as Meta, page as Page}
-use Rattle.authenticator.specs.Authentic.{mac_of}
-use Rattle.signing.specs.Heard.{has_signature, heard}
+use Rattle.signing.specs.Heard.{heard}
 use Rattle.protocol.specs.System.Trace.{Entry, party_of, Once, Always, Has, AreOutputs, Hears}
 use Rattle.protocol.specs.System.Trace.Entry.{Invoke, Got, Tick, Executed, Installed, Sent, Accepted}
 use Rattle.protocol.specs.Replica.Selection.{is_quorum, is_weak_quorum, passes_by, count_in, vouches, agrees, may_stand_at, may_be_null, null_batch, is_null, is_within, changes_of, how_many}
 use Rattle.protocol.specs.Replica.Certificates.{target, view, is_active_in, is_later, new_view_in, logged, low}
 use Rattle.reply_cache.specs.Replies.{Kept}
 use Rattle.protocol.specs.Replica.State.{State, Ran, opening, kept_of, page_text}
-use Rattle.protocol.specs.Replica.RightReplica.{MayNewView, IsRootWanted, MayFetch, MayMeta, MayPage, kept_states, digests_at, IsAddressed, Point, Leaves, SafeReplica, May, Moves, MaySay, MaySend, MayCheckpoint, MayPrepare, MayCommit, MayPrePrepare, MayReply, MayReplyRead, MayViewChange, SendsBytes, SentInEvent, reply_of, GetsPage}
-use Rattle.protocol.specs.Client.RightClient.{SafeClient, Vote, latest, is_alike, count_alike}
+use Rattle.protocol.specs.Replica.RightReplica.{MayNewView, IsRootWanted, MayFetch, MayMeta, MayPage, kept_states, digests_at, IsAddressed, Point, Leaves, SafeReplica, May, Moves, MaySend, MayCheckpoint, MayPrepare, MayCommit, MayPrePrepare, MayReply, MayReplyRead, MayViewChange, SendsBytes, SentInEvent, reply_of, GetsPage}
+use Rattle.protocol.specs.Client.RightClient.{Vote, latest, is_alike, count_alike}
 use Rattle.evidence.specs.Refused.{SealsWell, SignsWell, SignsOnceByLeaf, SendsNoFrameTwice, PrePreparesAsPrimary, PrePreparesInMarks, NoPrePrepareAfterChange, CheckpointsMultiples, BeginsAsPrimary, ReadsWhatWasAsked, DigestsToWhoAsked, PagesToWhoAsked, IsReplyOf, ExecutesWhatIsCommitted, GivesKeptDigests, GivesKeptPages, GivesAskedDigests, GivesAskedPages, RepliesWhatRan, DropsUnaskedDigests, DropsUnaskedPages, ProposesAuthentic, ReadsNewest, NoChangeWhileActive, DropsReplies, DropsOwnFrames, FetchesWhatIsWanted, FetchesAbove, RepliesToItsClient, CommitsToAll, NoExecution, newest_number, SoManyHave, HasFrom, SaysNothingAgainst, SaysForIt, SaysNothing, RepliesAfterExecution, NoCommitAfterChange, NoPrepareAfterChange, NoEarlyCheckpoint, OnePrePrepare, NoPrepareByPrimary, ExecutesNext, KeepsPrepared, InstallsWhatItHas, InstallsWithHeader, TakesWellSelected, TakesNoLower, AcceptsAtQuorum}
 use Rattle.wire.specs.Words.{requests_of, frame_of, said}
 use Rattle.protocol.specs.Replica.Owed.{IsSaying, Owes, Counts, IsReplica}
@@ -30,7 +29,7 @@ use Rattle.protocol.proofs.Words.Options.{and_then_some, then_some_gives, some_i
 use Rattle.protocol.proofs.Agreement.Voting.{right_always, logged_stays}
 use Rattle.protocol.proofs.Agreement.Marks.{Selects, selects, selected_in, takes}
 use Rattle.protocol.proofs.Words.Lists.{passes_change, change_there, largest_of-has, stands_at, some_below}
-use Rattle.protocol.proofs.Points.Reading.{latest_heard}
+use Rattle.protocol.proofs.Points.Reading.{latest_heard, own_entries}
 use Rattle.protocol.proofs.Agreement.Changes.{change_target, target_grows}
 use Rattle.protocol.proofs.Agreement.Offers.{offer_in, offers_kept, marks_above}
 use Rattle.signing.proofs.Heard.{heard_was_opened}
@@ -47,13 +46,8 @@ use Rattle.std.specs.Bool.{then_some}
 use Rattle.protocol.proofs.Words.Elements.{has_of_any, every_has, has_some}
 use Rattle.protocol.proofs.Words.Posting.{leaf_by}
 use Rattle.protocol.specs.System.Frames.{leaf_in}
-
--- a right replica may say what its newest frame says
-pub says_may : (c : Configuration) (me : ℕ) (bytes : List ℕ) (body : Body) (past : List Entry) (right : SafeReplica c me (Sent me bytes ∷ past)) → said bytes ≡ Some body
-    → MaySay c me past right.1.0 (Sent me bytes) bytes body.message
-says_may c me bytes body past right h =
-    let m : MaySend c me past right.1.0 (Sent me bytes) bytes = right.1.2.may in
-    subst (λ (x : Body). MaySay c me past right.1.0 (Sent me bytes) bytes x.message) (some_injective m.body body (sym m.says ∙ h)) m.say
+use Rattle.evidence.proofs.JoiningChanges.{IsSealedBy}
+use Rattle.evidence.proofs.RefusingRuns.{in_range, says_may}
 
 -- ---- before anything is executed
 
@@ -368,11 +362,6 @@ fetches_above c me k index level bytes past says below right =
 
 -- ---- whom a frame is for
 
--- the condition on one authenticator of a sealed frame
-abbrev IsSealedBy : Configuration → Frame → Authenticator → Type 0
-IsSealedBy c frame (macs entries) = All (λ x. x.mac ≡ mac_of c.seed x.receiver frame.body) entries
-IsSealedBy c frame (signature s) = has_signature c.seed frame ≡ true
-
 addressed : (c : Configuration) (me : ℕ) (bytes : List ℕ) (body : Body) (frame : Frame) (entries : List MacData) (past : List Entry) (right : SafeReplica c me (Sent me bytes ∷ past)) → said bytes ≡ Some body
     → frame_of bytes ≡ Some frame → frame.authenticator ≡ macs entries → IsAddressed c me past body.message (macs entries)
 addressed c me bytes body frame entries past right says is authenticator =
@@ -419,14 +408,6 @@ digests_to_who_asked c me k index level digests bytes frame entries past says is
 pub pages_to_who_asked : PagesToWhoAsked
 pages_to_who_asked c me k index text bytes frame entries past says is authenticator right =
     addressed c me bytes (record { sender = me; message = Page k index text }) frame entries past right says is authenticator
-
-in_range : (n a s : ℕ) → a ≤ s → s < a + n → Has (λ r. r ≡ s) (range_with_len a n)
-in_range zero a s l h = absurd (omega arith)
-in_range (suc n) a s l h = go (a == s) refl (λ above. in_range n (a + 1) s above (omega arith))
-  where
-    go : (b : Bool) → (a == s) ≡ b → (a + 1 ≤ s → Has (λ r. r ≡ s) (range_with_len (a + 1) n)) → (a ≡ s) ⊎ Has (λ r. r ≡ s) (range_with_len (a + 1) n)
-    go true e below = inl (eqb-true a s e)
-    go false e below = let d = eqb-false a s e in inr (below (omega arith))
 
 kept_by_test : (test : ℕ → Bool) (xs : List ℕ) (s : ℕ) → test s ≡ true → Has (λ r. r ≡ s) xs → Has (λ r. r ≡ s) (filter test xs)
 kept_by_test test [] s t h = absurd h
@@ -573,10 +554,6 @@ takes_no_lower c me past e new vc h changed =
 
 -- ---- clients
 
-own_parties : (c : Configuration) (me : ℕ) (xs : List Entry) → SafeClient c me xs → Always (λ past e. party_of e ≡ me) xs
-own_parties c me [] r = tt
-own_parties c me (e ∷ xs) r = (r.0.0, own_parties c me xs r.1)
-
 pub accepts_at_quorum : AcceptsAtQuorum
 accepts_at_quorum c me k timestamp answer past right =
     let m = right.0.1 in
@@ -590,7 +567,7 @@ accepts_at_quorum c me k timestamp answer past right =
     )
   where
     own : Always (λ past e. party_of e ≡ me) past
-    own = own_parties c me past right.1
+    own = own_entries c me past right.1
 
     hears : (s : ℕ) (mode : Mode) (v : Vote) → latest c me past timestamp mode s ≡ Some v → Once (Hears c me (record { sender = s; message = Reply me timestamp mode v.number v.answer })) past
     hears s mode v is = latest_heard c me timestamp mode s v past own is

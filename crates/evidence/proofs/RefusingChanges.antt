@@ -13,7 +13,8 @@ use Rattle.protocol.specs.Replica.Certificates.{low, target, is_in_marks}
 use Rattle.protocol.specs.Replica.RightReplica.{MayViewChange, IsNewViewChange}
 use Rattle.protocol.specs.Client.RightClient.{IsClient, MayInput, SafeClient}
 use Rattle.evidence.specs.RefusedChanges.{SendsNewChange, ChangesAboveView, ChangesAboveEarlier, ChangesToNumbers, IsInMarks, BatchEntriesPreparedInMarks, BatchEntriesProposedInMarks, BatchEntriesAscend, BatchEntriesDiffer, ChangesAgainLast, NoCallWhileOpen, CallsOperations}
-use Rattle.evidence.proofs.Refusing.{says_may, above_target}
+use Rattle.evidence.proofs.Refusing.{above_target}
+use Rattle.evidence.proofs.RefusingRuns.{says_may}
 use Rattle.protocol.proofs.Words.Reacting.{is_client_right}
 
 -- ---- view changes

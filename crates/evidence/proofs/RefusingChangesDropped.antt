@@ -27,6 +27,7 @@ use Rattle.protocol.proofs.Agreement.Marks.{view_grows}
 use Rattle.protocol.proofs.Words.Reacting.{proceeds_leaves}
 use Rattle.evidence.proofs.Refusing.{newest_state}
 use Rattle.protocol.proofs.Words.Elements.{has_some}
+use Rattle.protocol.proofs.Agreement.Checkpoints.{checkpoints_with}
 
 -- ---- an input that is answered counts
 
@@ -201,10 +202,6 @@ pub drops_second_checkpoints : DropsSecondCheckpoints
 drops_second_checkpoints c me s k root bytes past has a =
     answered c me s (Checkpoint k root) bytes past a (λ point leaves counts.
     absurd (let bad : false ≡ true = sym counts.2 ∙ numbered k (checkpoints_of c past s) has in cc))
-
-checkpoints_with : (c : Configuration) (e : Entry) (past : List Entry) (s : ℕ) → checkpoints_of c (e ∷ past) s ≡ with_checkpoint s (checkpoint_in c e) (checkpoints_of c past s)
-unfolding checkpoints_of
-checkpoints_with c e past s = refl
 
 pub drops_passed_checkpoints : DropsPassedCheckpoints
 drops_passed_checkpoints c me s k root bytes a b d past are below first second answers =

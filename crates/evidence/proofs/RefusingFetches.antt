@@ -11,7 +11,7 @@ use Rattle.protocol.specs.System.Trace.Entry.{Got, Sent}
 use Rattle.protocol.specs.Replica.Transfers.{fetch_sent, place_from, is_fetch, NoneAsked, IsNext, in_place}
 use Rattle.protocol.specs.Replica.RightReplica.{MayFetch, SafeReplica, IsAskedAgain}
 use Rattle.evidence.specs.Refused.{FetchesNewest, FetchesOnce, FetchesWhatIsTold, FetchesWhatDiffers}
-use Rattle.evidence.proofs.Refusing.{says_may}
+use Rattle.evidence.proofs.RefusingRuns.{says_may}
 
 -- if a right replica sends a fetch, the replica may send that fetch
 may_fetch : (c : Configuration) (me k index : ℕ) (level : Level) (bytes : List ℕ) (past : List Entry) → said bytes ≡ Some (record { sender = me; message = Fetch k level index })

@@ -12,8 +12,8 @@ use Rattle.protocol.specs.Replica.State.{State, opening, execute, page_text}
 use Rattle.protocol.specs.Replica.RightReplica.{MayMeta, MayPage, IsNewViewChange, kept_states, checkpoint_of, digests_at, Point, Leaves, May, Moves, Executes}
 use Rattle.evidence.specs.RefusedChanges.{SendsNewChange}
 use Rattle.evidence.specs.RefusedKept.{GivesNoLowDigests, GivesNoLowPages, Installs, HasSnapshot, ChangesFromLowMark, ListsNoneBelow, ListsSnapshots, ListsEachSnapshot, CheckpointsAscend}
-use Rattle.evidence.proofs.Refusing.{says_may}
 use Rattle.evidence.proofs.RefusingChanges.{new_change}
+use Rattle.evidence.proofs.RefusingRuns.{says_may}
 use Rattle.protocol.proofs.Words.Elements.{has_some, each_filtered, each_has, each_mapped, each_turned, each_weaker, has_filtered, has_mapped}
 use Rattle.wire.specs.Lists.{Each}
 use Rattle.protocol.proofs.Words.Leaving.{executed_number}

@@ -70,11 +70,8 @@ taken_or_passed (suc k) old (m ∷ checkpoints) h (inr has) = go (taken_or_passe
     go (inr passed) = inr (ap suc passed.0, (below_has m.number old checkpoints h.0 has, passed.1))
 
 three_of : (P : CheckpointEntry → Type 0) (checkpoints : List CheckpointEntry) → length checkpoints ≡ 3 → Each P checkpoints → (x y z : CheckpointEntry) × (checkpoints ≡ x ∷ y ∷ z ∷ []) × P z
-three_of P [] l h = absurd (omega arith)
-three_of P (x ∷ []) l h = absurd (omega arith)
-three_of P (x ∷ y ∷ []) l h = absurd (omega arith)
 three_of P (x ∷ y ∷ z ∷ []) l h = let below = h.1 in let last = below.1 in (x, y, z, refl, last.0)
-three_of P (x ∷ y ∷ z ∷ w ∷ checkpoints) l h = absurd (omega arith)
+three_of P _ l h = absurd (omega arith)
 
 has_of_inserted : (checkpoint old : CheckpointEntry) (checkpoints : List CheckpointEntry) → Has (λ x. x ≡ old) (insert_checkpoint checkpoint checkpoints) → (checkpoint ≡ old) ⊎ Has (λ x. x ≡ old) checkpoints
 has_of_inserted checkpoint old [] (inl h) = inl h

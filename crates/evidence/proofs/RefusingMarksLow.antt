@@ -62,7 +62,7 @@ low_with : (c : Configuration) (me : ℕ) (e : Entry) (past : List Entry) → lo
 unfolding low
 low_with c me e past = refl
 
-low_at_first : (c : Configuration) (me : ℕ) → low c me [] ≡ 0
+pub low_at_first : (c : Configuration) (me : ℕ) → low c me [] ≡ 0
 unfolding low
 low_at_first c me = refl
 

@@ -12,8 +12,9 @@ use Rattle.protocol.specs.Replica.State.{Ran, ran_in}
 use Rattle.protocol.specs.Replica.RightReplica.{Point, Leaves, SafeReplica, May, Moves, IsFree, MayPrePrepare, MayReply, Executes, AtInput, GetsOrdered, reply_of}
 use Rattle.evidence.specs.Refused.{SkipsNoNumber, GoesBackToNoNumber, PrePreparesNearby, RepliesToWhoAsked, IsReplyOf}
 use Rattle.protocol.proofs.Words.Elements.{has_either, has_some}
-use Rattle.evidence.proofs.Refusing.{says_may, is_reply, newest_state}
+use Rattle.evidence.proofs.Refusing.{is_reply, newest_state}
 use Rattle.evidence.proofs.RefusingReplies.{ran_of}
+use Rattle.evidence.proofs.RefusingRuns.{says_may}
 
 -- ---- numbers
 

@@ -14,7 +14,8 @@ use Rattle.protocol.specs.Replica.Owed.{HasRequest}
 use Rattle.evidence.specs.Refused.{RepliesOfExecuted, ExecutesRequest, NoInstallation, IsReplyOf}
 use Rattle.protocol.proofs.Points.Keeping.{Keeps, frames_kept, executed_kept}
 use Rattle.protocol.proofs.Words.Leaving.{none_kept}
-use Rattle.evidence.proofs.Refusing.{says_may, is_reply}
+use Rattle.evidence.proofs.Refusing.{is_reply}
+use Rattle.evidence.proofs.RefusingRuns.{says_may}
 use Rattle.protocol.proofs.Words.Elements.{has_either, has_some}
 
 -- a request that ran is in one of the frames, and its reply is kept under the number

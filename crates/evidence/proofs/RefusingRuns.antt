@@ -25,14 +25,14 @@ use Rattle.protocol.specs.Replica.Certificates.{view, target, is_active_in, take
 use Rattle.protocol.specs.Replica.RightReplica.{SafeReplica, MaySay, MaySend, MayViewChange, MayNewView, SendsBytes}
 use Rattle.protocol.specs.Client.RightClient.{OpenCall, Vote, newest_vote, latest, is_alike, count_alike, is_complete, is_ordered_request, went_ordered, is_answered, Reaction, fallback, on_reply, on_got, reaction, IsRequest, IsReaction, MayInput, Reacts, IsClient}
 use Rattle.protocol.specs.Client.RightClient.Reaction.{nothing, asks, accepts}
-use Rattle.protocol.specs.System.Run.{OutputFollows}
-use Rattle.evidence.specs.RefusedRuns.{going_on, IsOrderedRequest, AcceptsAlike, AsksOrdered, FallsBack, AsksAtTicks, AsksAll, OutputsFollow, LogsNumbers, NoBeginWhileInactive, KeepsProposed, NoRequestByReplica, InstallsItsRoot}
+use Rattle.evidence.specs.RefusedRuns.{going_on, IsOrderedRequest, AcceptsAlike, AsksOrdered, FallsBack, AsksAtTicks, AsksAll, LogsNumbers, NoBeginWhileInactive, KeepsProposed, NoRequestByReplica, InstallsItsRoot, OutputsFollow}
 use Rattle.protocol.proofs.Words.Temporal.{once_weaker, once_always, once_stays_from}
 use Rattle.protocol.proofs.Words.Options.{some_injective}
 use Rattle.protocol.proofs.Agreement.Voting.{RightAt, right_always}
 use Rattle.protocol.proofs.Agreement.Marks.{takes, view_grows}
 use Rattle.protocol.proofs.Agreement.Changes.{logged_within}
 use Rattle.protocol.proofs.Words.Reacting.{one_output}
+use Rattle.protocol.specs.System.Run.{OutputFollows}
 
 -- ---- clients
 
@@ -40,7 +40,7 @@ when_true : (b : Bool) (X Y : Type 0) → b ≡ true → either b X Y → X
 when_true true X Y e h = h
 when_true false X Y e h = absurd cc
 
-when_false : (b : Bool) (X Y : Type 0) → b ≡ false → either b X Y → Y
+pub when_false : (b : Bool) (X Y : Type 0) → b ≡ false → either b X Y → Y
 when_false true X Y e h = absurd cc
 when_false false X Y e h = h
 
@@ -190,7 +190,7 @@ pub asked_by : (c : Configuration) (me : ℕ) (bytes : List ℕ) (past : List En
 asked_by c me bytes past (inl h) = asked_here c me bytes past h.1
 asked_by c me bytes past (inr h) = absurd h.1
 
-in_range : (n a s : ℕ) → a ≤ s → s < a + n → Has (λ r. r ≡ s) (range_with_len a n)
+pub in_range : (n a s : ℕ) → a ≤ s → s < a + n → Has (λ r. r ≡ s) (range_with_len a n)
 in_range zero a s l h = absurd (omega arith)
 in_range (suc n) a s l h = go (a == s) refl (λ above. in_range n (a + 1) s above (omega arith))
   where
@@ -217,7 +217,7 @@ outputs_follow c e other past later output differs run =
 -- ---- replicas
 
 -- a right replica may say what its newest frame says
-says_may : (c : Configuration) (me : ℕ) (bytes : List ℕ) (body : Body) (past : List Entry) (right : SafeReplica c me (Sent me bytes ∷ past)) → said bytes ≡ Some body
+pub says_may : (c : Configuration) (me : ℕ) (bytes : List ℕ) (body : Body) (past : List Entry) (right : SafeReplica c me (Sent me bytes ∷ past)) → said bytes ≡ Some body
     → MaySay c me past right.1.0 (Sent me bytes) bytes body.message
 says_may c me bytes body past right h =
     let m : MaySend c me past right.1.0 (Sent me bytes) bytes = right.1.2.may in

@@ -139,7 +139,7 @@ feeds_each_tick c steps p trace feeds = counted_feeds c (ticks_for p) (is_tick_o
 abbrev IsDone : List Made → List Entry → ℕ × ℕ → Type 0
 IsDone frames past x = (made : Made) × (slice_get frames x.0 ≡ Some made) × Has (Gets x.1 made.bytes) past
 
-get_left : (xs ys : List Made) (i : ℕ) (x : Made) → slice_get xs i ≡ Some x → slice_get (xs ++ ys) i ≡ Some x
+pub get_left : (xs ys : List Made) (i : ℕ) (x : Made) → slice_get xs i ≡ Some x → slice_get (xs ++ ys) i ≡ Some x
 get_left [] ys i x h = absurd cc
 get_left (y ∷ xs) ys zero x h = h
 get_left (y ∷ xs) ys (suc i) x h = get_left xs ys i x h

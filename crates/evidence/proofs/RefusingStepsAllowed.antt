@@ -1,6 +1,7 @@
 -- The definition of schedules refuses inputs of faulty parties, frames of correct ones and for none, and a flush
 -- that leaves such a frame undelivered.
 use Rattle.std.proofs.Common.{◌≡◌, ℕ, zero, suc, ◌⊎◌, inl, inr, Bool, true, false, List, [], ◌∷◌, ◌++◌, length, slice_get, refl, sym, ap, ◌∙◌, subst, ◌||◌, Some, reverse}
+use Rattle.std.proofs.lemmas.Bool.{or_cases}
 use Rattle.protocol.specs.System.Configuration.{Configuration, is_replica, is_client}
 use Rattle.protocol.specs.System.Trace.{Entry, Always, Has, is_output}
 use Rattle.protocol.specs.System.Trace.Entry.{Invoke, Got, Tick}
@@ -38,17 +39,13 @@ feeds_what_may_be_fed c steps trace feeds =
 
 -- ---- the frames that a schedule makes
 
-party_of_test : (a b : Bool) → (a || b) ≡ true → (a ≡ true) ⊎ (b ≡ true)
-party_of_test true b h = inl refl
-party_of_test false b h = inr h
-
 test_of_party : (a b : Bool) → (a ≡ true) ⊎ (b ≡ true) → (a || b) ≡ true
 test_of_party true b h = refl
 test_of_party false b (inl h) = absurd cc
 test_of_party false b (inr h) = h
 
 in_order : (c : Configuration) (ps : List ℕ) → AreReceivers c ps → ArePartiesInOrder c ps
-in_order c ps r = (r.some, r.few, r.ascend, λ k d l. party_of_test (is_replica c _) (is_client c _) (r.parties k d l))
+in_order c ps r = (r.some, r.few, r.ascend, λ k d l. or_cases (is_replica c _) (is_client c _) (r.parties k d l))
 
 receivers : (c : Configuration) (ps : List ℕ) → ArePartiesInOrder c ps → AreReceivers c ps
 receivers c ps h = record { some = h.0; few = h.1; ascend = h.2; parties = λ k d l. test_of_party (is_replica c _) (is_client c _) (h.3 k d l) }
@@ -60,7 +57,7 @@ made c w v _ _ (called a g) = (tt, made c _ _ _ _ g)
 made c w v _ _ (delivers a s g) = (tt, made c _ _ _ _ g)
 made c w v _ _ (gets a g) = (tt, made c _ _ _ _ g)
 made c w v _ _ (ticked a g) = (tt, made c _ _ _ _ g)
-made c w v _ _ (seals {sender = sender} {receivers = rs} a i g) = ((party_of_test (is_replica c sender) (is_client c sender) a.0, a.1, in_order c rs a.2), made c _ _ _ _ g)
+made c w v _ _ (seals {sender = sender} {receivers = rs} a i g) = ((or_cases (is_replica c sender) (is_client c sender) a.0, a.1, in_order c rs a.2), made c _ _ _ _ g)
 made c w v _ _ (signs {receivers = rs} a i g) = ((a.0, a.1, a.2, in_order c rs a.3), made c _ _ _ _ g)
 made c w v _ _ (flushes p g) = let below = made c _ _ _ _ g in below.1
 made c w v _ _ (flushed i p g) = (tt, made c _ _ _ _ g)
@@ -83,7 +80,7 @@ may_come : (c : Configuration) (w : World) (step : Step) → IsAllowed c w step 
 may_come c w (calls k op) h = h
 may_come c w (deliver frame party) h = h
 may_come c w (feed party text) h = h
-may_come c w (seal sender rs body) h = (party_of_test (is_replica c sender) (is_client c sender) h.0, h.1, in_order c rs h.2)
+may_come c w (seal sender rs body) h = (or_cases (is_replica c sender) (is_client c sender) h.0, h.1, in_order c rs h.2)
 may_come c w (sign replica leaf rs body) h = (h.0, h.1, h.2, in_order c rs h.3)
 may_come c w (ticks party) h = h
 may_come c w flush h = tt
@@ -131,16 +128,12 @@ module _ (c : Configuration) (x : Made) where
   stays w v _ _ (gives {e = e} o g) (inl h) = stays _ _ _ _ g (inl (there_before w.frames (made_by c e) x h))
   stays w v _ _ (gives o g) (inr h) = stays _ _ _ _ g (inr h)
   stays w v _ _ (called a g) (inl h) = stays _ _ _ _ g (inl (there_before w.frames [] x h))
-  stays w v _ _ (called a g) (inr (inl h)) = absurd h
   stays w v _ _ (called a g) (inr (inr h)) = stays _ _ _ _ g (inr h)
   stays w v _ _ (delivers a s g) (inl h) = stays _ _ _ _ g (inl (there_before w.frames [] x h))
-  stays w v _ _ (delivers a s g) (inr (inl h)) = absurd h
   stays w v _ _ (delivers a s g) (inr (inr h)) = stays _ _ _ _ g (inr h)
   stays w v _ _ (gets a g) (inl h) = stays _ _ _ _ g (inl (there_before w.frames [] x h))
-  stays w v _ _ (gets a g) (inr (inl h)) = absurd h
   stays w v _ _ (gets a g) (inr (inr h)) = stays _ _ _ _ g (inr h)
   stays w v _ _ (ticked a g) (inl h) = stays _ _ _ _ g (inl (there_before w.frames [] x h))
-  stays w v _ _ (ticked a g) (inr (inl h)) = absurd h
   stays w v _ _ (ticked a g) (inr (inr h)) = stays _ _ _ _ g (inr h)
   stays w v _ _ (seals a i g) (inl h) = stays _ _ _ _ g (inl (there_before w.frames _ x h))
   stays w v _ _ (seals a i g) (inr (inl h)) = stays _ _ _ _ g (inl (subst (λ (y : Made). IsThere x (w.frames ++ y ∷ [])) h (there_last w.frames x)))
@@ -149,11 +142,10 @@ module _ (c : Configuration) (x : Made) where
   stays w v _ _ (signs a i g) (inr (inl h)) = stays _ _ _ _ g (inl (subst (λ (y : Made). IsThere x (w.frames ++ y ∷ [])) h (there_last w.frames x)))
   stays w v _ _ (signs a i g) (inr (inr h)) = stays _ _ _ _ g (inr h)
   stays w v _ _ (flushes p g) (inl h) = stays _ _ _ _ g (inl h)
-  stays w v _ _ (flushes p g) (inr (inl h)) = absurd h
   stays w v _ _ (flushes p g) (inr (inr h)) = stays _ _ _ _ g (inr (inr (inr h)))
   stays w v _ _ (flushed i p g) (inl h) = stays _ _ _ _ g (inl h)
-  stays w v _ _ (flushed i p g) (inr (inl h)) = absurd h
   stays w v _ _ (flushed i p g) (inr (inr h)) = stays _ _ _ _ g (inr h)
+  stays w v _ _ _ (inr (inl h)) = absurd h
 
   makes_of : (step : Step) (steps more : List Step) → Makes c x step → Has (λ y. y ≡ step) steps → Has (Makes c x) (steps ++ more)
   makes_of step [] more m h = absurd h

@@ -37,7 +37,7 @@ are_signed c (frame ∷ frames) long = go (signed_change c frame) refl long (are
         absurd (omega arith)
     go (Some x) is long below = (spelled c frame x is, below (omega arith))
 
-changes_are : (c : Configuration) (frames : List (List ℕ)) (set : List (ℕ × ViewChangeData)) → AreSigned c frames set → list_of (map (signed_change c) frames) ≡ set
+pub changes_are : (c : Configuration) (frames : List (List ℕ)) (set : List (ℕ × ViewChangeData)) → AreSigned c frames set → list_of (map (signed_change c) frames) ≡ set
 changes_are c [] [] h = refl
 changes_are c [] (x ∷ xs) h = absurd h
 changes_are c (frame ∷ frames) [] h = absurd h

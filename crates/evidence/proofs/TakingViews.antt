@@ -13,6 +13,7 @@ use Rattle.wire.specs.Messages.{BodyData as Body, AuthenticatorData as Authentic
 use Rattle.protocol.specs.System.Configuration.{Configuration, primary, members}
 use Rattle.signing.specs.Heard.{heard, signed_body}
 use Rattle.wire.specs.Words.{receivers_of}
+use Rattle.wire.proofs.Skipping.{none_chosen}
 use Rattle.protocol.specs.System.Trace.{Entry, Has}
 use Rattle.protocol.specs.System.Trace.Entry.{Got, Sent}
 use Rattle.protocol.specs.Replica.Selection.{may_select, change_in}
@@ -26,8 +27,9 @@ use Rattle.protocol.proofs.Words.Moving.{no_reason}
 use Rattle.protocol.proofs.Words.Options.{some_injective}
 use Rattle.protocol.proofs.Words.Plain.{low_same}
 use Rattle.evidence.proofs.Selecting.{prepared_is_selected}
-use Rattle.evidence.proofs.JoiningChangesOwing.{Due, owes, none_if, none_logged, none_checked, brings_no_checkpoint, same_checkpoints, logs_begun, logs_nothing, moves_nothing}
+use Rattle.evidence.proofs.JoiningChangesOwing.{Due, owes, none_logged, brings_no_checkpoint, same_checkpoints, logs_begun, logs_nothing, moves_nothing}
 use Rattle.protocol.proofs.Words.Posting.{unsigned_have_no_leaf}
+use Rattle.protocol.proofs.Agreement.Checkpoints.{no_checkpoints}
 
 prepare_next : (c : Configuration) (me : ℕ) (past : List Entry) (e : Entry) (v i s : ℕ) → prepare_of c me (e ∷ past) v i s ≡ or_else (prepare_of c me past v i s) (vote_in c me past e (prepare_from c s v i) v i)
 unfolding prepare_of
@@ -138,7 +140,7 @@ module _ (clients : ℕ) (seed : List ℕ) (me : ℕ) (batch root a b d new_view
         ∙ ap (option_and_then (prepare_from c s v i)) x.says
       where
         no_vote : vote_in c me [] (Got me new_view) (prepare_from c s v i) v i ≡ None
-        no_vote = none_if (counts_at c me [] (Got me new_view) v i) (option_and_then (prepare_from c s v i) (heard (members c) me new_view)) (ap (option_and_then (prepare_from c s v i)) hears)
+        no_vote = none_chosen (counts_at c me [] (Got me new_view) v i) (option_and_then (prepare_from c s v i) (heard (members c) me new_view)) (ap (option_and_then (prepare_from c s v i)) hears)
 
         before : prepare_of c me h1 v i s ≡ None
         before =
@@ -164,7 +166,7 @@ module _ (clients : ℕ) (seed : List ℕ) (me : ℕ) (batch root a b d new_view
     checks : (s : ℕ) → checkpoints_of c now s ≡ []
     checks s =
         same_checkpoints c h1 (Sent me prepare) prepares x.says tt s
-        ∙ same_checkpoints c [] (Got me new_view) begins hears tt s ∙ none_checked c s
+        ∙ same_checkpoints c [] (Got me new_view) begins hears tt s ∙ no_checkpoints c s
 
     -- ---- what the replica owes
 

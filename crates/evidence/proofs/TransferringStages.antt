@@ -3,16 +3,17 @@
 use Rattle.std.proofs.Common.{◌≡◌, ℕ, Bool, true, false, cond, ◌&&◌, ◌||◌, List, [], ◌∷◌, take, max, bytes_eq, refl, sym, ap, ◌∙◌, subst, arith, Option, Some, None, eqb-true}
 use Rattle.std.specs.Prelude.{◌==◌, ◌≤◌, nat_le, option_and_then, ⊤}
 use Rattle.std.specs.Option.{option_map_or}
-use Rattle.std.proofs.lemmas.Bool.{and_parts}
+use Rattle.std.proofs.lemmas.Bool.{and_parts, and_right}
 use Rattle.std.proofs.lemmas.Slice.Eq.{bytes_eq-Decides}
 use Rattle.quorum.specs.Quorum.{count_below}
 use Rattle.std.specs.Bool.{then_some}
 use Rattle.quorum.specs.Votes.{or_else}
 use Rattle.protocol.specs.System.Configuration.{Configuration, members}
 use Rattle.terms.specs.declared.state.Level.{Level}
-use Rattle.wire.specs.Messages.{BodyData as Body, MessageData as Message, NewViewData, CheckpointEntryData as CheckpointEntry, checkpoint as Checkpoint, fetch as Fetch, meta as Meta, page as Page}
+use Rattle.wire.specs.Messages.{BodyData as Body, MessageData as Message, NewViewData, CheckpointEntryData as CheckpointEntry, checkpoint as Checkpoint, fetch as Fetch, meta as Meta, page as Page, pre_prepare as PrePrepare, view_change as ViewChange, new_view as NewView}
 use Rattle.signing.specs.Heard.{heard}
 use Rattle.wire.specs.Words.{said}
+use Rattle.wire.proofs.Skipping.{none_chosen}
 use Rattle.protocol.specs.System.Trace.{Entry}
 use Rattle.protocol.specs.System.Trace.Entry.{Got, Sent}
 use Rattle.protocol.specs.Replica.Selection.{is_quorum}
@@ -28,39 +29,22 @@ abbrev pub IsPart : Message → Type 0
 IsPart message = elim message [ Checkpoint k root ↦ ⊤ | Fetch k level index ↦ ⊤ | Meta k level index digests ↦ ⊤ | Page k index text ↦ ⊤ | _ ↦ ⊥ ]
 
 none_begins : (c : Configuration) (sender : ℕ) (message : Message) → IsPart message → new_view_from c (record { sender = sender; message = message }) ≡ None
-none_begins c sender (Checkpoint k root) h = refl
-none_begins c sender (Fetch k level index) h = refl
-none_begins c sender (Meta k level index digests) h = refl
-none_begins c sender (Page k index text) h = refl
-none_begins c sender _ h = absurd h
+none_begins c sender (NewView new) h = absurd h
+none_begins c sender _ h = refl
 
 none_changes : (sender : ℕ) (message : Message) → IsPart message → change_from (record { sender = sender; message = message }) ≡ 0
-none_changes sender (Checkpoint k root) h = refl
-none_changes sender (Fetch k level index) h = refl
-none_changes sender (Meta k level index digests) h = refl
-none_changes sender (Page k index text) h = refl
-none_changes sender _ h = absurd h
+none_changes sender (ViewChange change) h = absurd h
+none_changes sender _ h = refl
 
 none_proposes : (c : Configuration) (me v i sender : ℕ) (message : Message) → IsPart message → batch_from c me v i (record { sender = sender; message = message }) ≡ None
-none_proposes c me v i sender (Checkpoint k root) h = refl
-none_proposes c me v i sender (Fetch k level index) h = refl
-none_proposes c me v i sender (Meta k level index digests) h = refl
-none_proposes c me v i sender (Page k index text) h = refl
-none_proposes c me v i sender _ h = absurd h
+none_proposes c me v i sender (PrePrepare w k batch) h = absurd h
+none_proposes c me v i sender _ h = refl
 
 -- ---- on truth values and options
-
-nothing_if : (b : Bool) (o : Option (List ℕ)) → o ≡ None → cond b o None ≡ None
-nothing_if true o h = h
-nothing_if false o h = refl
 
 pub or_nothing : (o later : Option (List ℕ)) → o ≡ None → later ≡ None → or_else o later ≡ None
 or_nothing None later h k = k
 or_nothing (Some x) later h k = absurd cc
-
-second_false : (a b : Bool) → b ≡ false → (a && b) ≡ false
-second_false true b h = h
-second_false false b h = refl
 
 one_said : (b : Bool) → (b || false) ≡ (b && true)
 one_said true = refl
@@ -129,15 +113,15 @@ module _ (clients : ℕ) (seed root : List ℕ) where
   proposes_none : (past : List Entry) (e : Entry) (body : Body) → Brings e body → (v i : ℕ) → proposal c 0 past e v i ≡ None
   proposes_none past e body x v i =
       or_nothing (begun_proposal c 0 past e v i) (entry_proposal c 0 past e v i)
-      (nothing_if (is_in_marks c (low c 0 (e ∷ past)) i) (option_and_then (batch_begun v i) (taken c past e)) (ap (option_and_then (batch_begun v i)) (takes_none past e body x)))
-      (nothing_if (counts_at c 0 past e v i) (option_and_then (batch_from c 0 v i) (brought c e)) (ap (option_and_then (batch_from c 0 v i)) x.brings ∙ none_proposes c 0 v i body.sender body.message x.part))
+      (none_chosen (is_in_marks c (low c 0 (e ∷ past)) i) (option_and_then (batch_begun v i) (taken c past e)) (ap (option_and_then (batch_begun v i)) (takes_none past e body x)))
+      (none_chosen (counts_at c 0 past e v i) (option_and_then (batch_from c 0 v i) (brought c e)) (ap (option_and_then (batch_from c 0 v i)) x.brings ∙ none_proposes c 0 v i body.sender body.message x.part))
 
   -- without an own checkpoint nothing is stable
   stable_none : (past : List Entry) (e : Entry) → checkpoints_of c (e ∷ past) 0 ≡ [] → stable_at c 0 past e ≡ 0
   stable_none past e own = go (checkpoint_in c e)
     where
       unstable : (m : CheckpointEntry) → is_stable c 0 (e ∷ past) m ≡ false
-      unstable m = second_false (is_quorum c (count_checkpoints c (e ∷ past) m)) (says_checkpoint m (checkpoints_of c (e ∷ past) 0)) (ap (says_checkpoint m) own)
+      unstable m = and_right (is_quorum c (count_checkpoints c (e ∷ past) m)) (says_checkpoint m (checkpoints_of c (e ∷ past) 0)) (ap (says_checkpoint m) own)
 
       go : (o : Option (ℕ × CheckpointEntry)) → option_map_or (λ (x : ℕ × CheckpointEntry). cond (is_stable c 0 (e ∷ past) x.1) x.1.number 0) o 0 ≡ 0
       go None = refl

@@ -1,9 +1,9 @@
 -- Where a client that goes on gives nothing.
-use Rattle.std.proofs.Common.{◌≡◌, ℕ, zero, suc, not, ◌+◌, ◌*◌, ◌≤◌, ◌<◌, inl, inr, Bool, true, false, cond, List, [], ◌∷◌, refl, sym, ap, ◌∙◌, subst, arith, ◌&&◌, ◌||◌, Option, Some, None, eqb-true, eq-eqb, reverse}
+use Rattle.std.proofs.Common.{◌≡◌, ℕ, zero, suc, not, ◌+◌, ◌*◌, ◌≤◌, ◌<◌, inl, inr, Bool, true, false, cond, List, [], ◌∷◌, refl, sym, ap, ◌∙◌, subst, arith, ◌&&◌, Option, Some, None, eqb-true, eq-eqb, reverse}
 use Rattle.std.proofs.lemmas.List.{reverse-reverse}
 use Rattle.std.specs.Prelude.{◌==◌, nat_le, is_some, option_and_then}
 use Rattle.std.specs.Option.{option_map_or}
-use Rattle.std.proofs.lemmas.Bool.{eqb-false, and_parts, leb-true}
+use Rattle.std.proofs.lemmas.Bool.{eqb-false, and_parts, leb-true, or_left, or_right}
 use Rattle.tuple_codec.specs.Operations.{Outcome}
 use Rattle.quorum.specs.Quorum.{count_below}
 use Rattle.std.specs.Bool.{then_some}
@@ -99,14 +99,6 @@ module _ (c : Configuration) (me : ℕ) where
   asked_last t (Invoke x y z ∷ past) right (inr h) = let l = asked_last t past right.1 h in let n = right.0.1.0 in omega arith
   asked_last t (_ ∷ past) right (inr h) = asked_last t past right.1 h
   asked_last t (_ ∷ past) right (inl h) = absurd h
-
-  or_right : (a b : Bool) → b ≡ true → (a || b) ≡ true
-  or_right true b e = refl
-  or_right false b e = e
-
-  or_left : (a b : Bool) → a ≡ true → (a || b) ≡ true
-  or_left true b e = refl
-  or_left false b e = absurd cc
 
   -- the open call's request went ordered, if one of its timestamp ever did
   asked_went : (call : OpenCall) (xs : List Entry) → SafeClient c me xs → open_call xs ≡ Some call → Once (AsksOrdered call.timestamp) xs → went_ordered xs call.timestamp ≡ true

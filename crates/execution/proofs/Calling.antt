@@ -11,7 +11,7 @@ use Rattle.tuple_tree.specs.Values.{AreBytes}
 use Rattle.wire.specs.Headers.{IsFrame, HasBody}
 use Rattle.wire.specs.Lists.{Each}
 use Rattle.wire.specs.Marks.{has_type_of_requests}
-use Rattle.wire.specs.Messages.{BodyData, MessageData, request, pre_prepare, prepare, commit, checkpoint, view_change, new_view, reply, fetch, meta, page}
+use Rattle.wire.specs.Messages.{BodyData, MessageData, request, pre_prepare}
 use Rattle.wire.specs.Requests.{HoldsRequest}
 use Rattle.wire.specs.Spelling.{message_type}
 use Rattle.wire.specs.declared.request_bytes.RequestBytes.{RequestBytes}
@@ -33,16 +33,7 @@ no_request c body other = go body.message other
   where
     go : (message : MessageData) → eqb (message_type message) 0x41 ≡ false → call_in c (record { sender = body.sender; message = message }) ≡ None
     go (request timestamp mode op) e = absurd (let g : ⊥ = cc in g)
-    go (pre_prepare view number batch) e = refl
-    go (prepare view number digest) e = refl
-    go (commit view number digest) e = refl
-    go (checkpoint number root) e = refl
-    go (view_change change) e = refl
-    go (new_view new) e = refl
-    go (reply client timestamp kind number outcome) e = refl
-    go (fetch number level index) e = refl
-    go (meta number level index digests) e = refl
-    go (page number index text) e = refl
+    go _ e = refl
 
 pub no_call_of_others : (clients : ℕ) (frame : List ℕ) → IsFrame frame → has_type_of_requests frame ≡ false → IsCallOf clients frame None
 no_call_of_others clients frame is other =

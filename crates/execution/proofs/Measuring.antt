@@ -16,9 +16,9 @@ use Rattle.space.specs.declared.version.Version.TheVariants as versions
 use Rattle.reply_cache.specs.Replies.{Kept, IsReply}
 use Rattle.reply_cache.specs.Pages.{reply_text}
 use Rattle.protocol.specs.Replica.State.{kept_of, page_text}
-use Rattle.protocol.proofs.Words.Paging.{header_at, pages_determine as protocol-determine}
+use Rattle.protocol.proofs.Words.Paging.{header_at, pages_determine as protocol-determine, tuple_page_at}
 use Rattle.execution.specs.Laws.{PagesDetermine, PagesAreShort}
-use Rattle.execution.proofs.Renewing.{page_there, tuples_at, replies_at, rest_at}
+use Rattle.execution.proofs.Renewing.{page_there, replies_at, rest_at}
 
 -- ---- equal pages
 
@@ -75,7 +75,7 @@ pages_are_short st page h = go (nat_lt page 256) refl (nat_lt page 512) refl (ca
     header = let n = ap length (header_at st) in omega arith
 
     go : (a : Bool) → nat_lt page 256 ≡ a → (b : Bool) → nat_lt page 512 ≡ b → (page ≡ 512) ⊎ (page ≢ 512) → length (page_text st page) ≤ 66176
-    go true x b y e = subst (λ (text : List ℕ). length text ≤ 66176) (sym (tuples_at st page (ltb-true page 256 x))) (tuples_short st.space page h.space.state)
+    go true x b y e = subst (λ (text : List ℕ). length text ≤ 66176) (sym (tuple_page_at st page (ltb-true page 256 x))) (tuples_short st.space page h.space.state)
     go false x true y e =
         let m = ltb-false page 256 x in
         let n = ltb-true page 512 y in

@@ -5,7 +5,6 @@ use Rattle.std.specs.List.{All, range_with_len}
 use Rattle.std.proofs.lemmas.Bool.{cases_eq, lt-ltb, le-ltb, ltb-true, ltb-false}
 use Rattle.std.proofs.lemmas.List.{get_or-replicate, get_or_past, length-replicate}
 use Rattle.std.proofs.lemmas.List.Elements.{All-head, All-tail, All-push}
-use Rattle.space.specs.Pages.{page_text as tuple_page}
 use Rattle.space.specs.Watching.{WatchedState, is_changed, is_touched as is_space_touched}
 use Rattle.space.proofs.Touching.{written_whole}
 use Rattle.reply_cache.specs.Pages.{page_text as reply_page, reply_text}
@@ -14,6 +13,7 @@ use Rattle.partition_tree.specs.Digests.{empty_pages}
 use Rattle.partition_tree.specs.declared.page.Page.{Page}
 use Rattle.partition_tree.proofs.Changing.{length-pages_with, pages_with-each}
 use Rattle.protocol.specs.Replica.State.{State, kept_of, page_text, all_pages, pages_of}
+use Rattle.protocol.proofs.Words.Paging.{tuple_page_at}
 use Rattle.execution.specs.Running.{state_with}
 use Rattle.execution.specs.Touching.{RepliesState, HasPages, AreRenewed, IsAmong, is_touched, is_page_touched}
 
@@ -92,10 +92,6 @@ pub pages_long : (st : State) → length (pages_of st) ≡ 1024
 unfolding all_pages
 pages_long st = long_of (page_text st) 1024 0
 
-pub tuples_at : (st : State) (i : ℕ) → i < 256 → page_text st i ≡ tuple_page st.space i
-unfolding page_text
-tuples_at st i l = rw (lt-ltb i 256 l) refl
-
 pub replies_at : (st : State) (i : ℕ) → i < 256 → page_text st (256 + i) ≡ reply_page st.replies i
 unfolding page_text
 replies_at st i l =
@@ -121,7 +117,7 @@ pub has_all : (number : ℕ) (w : WatchedState) (r : RepliesState) (tree : List 
     → tree ≡ pages_of (state_with number w.state r.replies) → ((page : ℕ) → page < 256 → is_space_touched w page ≡ false) → HasPages tree w r
 has_all number w r tree e untouched = record {
   long = ap length e ∙ pages_long st;
-  tuples = λ i l h. let m : i < 1024 = omega arith in at i m ∙ tuples_at st i l ∙ sym (written_whole w i (untouched i l)).1;
+  tuples = λ i l h. let m : i < 1024 = omega arith in at i m ∙ tuple_page_at st i l ∙ sym (written_whole w i (untouched i l)).1;
   replies = λ i l h. let m : 256 + i < 1024 = omega arith in at (256 + i) m ∙ replies_at st i l;
   rest = λ i l. go i l (nat_lt i 1024) refl;
 }
@@ -194,7 +190,7 @@ all_set number w r tree ps has new =
     tuples : (i : ℕ) → All (λ (p : Page). p.index ≢ i) ps → i < 256 → get_or tree i [] ≡ page_text st i
     tuples i apart l =
         let whole = written_whole w i (sym (tuples_touched w r i l) ∙ none i apart (omega arith)) in
-        has.tuples i l whole.0 ∙ whole.1 ∙ sym (tuples_at st i l)
+        has.tuples i l whole.0 ∙ whole.1 ∙ sym (tuple_page_at st i l)
 
     replies : (i : ℕ) → All (λ (p : Page). p.index ≢ 256 + i) ps → i < 256 → get_or tree (256 + i) [] ≡ page_text st (256 + i)
     replies i apart l = has.replies i l (sym (replies_touched w r i l) ∙ none (256 + i) apart (omega arith)) ∙ sym (replies_at st i l)

@@ -9,13 +9,13 @@ use Rattle.space.specs.Pages.{ArePages as AreSpacePages, IsStateAt, header_text,
 use Rattle.reply_cache.specs.Replies.{Replies}
 use Rattle.reply_cache.specs.Pages.{ArePages as AreReplyPages}
 use Rattle.protocol.specs.Replica.State.{State, IsReplicatedState, page_text, all_pages, pages_of}
-use Rattle.protocol.proofs.Words.Paging.{header_at}
+use Rattle.protocol.proofs.Words.Paging.{header_at, tuple_page_at}
 use Rattle.space.specs.Watching.{WatchedState, is_touched}
 use Rattle.execution.specs.Running.{state_with}
 use Rattle.execution.specs.Touching.{RepliesState}
 use Rattle.execution.specs.Keeping.{IsExecuted}
 use Rattle.execution.specs.Installing.{HasPagesAt, AreTexts, NoneBehind, NoneFalls, NoneReplaces}
-use Rattle.execution.proofs.Renewing.{has_all, all_of, page_there, tuples_at, replies_at, rest_at}
+use Rattle.execution.proofs.Renewing.{has_all, all_of, page_there, replies_at, rest_at}
 use Rattle.execution.proofs.Measuring.{pages_determine}
 
 -- ---- collected texts
@@ -57,7 +57,7 @@ space_pages number pages texts header st are e h = record {
   state = h.state.space;
   heading = e ∙ page_is number pages st h 512 (omega arith) ∙ header_at st;
   all = are.all;
-  each = λ i l. text_at pages texts i l are ∙ page_is number pages st h i (omega arith) ∙ tuples_at st i l;
+  each = λ i l. text_at pages texts i l are ∙ page_is number pages st h i (omega arith) ∙ tuple_page_at st i l;
 }
 
 pub reply_pages : (number : ℕ) (pages texts : List (List ℕ)) (st : State) → AreTexts pages 256 texts → HasPagesAt number pages st
@@ -84,7 +84,7 @@ has_pages number n pages texts more header s r long none are at space e ares rep
     st = state_with number s r
 
     low : (i : ℕ) → i < 256 → get_or pages i [] ≡ page_text st i
-    low i l = sym (text_at pages texts i l are) ∙ space.each i l ∙ sym (tuples_at st i l)
+    low i l = sym (text_at pages texts i l are) ∙ space.each i l ∙ sym (tuple_page_at st i l)
 
     middle : (i : ℕ) → i < 256 → get_or pages (256 + i) [] ≡ page_text st (256 + i)
     middle i l = sym (ares.each i l) ∙ replies.each i l ∙ sym (replies_at st i l)

@@ -24,7 +24,7 @@ row_left m h i is a b c =
     ∙ get_or-drop (h - m.low) m.rows (i - h - 1) no_row
     ∙ ap (λ (k : ℕ). slice_index_or m.rows k no_row) n
 
-empty : (n i : ℕ) → slice_index_or (replicate n no_row) i no_row ≡ no_row
+pub empty : (n i : ℕ) → slice_index_or (replicate n no_row) i no_row ≡ no_row
 empty zero i = refl
 empty (suc n) zero = refl
 empty (suc n) (suc i) = empty n i

@@ -29,10 +29,6 @@ module _ {A B : Type 0} (f : A → B) where
   pub count_alike : (owners : List A) (n : ℕ) (x : B) → map f owners ≡ replicate n x → length owners ≡ n
   count_alike owners n x e = sym (length-map owners f) ∙ ap length e ∙ length-replicate n x
 
-pub map-map : {A B C : Type 0} (g : B → C) (f : A → B) (xs : List A) → map g (map f xs) ≡ map (λ x. g (f x)) xs
-map-map g f [] = refl
-map-map g f (x ∷ xs) = ap (λ ys. g (f x) ∷ ys) (map-map g f xs)
-
 -- setting a value that stands there changes nothing
 pub set_there : {A : Type 0} (xs : List A) (i : ℕ) (d x : A) → get_or xs i d ≡ x → xs ≡ set xs i x
 set_there xs i d x e = sym (set-get_or xs i d) ∙ ap (set xs i) e

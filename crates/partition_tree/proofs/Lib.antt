@@ -3,4 +3,3 @@ pub mod Holding
 pub mod Parting
 pub mod Renewing
 pub mod Standing
-pub mod Telling

@@ -32,17 +32,7 @@ request_short (request t modes.Ordered op) sorted is =
     let n = length-append (to_be_bytes w64 t) (mode_byte modes.Ordered ∷ operation_spelling op) in
     let l = operation_short op is.1 in
     (omega (arith, n, l), refl)
-request_short (request t modes.ReadOnly op) sorted is = absurd cc
-request_short (pre_prepare view number batch) sorted is = absurd cc
-request_short (prepare view number digest) sorted is = absurd cc
-request_short (commit view number digest) sorted is = absurd cc
-request_short (checkpoint number root) sorted is = absurd cc
-request_short (view_change change) sorted is = absurd cc
-request_short (new_view new) sorted is = absurd cc
-request_short (reply client t kind number outcome) sorted is = absurd cc
-request_short (fetch number level index) sorted is = absurd cc
-request_short (meta number level index digests) sorted is = absurd cc
-request_short (page number index text) sorted is = absurd cc
+request_short _ sorted is = absurd cc
 
 -- a body after its length
 body_length : (body : BodyData) → length (piece (body_spelling body)) ≡ 7 + length (fields_spelling body.message)
@@ -185,16 +175,7 @@ fields_short (page number index text) is unsigned fits =
 
 limit : (m : Message) → is_signed m ≡ false → frame_limit m ≡ 4194304
 limit (view_change change) unsigned = absurd cc
-limit (new_view new) unsigned = refl
-limit (request t mode op) unsigned = refl
-limit (pre_prepare view number batch) unsigned = refl
-limit (prepare view number digest) unsigned = refl
-limit (commit view number digest) unsigned = refl
-limit (checkpoint number root) unsigned = refl
-limit (reply client t kind number outcome) unsigned = refl
-limit (fetch number level index) unsigned = refl
-limit (meta number level index digests) unsigned = refl
-limit (page number index text) unsigned = refl
+limit _ unsigned = refl
 
 -- with the MACs of the parties it isn't too long
 pub never_too_long : (seed : List ℕ) (body : BodyData) (parties : List ℕ) → IsSealable body parties → FitsFrame body.message → IsTooLong (sealed_for seed body parties) → ⊥

@@ -1,8 +1,8 @@
 -- All replicas but one, ascending.
-use Rattle.std.proofs.Common.{arith, eqb-true, eq-eqb, ◌≡◌, ◌≢◌, ℕ, zero, suc, ◌+◌, ◌<◌, ◌≤◌, Bool, true, false, true≢false, cond, List, [], ◌∷◌, ◌++◌, length, refl, sym, ap, ◌∙◌, not, filter, map, append-nil}
+use Rattle.std.proofs.Common.{arith, eqb-true, eq-eqb, ◌≡◌, ◌≢◌, ℕ, zero, suc, ◌+◌, ◌<◌, ◌≤◌, Bool, true, false, cond, List, [], ◌∷◌, ◌++◌, length, refl, sym, ap, ◌∙◌, not, filter, map, append-nil}
 use Rattle.std.specs.Prelude.{◌==◌, nat_lt}
 use Rattle.std.specs.List.{range_with_len}
-use Rattle.std.proofs.lemmas.Bool.{and_from, lt-ltb}
+use Rattle.std.proofs.lemmas.Bool.{and_from, lt-ltb, not-false}
 use Rattle.std.proofs.lemmas.List.FromFn.{filter_of_map_range_with_len_more}
 use Rattle.wire.specs.Lists.{ascends, leads}
 use Rattle.posting.specs.Endpoint.{others_below}
@@ -81,17 +81,13 @@ one_case p a b xs true s e f h = let l : length (filter p (a ∷ b ∷ xs)) ≡ 
 one_case p a b xs false s e f h =
     let l : length (filter p (a ∷ b ∷ xs)) ≡ suc (length (filter p xs)) = ap length (left_out p a (b ∷ xs) e ∙ kept p b xs (h e)) in omega arith
 
-passed : (t : Bool) → not t ≡ false → t ≡ true
-passed true e = refl
-passed false e = absurd (true≢false e)
-
 not_both : (me : ℕ) → not (0 == me) ≡ false → not (1 == me) ≡ true
 not_both me e = go (1 == me) refl
   where
     go : (t : Bool) → (1 == me) ≡ t → not (1 == me) ≡ true
     go false h = ap not h
     go true h =
-        let first : 0 ≡ me = eqb-true 0 me (passed (0 == me) e) in
+        let first : 0 ≡ me = eqb-true 0 me (not-false (0 == me) e) in
         let second : 1 ≡ me = eqb-true 1 me h in
         absurd (omega (arith, first, second))
 

@@ -34,11 +34,12 @@ use Rattle.protocol.proofs.Agreement.Voting.{correct_replica}
 use Rattle.protocol.proofs.Agreement.States.{history_append}
 use Rattle.protocol.proofs.Points.Reading.{correct_client, own_entries, latest_heard, replying}
 use Rattle.protocol.proofs.Points.Running.{Run}
+use Rattle.protocol.proofs.Words.Lists.{none_pass}
 use Rattle.progress.specs.Delivery.{HasEntry, AllDelivered}
 use Rattle.progress.specs.Answered.{KeepsReply, ExecutedCallsAreAccepted}
 use Rattle.progress.proofs.Hearing.{Heard, sealed_is_heard}
 use Rattle.progress.proofs.Events.{Reacted, reacted, Owed, owed, Given, given, MightSend, sent_may}
-use Rattle.progress.proofs.Clients.{none_pass, Accepting, open_or_accepted, latest_since, open_calls_lack_quorums}
+use Rattle.progress.proofs.Clients.{Accepting, open_or_accepted, latest_since, open_calls_lack_quorums}
 use Rattle.progress.proofs.Replies.{run_of, spoken_agree}
 use Rattle.progress.proofs.Keeping.{kept_stays}
 

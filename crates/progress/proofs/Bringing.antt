@@ -7,7 +7,7 @@ use Rattle.protocol.specs.System.Trace.Entry.{Tick, Accepted}
 use Rattle.protocol.specs.System.Run.{IsRun, OnlyTheseStopped}
 use Rattle.protocol.specs.System.Schedule.{Step, World, Goes}
 use Rattle.protocol.specs.System.Schedule.Step.{ticks, flush}
-use Rattle.protocol.specs.System.Schedule.Goes.{ends, gives, called, delivers, gets, ticked, seals, signs, flushes, flushed}
+use Rattle.protocol.specs.System.Schedule.Goes.{ends, gives, called, delivers, gets, ticked, seals}
 use Rattle.protocol.proofs.Words.Elements.{has_reverse, has_reversed}
 use Rattle.progress.specs.Delivery.{HasEntry}
 use Rattle.progress.specs.Flushed.{FlushesBringAnswers}
@@ -18,14 +18,8 @@ use Rattle.progress.proofs.Answering.{executed_calls_are_accepted}
 pub tick_is_fed : (c : Configuration) (w v : World) (p : ℕ) (rest steps : List Step) (entries : List Entry) → Goes c w steps entries v → steps ≡ ticks p ∷ rest → HasEntry (Tick p) entries
 tick_is_fed c w v p rest _ _ ends is = absurd cc
 tick_is_fed c w v p rest _ _ (gives o g) is = inr (tick_is_fed c _ v p rest _ _ g is)
-tick_is_fed c w v p rest _ _ (called a g) is = absurd cc
-tick_is_fed c w v p rest _ _ (delivers a s g) is = absurd cc
-tick_is_fed c w v p rest _ _ (gets a g) is = absurd cc
 tick_is_fed c w v p rest _ _ (ticked {party = q} a g) is = let same : q ≡ p = cc in inl (ap (λ (x : ℕ). Tick x) same)
-tick_is_fed c w v p rest _ _ (seals a j g) is = absurd cc
-tick_is_fed c w v p rest _ _ (signs a j g) is = absurd cc
-tick_is_fed c w v p rest _ _ (flushes x g) is = absurd cc
-tick_is_fed c w v p rest _ _ (flushed j x g) is = absurd cc
+tick_is_fed c w v p rest _ _ _ is = absurd cc
 
 pub flushes_bring_answers : FlushesBringAnswers
 flushes_bring_answers c setting w v entries reached k call keeps goes run stopped unforged apart client opened enough each =

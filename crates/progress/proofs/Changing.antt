@@ -45,9 +45,6 @@ speaks_sends s vc past other _ own h = absurd h
 
 module _ (c : Configuration) (setting : IsConfiguration c) (trace : List Entry) (is_run : IsRun c trace) (goes : OnlyTheseStopped c [] trace) (unforged : Unforged c trace)
     (v start : ℕ) (root : List ℕ) (n : IsNextView c trace v start root) where
-  abbrev p0 : ℕ
-  p0 = primary c v
-
   safe : AreReplicasSafe c trace
   safe p h = is_replica_right c p (history_of p trace) (is_run.replicas p h)
 

@@ -31,25 +31,21 @@ use Rattle.protocol.proofs.Words.Reacting.{is_replica_right}
 use Rattle.protocol.proofs.Words.Temporal.{once_weaker}
 use Rattle.protocol.proofs.Agreement.Agreeing.{logged_was_offered, has_digest_is, prepared_agree}
 use Rattle.protocol.proofs.Agreement.Changes.{NewChangeAt, change_is_new, change_target}
-use Rattle.protocol.proofs.Agreement.Commits.{prepared_stays}
+use Rattle.protocol.proofs.Agreement.Commits.{prepared_remains}
 use Rattle.protocol.proofs.Agreement.Marks.{takes, proposes}
 use Rattle.protocol.proofs.Agreement.Offers.{offer_from, offer_in, offered, entry_batch, logged_view, offers_kept}
 use Rattle.protocol.proofs.Agreement.Signed.{changing}
 use Rattle.protocol.proofs.Agreement.Voting.{RightAt, right_always, voter_logs, primary_votes_not}
 use Rattle.evidence.proofs.SelectedTests.{pairs_of_ascending}
-use Rattle.evidence.proofs.SelectedRules.{new_views_meet_the_rules}
+use Rattle.evidence.proofs.SelectedRules.{new_views_meet_the_rules, changes_are}
 use Rattle.progress.specs.Leaving.{SaysFrom, PreparedViewsAreBegun}
 use Rattle.progress.proofs.Committing.{pre_prepare_is}
-use Rattle.progress.proofs.Gathering.{Change, Gathered, gather, carried_are}
+use Rattle.progress.proofs.Gathering.{Change, Gathered, gather}
 use Rattle.progress.proofs.Leaving.{Bytes, came_bytes, own_bytes, primaries_begin_views}
 use Rattle.progress.proofs.Happened.{At, once_at}
 use Rattle.progress.proofs.Silence.{SignedHere}
 use Rattle.progress.proofs.SilentView.{came_said, brings_signed}
 use Rattle.progress.proofs.Steady.{target_later, active_parts, marks_parts}
-
-prepared_later : (c : Configuration) (me v i : ℕ) (batch : List ℕ) (later past : List Entry) → Prepared c me past v i batch → Prepared c me (later ++ past) v i batch
-prepared_later c me v i batch [] past h = h
-prepared_later c me v i batch (e ∷ later) past h = prepared_stays c me v i batch e (later ++ past) (prepared_later c me v i batch later past h)
 
 -- ---- a batch is proposed in a view before a view change for a later one
 
@@ -449,7 +445,7 @@ module _ (c : Configuration) (setting : IsConfiguration c) (trace : List Entry) 
         record {
           batch = l.0.0;
           prepared = subst (λ (xs : List Entry). Prepared c x.0 xs e.view e.number l.0.0) (sym (it.splits ∙ sym (append_assoc it.newer (it.entry ∷ []) it.past)))
-              (prepared_later c x.0 e.view e.number l.0.0 (it.newer ++ it.entry ∷ []) it.past l.0.1);
+              (prepared_remains c x.0 e.view e.number l.0.0 (it.newer ++ it.entry ∷ []) it.past l.0.1);
           digest_is = l.0.2;
           earlier = omega arith;
           above = m.0;
@@ -667,7 +663,7 @@ module _ (c : Configuration) (setting : IsConfiguration c) (trace : List Entry) 
 
   pub made_changes : Each (HasLatestChange c p (history_of p trace)) (changes_of c made)
   unfolding made
-  made_changes = subst (λ (set : List (ℕ × ViewChangeData)). Each (HasLatestChange c p (history_of p trace)) set) (sym (carried_are c g.frames g.set g.signed))
+  made_changes = subst (λ (set : List (ℕ × ViewChangeData)). Each (HasLatestChange c p (history_of p trace)) set) (sym (changes_are c g.frames g.set g.signed))
       (each_weaker Voter (HasLatestChange c p (history_of p trace)) (λ x h. h.latest) g.set g.each)
 
   long_enough : start + length filled.batches ≡ top.number

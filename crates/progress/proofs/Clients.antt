@@ -1,11 +1,10 @@
 -- A client's open call: only an acceptance ends it, and while it is open no 2f + 1 replies agree.
-use Rattle.std.proofs.Common.{◌≡◌, ℕ, zero, suc, ◌+◌, ◌*◌, ◌≤◌, ◌⊎◌, inl, inr, Bool, true, false, cond, List, [], ◌∷◌, ◌++◌, Option, Some, None, refl, sym, ap, ◌∙◌, subst, arith, bytes_eq, ◌&&◌, eqb-true, eq-eqb}
+use Rattle.std.proofs.Common.{◌≡◌, ℕ, ◌+◌, ◌*◌, ◌≤◌, ◌⊎◌, inl, inr, Bool, true, false, cond, List, [], ◌∷◌, ◌++◌, Option, Some, None, refl, sym, ap, ◌∙◌, subst, arith, bytes_eq, ◌&&◌, eqb-true, eq-eqb}
 use Rattle.std.specs.Prelude.{◌==◌, option_and_then}
 use Rattle.std.specs.Option.{option_map_or}
 use Rattle.std.specs.Bool.{then_some}
 use Rattle.std.proofs.lemmas.Bool.{and_parts, and_from, leb-false}
 use Rattle.std.proofs.lemmas.Slice.Eq.{bytes_eq-Decides}
-use Rattle.quorum.specs.Quorum.{count_below}
 use Rattle.quorum.proofs.Counting.{count_mono}
 use Rattle.tuple_codec.specs.Operations.{Operation, Outcome}
 use Rattle.tuple_codec.specs.Spelling.{outcome_spelling}
@@ -20,13 +19,10 @@ use Rattle.protocol.specs.Client.RightClient.{OpenCall, open_call, Vote, vote_of
 use Rattle.protocol.specs.Client.RightClient.Reaction.{nothing, accepts}
 use Rattle.protocol.proofs.Words.Modes.{same_mode-true}
 use Rattle.protocol.proofs.Words.Options.{some_injective}
+use Rattle.protocol.proofs.Words.Lists.{none_pass}
 use Rattle.evidence.proofs.Counted.{heard_is_latest}
 use Rattle.progress.specs.Delivery.{HasEntry}
 use Rattle.progress.specs.Answered.{OpenCallsLackQuorums}
-
-pub none_pass : (n : ℕ) → count_below (λ x. false) n ≡ 0
-none_pass zero = refl
-none_pass (suc n) = none_pass n
 
 -- ---- only an acceptance ends it
 

@@ -16,20 +16,19 @@ use Rattle.protocol.specs.System.Configuration.{Configuration, IsConfiguration, 
 use Rattle.protocol.specs.System.Trace.{Entry, party_of, history_of, Once, Unforged}
 use Rattle.protocol.specs.System.Trace.Entry.{Got, Sent}
 use Rattle.protocol.specs.System.Run.{OnlyTheseStopped}
-use Rattle.protocol.specs.Replica.Certificates.{view, is_active_in, low, is_in_marks, are_genuine, brought, counts_at, batch_from, begun_proposal, entry_proposal, proposal, logged, first_given, prepare_from, commit_from, vote_in, prepare_of, commit_of, Prepared, Committed}
+use Rattle.protocol.specs.Replica.Certificates.{is_active_in, low, is_in_marks, are_genuine, brought, counts_at, batch_from, begun_proposal, entry_proposal, proposal, logged, first_given, prepare_from, commit_from, vote_in, prepare_of, commit_of, Prepared, Committed}
 use Rattle.protocol.specs.Replica.RightReplica.{Point, Leaves, MaySend, MaySay, IsFor, others}
 use Rattle.protocol.specs.Replica.Owed.{Proceeds, SendsMessage}
-use Rattle.protocol.specs.Space.Linear.{reached}
 use Rattle.protocol.specs.Laws.Histories.{AreReplicasSafe}
-use Rattle.protocol.proofs.Words.Options.{some_injective, then_some_gives}
+use Rattle.protocol.proofs.Words.Options.{some_injective}
 use Rattle.protocol.proofs.Words.Elements.{has_left, has_right, has_reversed}
 use Rattle.protocol.proofs.Words.Reacting.{proceeds_leaves}
-use Rattle.protocol.proofs.Agreement.Voting.{Logs, logs_stay, logged_stays, voter_logs}
+use Rattle.protocol.proofs.Agreement.Voting.{Logs, logs_stay, logged_stays, voter_logs, batch_is}
 use Rattle.protocol.proofs.Agreement.Commits.{CommitsAt, voter_commits}
 use Rattle.protocol.proofs.Agreement.Agreeing.{logged_was_offered}
 use Rattle.protocol.proofs.Agreement.States.{once_append}
 use Rattle.protocol.proofs.Words.Temporal.{once_weaker, once_stays}
-use Rattle.protocol.proofs.Points.Levels.{many_correct, reached_grows}
+use Rattle.protocol.proofs.Points.Levels.{many_correct}
 use Rattle.progress.specs.Delivery.{HasEntry}
 use Rattle.progress.proofs.Events.{Given, given}
 use Rattle.progress.proofs.Flipping.{Flip, flips}
@@ -72,16 +71,7 @@ stands e (x ∷ part) start (inr h) = let b = stands e part start h in record { 
 
 pub pre_prepare_is : (c : Configuration) (me v i : ℕ) (batch : List ℕ) (sender : ℕ) (message : Message) → batch_from c me v i (record { sender = sender; message = message }) ≡ Some batch
     → (◌≡◌ {A = Body} (record { sender = sender; message = message }) (record { sender = primary c v; message = PrePrepare v i batch })) × (are_genuine c me batch ≡ true)
-pre_prepare_is c me v i batch sender (PrePrepare view number b) h =
-    let g = then_some_gives ((view == v) && (number == i) && (sender == primary c v) && are_genuine c me b) b batch h in
-    let p = and_parts ((view == v) && (number == i) && (sender == primary c v)) (are_genuine c me b) g.0 in
-    let q = and_parts ((view == v) && (number == i)) (sender == primary c v) p.0 in
-    let o = and_parts (view == v) (number == i) q.0 in
-    let ev : view ≡ v = eqb-true view v o.0 in
-    let ei : number ≡ i = eqb-true number i o.1 in
-    let es : sender ≡ primary c v = eqb-true sender (primary c v) q.1 in
-    (rw (ev, ei, es, g.1) refl, subst (λ (x : List ℕ). are_genuine c me x ≡ true) g.1 p.1)
-pre_prepare_is c me v i batch sender _ h = absurd cc
+pre_prepare_is c me v i batch sender message h = let b = batch_is c me v i batch sender message h in (rw (b.1, b.0) refl, b.2)
 
 -- whether the batch is logged
 decide_logged : (c : Configuration) (me v i : ℕ) (batch : List ℕ) (past : List Entry) → (logged c me past v i ≡ Some batch) ⊎ (logged c me past v i ≡ Some batch → ⊥)
@@ -110,10 +100,6 @@ decide_prepared c me v i batch past = go (decide_logged c me v i batch past)
 pub none_logged : (c : Configuration) (me v i : ℕ) (batch : List ℕ) → logged c me [] v i ≡ Some batch → ⊥
 unfolding logged
 none_logged c me v i batch h = cc
-
-pub later_reached : (r : ℕ) (middle past : List Entry) → reached past r ≤ reached (middle ++ past) r
-later_reached r [] past = omega arith
-later_reached r (e ∷ middle) past = let a = later_reached r middle past in let b = reached_grows e (middle ++ past) r in omega arith
 
 pub own_in : (p : ℕ) (e : Entry) (xs : List Entry) → HasEntry e (history_of p xs) → party_of e ≡ p
 own_in p e [] h = absurd h
@@ -167,18 +153,15 @@ pub data IsOf (v i : ℕ) : Message → Type 0 where
 
 pub of_unsigned : (v i : ℕ) (message : Message) → IsOf v i message → is_signed message ≡ false
 of_unsigned v i _ (is_batch b) = refl
-of_unsigned v i _ (is_prepare d) = refl
-of_unsigned v i _ (is_commit d) = refl
+of_unsigned v i _ _ = refl
 
 pub of_sent : (c : Configuration) (v i q : ℕ) (message : Message) → IsOf v i message → is_replica c q ≡ true → sends (members c) q message ≡ true
 of_sent c v i q _ (is_batch b) h = h
-of_sent c v i q _ (is_prepare d) h = h
-of_sent c v i q _ (is_commit d) h = h
+of_sent c v i q _ _ h = h
 
 pub of_others : (c : Configuration) (v i q : ℕ) (past : List Entry) (receivers : List ℕ) (message : Message) → IsOf v i message → IsFor c q past message receivers → receivers ≡ others c q
 of_others c v i q past receivers _ (is_batch b) h = h
-of_others c v i q past receivers _ (is_prepare d) h = h
-of_others c v i q past receivers _ (is_commit d) h = h
+of_others c v i q past receivers _ _ h = h
 
 -- a replica that may send one of these has logged a batch for the number
 pub of_logged : (c : Configuration) (v i q : ℕ) (past : List Entry) (at : Point) (bytes : List ℕ) (message : Message) → IsOf v i message → MaySay c q past at (Sent q bytes) bytes message

@@ -1,20 +1,17 @@
 -- Events of a history's later part: an input there, with all outputs of its party.
-use Rattle.std.proofs.Common.{◌≡◌, ℕ, ◌⊎◌, inl, inr, Bool, true, false, List, [], ◌∷◌, ◌++◌, reverse, Some, ap, subst}
+use Rattle.std.proofs.Common.{◌≡◌, ℕ, ◌⊎◌, inl, inr, false, List, [], ◌∷◌, ◌++◌, reverse, Some, ap, subst}
 use Rattle.wire.specs.Messages.{MessageData as Message}
 use Rattle.wire.specs.Words.{said}
 use Rattle.protocol.specs.System.Configuration.{Configuration}
-use Rattle.protocol.specs.System.Trace.{Entry, is_output, either}
+use Rattle.protocol.specs.System.Trace.{Entry, is_output}
 use Rattle.protocol.specs.System.Trace.Entry.{Sent}
 use Rattle.protocol.specs.Client.RightClient.{reaction, IsReaction, MayInput, Reacts}
 use Rattle.protocol.specs.Replica.RightReplica.{Point, Leaves, IsStep, MaySend}
 use Rattle.protocol.specs.Replica.Owed.{Owes, Proceeds, IsSaying, SendsMessage}
 use Rattle.protocol.proofs.Words.Elements.{has_some}
 use Rattle.protocol.proofs.Words.Reacting.{one_of, proceeds_leaves}
+use Rattle.evidence.proofs.RefusingRuns.{when_false}
 use Rattle.progress.specs.Delivery.{HasEntry}
-
-pub when_false : (b : Bool) (X Y : Type 0) → b ≡ false → either b X Y → Y
-when_false true X Y e h = absurd cc
-when_false false X Y e h = h
 
 -- all of them stand among the outputs that are still to come, or in the part
 abbrev pub Among : List Entry → List Entry → List Entry → Type 0

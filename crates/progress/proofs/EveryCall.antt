@@ -45,6 +45,7 @@ use Rattle.progress.proofs.Committing.{pre_prepare_is, none_logged, own_in}
 use Rattle.progress.proofs.Normal.{answered, in_either}
 use Rattle.progress.proofs.Numbering.{open_calls_are_numbered}
 use Rattle.progress.proofs.FirstView.{low_reached, number_committed, committed_first, first_numbers_are_executed}
+use Rattle.progress.proofs.SecondView.{sends_any}
 
 -- the pre-prepare by which the first view's primary assigns the number
 abbrev giving : Configuration → ℕ → List ℕ → Body
@@ -158,10 +159,6 @@ module _ (c : Configuration) where
       earlier : (o : Option (List ℕ)) → logged c p0 past 0 i ≡ o → view c past ≡ 0 → or_else o (proposal c p0 past e 0 i) ≡ Some b → ((x : List ℕ) → logged c p0 past 0 i ≡ Some x → (d : List ℕ) × (logged c p0 past 0 j ≡ Some d)) → (d : List ℕ) × (logged c p0 past 0 j ≡ Some d)
       earlier (Some x) is before h below = below x is
       earlier None is before h below = new before is h
-
-sends_any : (body : Body) (past other : List Entry) (e : Entry) → SendsBody body past e → SendsBody body other e
-sends_any body past other (Sent p bytes) h = h
-sends_any body past other _ h = absurd h
 
 never : (xs : List Entry) → Once (λ past e. ⊥) xs → ⊥
 never [] h = absurd h

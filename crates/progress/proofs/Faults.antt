@@ -1,39 +1,37 @@
 -- If faulty replicas are silent, the first view is so if its primary is one of them, and no new view has a batch.
 use Rattle.std.proofs.Common.{◌≡◌, ℕ, ◌+◌, ◌*◌, ◌≤◌, ◌⊎◌, inl, inr, Bool, true, false, not, List, [], ◌∷◌, ◌++◌, length, Option, Some, None, refl, sym, ap, ◌∙◌, subst, arith, append_assoc}
 use Rattle.std.proofs.lemmas.Bool.{and_parts, and_from}
-use Rattle.wire.specs.Messages.{BodyData as Body, ViewChangeData, NewViewData, BatchEntryData as BatchEntry, new_view as NewView}
-use Rattle.wire.specs.Words.{said, carried, requests_of_all}
+use Rattle.wire.specs.Messages.{BodyData as Body, ViewChangeData, NewViewData, BatchEntryData as BatchEntry}
+use Rattle.wire.specs.Words.{said, carried}
 use Rattle.authenticator.specs.Membership.{has_sender}
 use Rattle.signing.specs.Heard.{heard, signed_body}
 use Rattle.signing.proofs.Heard.{signed_was_signed}
 use Rattle.protocol.specs.System.Configuration.{Configuration, IsConfiguration, primary, is_replica, is_faulty_replica, is_correct_replica, members}
-use Rattle.protocol.specs.System.Trace.{Entry, history_of, Once, Always, Has, Unforged, frames_in, carried_by}
+use Rattle.protocol.specs.System.Trace.{Entry, history_of, Once, Always, Has, Unforged, frames_in}
 use Rattle.protocol.specs.System.Trace.Entry.{Invoke, Got, Sent}
 use Rattle.protocol.specs.System.Texts.{NoCollision}
 use Rattle.protocol.specs.System.Run.{IsRun, OnlyTheseStopped}
 use Rattle.protocol.specs.Replica.Selection.{change_by}
-use Rattle.protocol.specs.Replica.Certificates.{new_view_in, new_view_from, brought, proposal, logged}
+use Rattle.protocol.specs.Replica.Certificates.{brought, proposal, logged}
 use Rattle.protocol.specs.Replica.RightReplica.{HasSeen, SafeReplica}
 use Rattle.protocol.specs.Laws.Histories.{Takes}
 use Rattle.evidence.specs.RefusedMarks.{SpellsChange}
 use Rattle.evidence.specs.Selected.{AreSigned, SomePrepared, IsSelected}
-use Rattle.protocol.proofs.Words.Elements.{each_has, has_some, has_left, has_right}
-use Rattle.protocol.proofs.Words.Linking.{Speaks, heard_said, signed_said}
+use Rattle.protocol.proofs.Words.Elements.{each_has, has_some, has_right}
+use Rattle.protocol.proofs.Words.Linking.{Speaks, signed_said}
 use Rattle.protocol.proofs.Words.Lists.{change_of}
-use Rattle.protocol.proofs.Words.Options.{and_then_some, given_once}
+use Rattle.protocol.proofs.Words.Options.{given_once}
 use Rattle.protocol.proofs.Words.Temporal.{once_weaker}
 use Rattle.protocol.proofs.Agreement.Changes.{NewChangeAt, change_is_new}
-use Rattle.protocol.proofs.Agreement.Marks.{begins, takes}
 use Rattle.protocol.proofs.Agreement.Offers.{Offers, proposal_offer, logged_view}
-use Rattle.protocol.proofs.Agreement.Signed.{changing, change_was_said}
+use Rattle.protocol.proofs.Agreement.Signed.{changing, change_was_said, taken_seen}
 use Rattle.protocol.proofs.Agreement.Voting.{RightAt, right_always, once_right, speaks_as_itself}
 use Rattle.protocol.proofs.Words.Reacting.{is_replica_right}
 use Rattle.evidence.proofs.SelectedTests.{ascending_of_pairs}
-use Rattle.evidence.proofs.SelectedRules.{new_views_meet_the_rules}
+use Rattle.evidence.proofs.SelectedRules.{new_views_meet_the_rules, changes_are}
 use Rattle.progress.specs.Delivery.{HasEntry}
 use Rattle.progress.specs.SilentView.{IsOfNoFaulty, AreFaultySilent, IsFirstViewSilent, SecondIsNext, FaultyPrimariesAreSilent}
 use Rattle.progress.proofs.Answering.{in_trace}
-use Rattle.progress.proofs.Gathering.{carried_are}
 use Rattle.progress.proofs.Silence
 use Rattle.progress.proofs.Happened.{At, once_at}
 use Rattle.progress.proofs.Steady.{logged_later}
@@ -105,22 +103,6 @@ module _ (c : Configuration) (trace : List Entry) (silent : AreFaultySilent c tr
   seen_of_none q correct (Invoke x y z ∷ past) inside right bytes (inl h) body signed = absurd h
   seen_of_none q correct (_ ∷ past) inside right bytes (inl h) body signed = absurd h
 
-carried_seen : (new : NewViewData) (bytes : List ℕ) (whole : List ℕ) (body : Body) → said whole ≡ Some body → body.message ≡ NewView new → Has (λ x. x ≡ bytes) new.changes → Has (λ x. x ≡ bytes) (carried_by whole)
-carried_seen new bytes whole body is message h = rw is (rw message (has_left (λ y. y ≡ bytes) new.changes (requests_of_all new.batches) h))
-
-taken_seen : (c : Configuration) (new : NewViewData) (bytes : List ℕ) → Has (λ x. x ≡ bytes) new.changes → (past : List Entry) (e : Entry) → Takes c new past e → HasSeen bytes past e
-taken_seen c new bytes h past e t = go e (takes c 0 past e new t).brought
-  where
-    go : (e : Entry) → new_view_in c e ≡ Some new → HasSeen bytes past e
-    go (Got p whole) b =
-        let r = and_then_some (new_view_from c) (heard (members c) p whole) new b in
-        inr (carried_seen new bytes whole r.0 (heard_said c p whole r.0 r.1) (begins c r.0 new r.2).message_is h)
-    go (Sent p whole) b =
-        let r = and_then_some (new_view_from c) (said whole) new b in
-        inr (carried_seen new bytes whole r.0 r.1 (begins c r.0 new r.2).message_is h)
-    go (Invoke x y z) b = absurd cc
-    go _ b = absurd cc
-
 -- the frame of a view change in a set
 set_frame : (c : Configuration) (frames : List (List ℕ)) (set : List (ℕ × ViewChangeData)) → AreSigned c frames set → (x : ℕ × ViewChangeData) → Has (λ y. y ≡ x) set
     → (bytes : List ℕ) × Has (λ y. y ≡ bytes) frames × SpellsChange c bytes x.0 x.1
@@ -167,7 +149,7 @@ module _ (c : Configuration) (setting : IsConfiguration c) (trace : List Entry) 
     says : Once (Speaks (changing x.0 x.1)) (history_of x.0 trace)
     says =
         change_was_said c trace q x.0 new x.1 safe unforged correct sender taken_it
-        (subst (λ (set : List (ℕ × ViewChangeData)). change_by set x.0 ≡ Some x.1) (sym (carried_are c new.changes rules.set rules.signed))
+        (subst (λ (set : List (ℕ × ViewChangeData)). change_by set x.0 ≡ Some x.1) (sym (changes_are c new.changes rules.set rules.signed))
         (change_of rules.set x.0 x.1 (ascending_of_pairs rules.set rules.ascending) in_set))
 
     none_prepared : (b : BatchEntry) → Has (λ y. y ≡ b) x.1.prepared → ⊥

@@ -13,6 +13,7 @@ use Rattle.protocol.specs.System.Schedule.Step.{calls, deliver, feed, seal, sign
 use Rattle.protocol.specs.System.Schedule.Goes.{ends, gives, called, delivers, gets, ticked, seals, signs, flushes, flushed}
 use Rattle.protocol.proofs.Words.Options.{some_injective}
 use Rattle.protocol.proofs.Words.Elements.{some_of_has, has_reverse, has_reversed}
+use Rattle.evidence.proofs.RefusingRunsSchedules.{get_left}
 use Rattle.progress.specs.Delivery.{HasEntry, meant, AllDelivered}
 use Rattle.progress.specs.Flushed.{IsReached, EndsInFlush, FlushesDeliverAll}
 
@@ -34,11 +35,6 @@ past_grows c w v _ _ (flushes p g) = past_grows c _ v _ _ g
 past_grows c w v _ _ (flushed j p g) = past_grows c _ v _ _ g
 
 -- ---- frames stay, and those that are sent are among them
-
-get_left : (xs ys : List Made) (i : ℕ) (x : Made) → slice_get xs i ≡ Some x → slice_get (xs ++ ys) i ≡ Some x
-get_left [] ys i x h = absurd cc
-get_left (y ∷ xs) ys zero x h = h
-get_left (y ∷ xs) ys (suc i) x h = get_left xs ys i x h
 
 get_last : (xs : List Made) (x : Made) → slice_get (xs ++ x ∷ []) (length xs) ≡ Some x
 get_last [] x = refl
@@ -219,14 +215,7 @@ none_left c w v _ _ (flushed {steps = []} j p g) h = last w _ _ g refl j p
     last : (w : World) (steps : List Step) (entries : List Entry) → Goes c w steps entries v → steps ≡ [] → AtInput entries → pending c w ≡ None → pending c v ≡ None
     last w _ _ ends none j p = p
     last w _ _ (gives {e = e} o g) none j p = let bad : false ≡ true = sym j ∙ o in absurd cc
-    last w _ _ (called a g) none j p = absurd cc
-    last w _ _ (delivers a s g) none j p = absurd cc
-    last w _ _ (gets a g) none j p = absurd cc
-    last w _ _ (ticked a g) none j p = absurd cc
-    last w _ _ (seals a i g) none j p = absurd cc
-    last w _ _ (signs a i g) none j p = absurd cc
-    last w _ _ (flushes x g) none j p = absurd cc
-    last w _ _ (flushed i x g) none j p = absurd cc
+    last w _ _ _ none j p = absurd cc
 none_left c w v _ _ (flushed {steps = step ∷ steps} j p g) h = none_left c _ v _ _ g h
 
 -- if none is left, each frame was delivered to each of its correct receivers

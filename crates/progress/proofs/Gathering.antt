@@ -1,5 +1,5 @@
 -- Signed view changes of enough replicas, put in order, and the new view over them that has no batch.
-use Rattle.std.proofs.Common.{◌≡◌, ℕ, zero, suc, ◌+◌, ◌*◌, ◌≤◌, ◌<◌, inl, inr, Bool, true, false, List, [], ◌∷◌, map, Some, None, refl, sym, ap, ◌∙◌, arith, eqb-true, ◌&&◌}
+use Rattle.std.proofs.Common.{◌≡◌, ℕ, zero, suc, ◌+◌, ◌*◌, ◌≤◌, ◌<◌, inl, inr, Bool, true, false, List, [], ◌∷◌, Some, None, refl, sym, ap, ◌∙◌, arith, eqb-true, ◌&&◌}
 use Rattle.std.specs.Prelude.{◌==◌, nat_lt, ⊤}
 use Rattle.std.proofs.lemmas.Bool.{and_parts, and_from, lt-ltb, ltb-true, eqb-false}
 use Rattle.quorum.specs.Quorum.{count_below}
@@ -8,7 +8,7 @@ use Rattle.wire.specs.Lists.{Each}
 use Rattle.wire.specs.Messages.{ViewChangeData, NewViewData, CheckpointEntryData as CheckpointEntry}
 use Rattle.protocol.specs.System.Configuration.{Configuration, replicas}
 use Rattle.protocol.specs.System.Trace.{Has}
-use Rattle.protocol.specs.Replica.Selection.{is_within, signed_change, changes_of, list_of, ascending, may_select}
+use Rattle.protocol.specs.Replica.Selection.{is_within, changes_of, ascending, may_select}
 use Rattle.protocol.specs.Laws.Bounds.{IsBounded}
 use Rattle.evidence.specs.Refused.{SoManyHave}
 use Rattle.evidence.specs.RefusedMarks.{SpellsChange}
@@ -16,7 +16,7 @@ use Rattle.evidence.specs.Selected.{AreSigned, SomePrepared}
 use Rattle.protocol.proofs.Words.Bounds.{bounded}
 use Rattle.protocol.proofs.Words.Elements.{each_weaker, each_has}
 use Rattle.evidence.proofs.SelectedTests.{pairs_of_ascending}
-use Rattle.evidence.proofs.SelectedRules.{new_views_meet_the_rules}
+use Rattle.evidence.proofs.SelectedRules.{new_views_meet_the_rules, changes_are}
 use Rattle.progress.specs.Leaving.{HasNothingAbove}
 
 -- ---- one view change a replica, in the order of the replicas
@@ -95,15 +95,6 @@ gather c P from first (suc n) have =
     one_more c P from first n have
     (gather c P from (suc first) n (λ s l m h. let a : first ≤ s = omega arith in let b : s < first + suc n = omega arith in have s a b h))
 
--- the set that the frames carry
-pub carried_are : (c : Configuration) (frames : List (List ℕ)) (set : List (ℕ × ViewChangeData)) → AreSigned c frames set → list_of (map (signed_change c) frames) ≡ set
-carried_are c [] [] h = refl
-carried_are c [] (x ∷ xs) h = absurd h
-carried_are c (frame ∷ frames) [] h = absurd h
-carried_are c (frame ∷ frames) (x ∷ xs) h =
-    let spells : signed_change c frame ≡ Some x = rw h.0 refl in
-    rw spells (ap (λ (ys : List (ℕ × ViewChangeData)). x ∷ ys) (carried_are c frames xs h.1))
-
 -- ---- the new view with no batch
 
 abbrev pub bare_view : ℕ → ℕ → List ℕ → List (List ℕ) → NewViewData
@@ -160,4 +151,4 @@ module _ (c : Configuration) (v start : ℕ) (root : List ℕ) (P : ℕ × ViewC
   })
 
   pub carried_by_bare : changes_of c (bare_view v start root g.frames) ≡ g.set
-  carried_by_bare = carried_are c g.frames g.set g.signed
+  carried_by_bare = changes_are c g.frames g.set g.signed

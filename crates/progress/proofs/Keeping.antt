@@ -2,18 +2,17 @@
 use Rattle.std.proofs.Common.{◌≡◌, ℕ, zero, suc, ◌+◌, ◌≤◌, ◌<◌, inl, inr, Bool, true, false, cond, List, [], ◌∷◌, ◌++◌, length, fold, Option, Some, None, refl, sym, ap, ◌∙◌, subst, arith, append_assoc}
 use Rattle.std.specs.Option.{option_map_or}
 use Rattle.std.proofs.lemmas.Bool.{ltb-true}
-use Rattle.tuple_codec.specs.Operations.{Operation}
 use Rattle.terms.specs.declared.order.Mode.TheVariants as modes
 use Rattle.wire.specs.Words.{requests_of}
 use Rattle.reply_cache.specs.Replies.{Kept}
 use Rattle.protocol.specs.Replica.RightReplica
 use Rattle.protocol.specs.System.Configuration.{Configuration, IsConfiguration, is_correct_replica, is_correct_client}
-use Rattle.protocol.specs.System.Trace.{Entry, history_of, Once, Has}
+use Rattle.protocol.specs.System.Trace.{Entry, history_of, Has}
 use Rattle.protocol.specs.System.Trace.Entry.{Invoke, Accepted}
 use Rattle.protocol.specs.Replica.State.{State, Call, Ran, opening, runs, run_call, ran_call, call_of, run_frame, execute, ran_in, kept_of, last_time}
 use Rattle.protocol.specs.Replica.RightReplica.{Leaves}
 use Rattle.protocol.specs.Client.RightClient.{OpenCall, open_call, last_call, SafeClient}
-use Rattle.protocol.specs.Space.Linear.{batch_of, reached, Invokes}
+use Rattle.protocol.specs.Space.Linear.{batch_of, reached}
 use Rattle.progress.specs.Answered.{KeepsReply}
 use Rattle.protocol.proofs.Words.Options.{some_injective}
 use Rattle.protocol.proofs.Words.Elements.{has_some}
@@ -24,7 +23,8 @@ use Rattle.protocol.proofs.Points.Running.{Run, IsBy, state_by, is_by, batch_is}
 use Rattle.protocol.proofs.Points.Sorting.{all_has}
 use Rattle.protocol.proofs.Points.Ran.{FromFrame, ran_frames}
 use Rattle.protocol.proofs.Points.Keeping.{RanBy, Keeps, kept_ran-opening, Full, opening_full, frames_full, executed_full, executed_times, call_small, time_grows}
-use Rattle.protocol.proofs.Points.Invoking.{executed_asked, asks_said, call_body, asked_op}
+use Rattle.protocol.proofs.Points.Invoking.{executed_asked, asks_said, call_body, asked_op, invokes_le}
+use Rattle.protocol.proofs.Points.Accepting.{open_last}
 
 -- ---- last timestamps never fall
 
@@ -94,19 +94,6 @@ ran_at c xs st k (suc n) Q (inr h) =
     let b = r.below in
     record { number = r.number; from = omega arith; below = omega arith; state = r.state; ran = r.ran; is_there = r.is_there; holds = r.holds }
 
-pub invoked_last : (c : Configuration) (p t : ℕ) (op : Operation) (xs : List Entry) → SafeClient c p xs → Once (Invokes p t op) xs → t ≤ last_call xs
-invoked_last c p t op [] r h = absurd h
-invoked_last c p t op (Invoke x y z ∷ past) r (inl h) = let e = h.1 in omega arith
-invoked_last c p t op (Invoke x y z ∷ past) r (inr h) = let a = invoked_last c p t op past r.1 h in let n = r.0.1.0 in omega arith
-invoked_last c p t op (_ ∷ past) r (inl h) = absurd h
-invoked_last c p t op (_ ∷ past) r (inr h) = invoked_last c p t op past r.1 h
-
-pub open_last : (xs : List Entry) (call : OpenCall) → open_call xs ≡ Some call → last_call xs ≡ call.timestamp
-open_last [] call h = absurd cc
-open_last (Invoke x y z ∷ past) call h = ap (λ (o : OpenCall). o.timestamp) (some_injective {A = OpenCall} (record { timestamp = y; op = z }) call h)
-open_last (Accepted x y z ∷ past) call h = absurd cc
-open_last (_ ∷ past) call h = open_last past call h
-
 pub open_positive : (c : Configuration) (p : ℕ) (xs : List Entry) (call : OpenCall) → SafeClient c p xs → open_call xs ≡ Some call → 1 ≤ call.timestamp
 open_positive c p [] call r h = absurd cc
 open_positive c p (Invoke x y z ∷ past) call r h =
@@ -124,7 +111,7 @@ by_at c trace run r later past point correct splits leaves =
     (had_executed c run.setting trace run.runs.replicas run.runs.unforged run.apart point.state
     (record { replica = r; later = later; past = past; is_correct = correct; splits = splits; point = point; leaves = leaves }, inl refl))
 
-later_reached : (r : ℕ) (middle past : List Entry) → reached past r ≤ reached (middle ++ past) r
+pub later_reached : (r : ℕ) (middle past : List Entry) → reached past r ≤ reached (middle ++ past) r
 later_reached r [] past = omega arith
 later_reached r (e ∷ middle) past = let a = later_reached r middle past in let b = reached_grows e (middle ++ past) r in omega arith
 
@@ -164,7 +151,7 @@ module _ (c : Configuration) (trace : List Entry) (run : Run c trace) (k : ℕ) 
       let says = asks_said c trace f.frame (asking (256 + at.ran.call.client) at.ran.call.timestamp modes.Ordered at.ran.call.op) run.runs (call_body c f.frame at.ran.call f.is_call)
       (correct_client c (256 + at.ran.call.client) mine) asked in
       let invoked = asked_op c (256 + at.ran.call.client) at.ran.call.timestamp modes.Ordered at.ran.call.op (history_of (256 + at.ran.call.client) trace) (run.runs.clients (256 + at.ran.call.client) mine) says in
-      let most = invoked_last c (256 + at.ran.call.client) at.ran.call.timestamp at.ran.call.op (history_of (256 + at.ran.call.client) trace) (run.runs.clients (256 + at.ran.call.client) mine) invoked in
+      let most = invokes_le c (256 + at.ran.call.client) at.ran.call.timestamp at.ran.call.op (history_of (256 + at.ran.call.client) trace) (run.runs.clients (256 + at.ran.call.client) mine) invoked in
       let last : last_call (history_of (256 + at.ran.call.client) trace) ≡ call.timestamp = ap (λ (p : ℕ). last_call (history_of p trace)) party ∙ open_last (history_of (256 + k) trace) call opened in
       let time : kept.timestamp ≡ at.ran.call.timestamp = sym (ap (λ (x : Kept). x.timestamp) at.holds.0) ∙ at.holds.3 in
       omega arith

@@ -1,12 +1,11 @@
 -- A replica that times out sends a view change, and the primary of a view that has enough of them begins the view.
 use Rattle.std.proofs.Common.{◌≡◌, ℕ, suc, ◌+◌, ◌≤◌, ◌<◌, ◌⊎◌, inl, inr, Bool, true, false, cond, ◌&&◌, List, [], ◌∷◌, ◌++◌, reverse, Some, None, refl, sym, ap, ◌∙◌, subst, arith, append_assoc, eq-eqb}
-use Rattle.std.specs.Prelude.{nat_le, option_and_then, All}
+use Rattle.std.specs.Prelude.{nat_le, option_and_then}
 use Rattle.std.proofs.lemmas.Bool.{and_parts, and_from, leb-true, leb-false}
 use Rattle.wire.specs.Lists.{Each}
 use Rattle.wire.specs.Messages.{BodyData as Body, MessageData as Message, FrameData as Frame, AuthenticatorData as Authenticator, macs, signature, ViewChangeData, NewViewData, view_change as ViewChange}
 use Rattle.wire.specs.Spelling.{is_signed, authenticator_is_signed}
 use Rattle.wire.specs.Words.{said}
-use Rattle.authenticator.specs.Authentic.{mac_of}
 use Rattle.authenticator.specs.Membership.{has_sender}
 use Rattle.signing.specs.Heard.{has_signature, is_signed_frame, signed_body}
 use Rattle.protocol.specs.System.Configuration.{Configuration, replicas, primary, is_replica, members}
@@ -23,7 +22,6 @@ use Rattle.protocol.proofs.Words.Elements.{each_weaker}
 use Rattle.protocol.proofs.Agreement.Signed.{changing}
 use Rattle.protocol.proofs.Agreement.States.{history_append}
 use Rattle.progress.specs.Leaving.{WaitingReplicasLeave, PrimariesBeginViews, UnpreparedViewsAreBegun}
-use Rattle.progress.proofs.Events.{when_false}
 use Rattle.progress.proofs.Flipping.{next_output}
 use Rattle.progress.proofs.Hearing.{Spelled, spelled_as}
 use Rattle.progress.proofs.Listing.{view_changes_exist}
@@ -32,6 +30,8 @@ use Rattle.protocol.proofs.Words.Standing.{points_are_one}
 use Rattle.progress.proofs.Steady.{target_later, leaves_behind}
 use Rattle.protocol.proofs.Words.Plain.{plain_view}
 use Rattle.progress.proofs.Gathering.{Change, Gathered, gather, bare_view, IsBare, bare_is_selected, carried_by_bare}
+use Rattle.evidence.proofs.JoiningChanges.{IsSealedBy}
+use Rattle.evidence.proofs.RefusingRuns.{when_false}
 
 -- ---- the event of an input
 
@@ -159,11 +159,6 @@ primaries_begin_views c trace goes p new correct own left selected changes batch
         (record { left = at; view = sym left; primary = own; selected = selected; changes = changes; batches = batches }))
 
 -- ---- a frame of a view change
-
--- the frame is sealed well, by its authenticator
-abbrev IsSealedBy : Configuration → Frame → Authenticator → Type 0
-IsSealedBy c frame (macs entries) = All (λ x. x.mac ≡ mac_of c.seed x.receiver frame.body) entries
-IsSealedBy c frame (signature s) = has_signature c.seed frame ≡ true
 
 by_signature : (c : Configuration) (frame : Frame) (a : Authenticator) → authenticator_is_signed a ≡ true → IsSealedBy c frame a → has_signature c.seed frame ≡ true
 by_signature c frame (macs entries) h sealed = absurd cc

@@ -1,9 +1,7 @@
 -- Whatever a replica has logged and prepared, some view change says it.
-use Rattle.std.proofs.Common.{◌≡◌, ◌≢◌, ℕ, zero, suc, ◌+◌, ◌^◌, ◌≤◌, ◌<◌, ◌⊎◌, inl, inr, Bool, true, false, not, cond, ◌&&◌, List, [], ◌∷◌, ◌++◌, map, reverse, filter, Option, Some, None, refl, sym, ap, ◌∙◌, subst, arith, eqb-true, bytes_eq, All, AllPairs}
-use Rattle.std.specs.Prelude.{◌==◌, nat_lt, nat_le, ⊤}
+use Rattle.std.proofs.Common.{◌≡◌, ◌≢◌, ℕ, zero, suc, ◌+◌, ◌^◌, ◌≤◌, ◌<◌, ◌⊎◌, inl, inr, Bool, true, false, not, cond, ◌&&◌, List, [], ◌∷◌, ◌++◌, map, reverse, filter, Option, Some, None, refl, sym, ap, ◌∙◌, subst, arith, eqb-true, bytes_eq}
+use Rattle.std.specs.Prelude.{◌==◌, nat_lt, nat_le}
 use Rattle.std.proofs.lemmas.Bool.{and_from, lt-ltb, le-leb, eqb-false}
-use Rattle.std.proofs.lemmas.List.Elements.{All-cons}
-use Rattle.std.proofs.lemmas.List.Kept.{AllPairs-cons}
 use Rattle.std.proofs.lemmas.Slice.Eq.{bytes_eq-Decides}
 use Rattle.sha2.specs.Sha256.{sha256}
 use Rattle.wire.specs.Lists.{Each}
@@ -17,23 +15,12 @@ use Rattle.protocol.proofs.Words.Elements.{each_has, each_weaker, each_append, e
 use Rattle.protocol.proofs.Agreement.Changes.{logged_within}
 use Rattle.protocol.proofs.Agreement.Offers.{logged_view}
 use Rattle.protocol.proofs.Agreement.Voting.{RightAt, right_always}
+use Rattle.protocol.proofs.Words.Pairs.{Pairs, all_pairs}
 use Rattle.progress.specs.Leaving.{ViewChangesExist}
 use Rattle.progress.proofs.Committing.{decide_prepared}
 use Rattle.progress.proofs.Steady.{marks_parts}
 
 -- ---- pairs in a list
-
-abbrev Pairs : {A : Type 0} → (A → A → Type 0) → List A → Type 0
-Pairs R [] = ⊤
-Pairs R (x ∷ xs) = Each (R x) xs × Pairs R xs
-
-all_each : {A : Type 0} (P : A → Type 0) (xs : List A) → Each P xs → All P xs
-all_each P [] h = λ k d l. absurd (omega arith)
-all_each P (x ∷ xs) h = All-cons P x xs h.0 (all_each P xs h.1)
-
-all_pairs : {A : Type 0} (R : A → A → Type 0) (xs : List A) → Pairs R xs → AllPairs R xs
-all_pairs R [] h = λ i j d l m. absurd (omega arith)
-all_pairs R (x ∷ xs) h = AllPairs-cons R x xs (all_each (R x) xs h.0) (all_pairs R xs h.1)
 
 pairs_append : {A : Type 0} (R : A → A → Type 0) (xs ys : List A) → Pairs R xs → Pairs R ys → Each (λ x. Each (R x) ys) xs → Pairs R (xs ++ ys)
 pairs_append R [] ys h k m = k

@@ -22,6 +22,7 @@ use Rattle.protocol.proofs.Points.Levels.{many_correct, number_reached, reached_
 use Rattle.protocol.proofs.Points.Running.{Run, IsBy, state_by}
 use Rattle.protocol.proofs.Points.Keeping.{opening_full}
 use Rattle.protocol.proofs.Points.Invoking.{run_part}
+use Rattle.evidence.proofs.Gaps.{has_value}
 use Rattle.progress.specs.Delivery.{HasEntry, AllDelivered}
 use Rattle.progress.specs.Answered.{KeepsReply}
 use Rattle.progress.specs.Redelivered.{AllRedelivered, StaysActive, IsGiven}
@@ -37,10 +38,6 @@ use Rattle.progress.proofs.Numbering.{open_calls_are_numbered}
 use Rattle.progress.proofs.Begun.{begun_is_committed, begun_numbers_are_executed}
 use Rattle.progress.proofs.Changing.{next_is_entered}
 
-some_there : (o : Option (List ℕ)) → is_some o ≡ true → (d : List ℕ) × (o ≡ Some d)
-some_there None h = absurd cc
-some_there (Some d) h = (d, refl)
-
 module _ (c : Configuration) (setting : IsConfiguration c) (later start : List Entry) (is_run : IsRun c (later ++ start)) (goes : OnlyTheseStopped c [] (later ++ start))
     (unforged : Unforged c (later ++ start)) (v : ℕ) (f : ViewGoesOn c v later start) (stays : (q : ℕ) → is_correct_replica c q ≡ true → StaysActive c v later start q) (all : AllRedelivered c later start) where
   abbrev trace : List Entry
@@ -48,9 +45,9 @@ module _ (c : Configuration) (setting : IsConfiguration c) (later start : List E
 
   -- the new view or the primary assigned each number that the primary logged
   either : (i : ℕ) → is_some (logged c (primary c v) (history_of (primary c v) (later ++ start)) v i) ≡ true → IsBegun c v i later start ⊎ IsGiven c v i later start
-  either i h = go (f.numbers i (some_there (logged c (primary c v) (history_of (primary c v) (later ++ start)) v i) h).0 (some_there (logged c (primary c v) (history_of (primary c v) (later ++ start)) v i) h).1).1
+  either i h = go (f.numbers i (has_value (logged c (primary c v) (history_of (primary c v) (later ++ start)) v i) h).0 (has_value (logged c (primary c v) (history_of (primary c v) (later ++ start)) v i) h).1).1
     where
-      go : HasNumber c v i (some_there (logged c (primary c v) (history_of (primary c v) (later ++ start)) v i) h).0 later start → IsBegun c v i later start ⊎ IsGiven c v i later start
+      go : HasNumber c v i (has_value (logged c (primary c v) (history_of (primary c v) (later ++ start)) v i) h).0 later start → IsBegun c v i later start ⊎ IsGiven c v i later start
       go (inl x) = inl x.0
       go (inr x) = inr x.0
 

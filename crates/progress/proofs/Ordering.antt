@@ -6,7 +6,7 @@ use Rattle.wire.specs.Messages.{BodyData as Body, MessageData as Message, pre_pr
 use Rattle.signing.proofs.Heard.{heard_was_opened}
 use Rattle.protocol.specs.System.Configuration.{Configuration, IsConfiguration, replicas, primary, is_replica, is_correct_replica, members}
 use Rattle.protocol.specs.System.Trace.{Entry, party_of, history_of, Unforged}
-use Rattle.protocol.specs.System.Trace.Entry.{Invoke, Got, Tick, Executed, Installed, Sent, Accepted}
+use Rattle.protocol.specs.System.Trace.Entry.{Invoke, Got, Sent}
 use Rattle.protocol.specs.System.Run.{IsRun, OnlyTheseStopped}
 use Rattle.protocol.specs.Replica.Certificates.{view, taken, is_active_in, low, is_in_marks, are_genuine, brought, batch_begun, begun_proposal, entry_proposal, proposal, logged, first_given, Committed}
 use Rattle.protocol.specs.Replica.RightReplica.{Point, Leaves, MaySend, MaySay}
@@ -27,7 +27,8 @@ use Rattle.progress.proofs.Hearing.{Heard}
 use Rattle.progress.proofs.Answering.{in_history, in_trace}
 use Rattle.progress.proofs.Flipping.{none_is_left}
 use Rattle.progress.proofs.Steady.{active_once, active_between, marks_between, Since, given_since, SentAt, sent_at, sent_in_part, other_hears}
-use Rattle.progress.proofs.Committing.{Stands, stands, Shared, Comes, IsOf, of_unsigned, of_sent, of_others, of_logged, counts_here, pre_prepare_is, own_in, later_reached, committed as committed_by}
+use Rattle.progress.proofs.Committing.{Stands, stands, Shared, Comes, IsOf, of_unsigned, of_sent, of_others, of_logged, counts_here, pre_prepare_is, own_in, committed as committed_by}
+use Rattle.progress.proofs.Keeping.{later_reached}
 
 module _ (c : Configuration) (setting : IsConfiguration c) (later start : List Entry) (is_run : IsRun c (later ++ start)) (goes : OnlyTheseStopped c [] (later ++ start))
     (unforged : Unforged c (later ++ start)) (v i : ℕ) (batch : List ℕ) (from : is_correct_replica c (primary c v) ≡ true)
@@ -208,10 +209,7 @@ module _ (c : Configuration) (setting : IsConfiguration c) (later start : List E
           at : SentAt c p0 p bytes (whole p0)
           at = sent_at c p0 p bytes (whole p0) (point p0 from) (leaves p0 from) (subst (λ (x : Entry). HasEntry x (whole p0)) is entry_in_whole)
       go (Invoke x y z) is h = absurd cc
-      go (Tick x) is h = absurd cc
-      go (Executed x y z) is h = absurd cc
-      go (Installed x y z) is h = absurd cc
-      go (Accepted x y z) is h = absurd cc
+      go _ is h = absurd cc
 
   -- ---- each commits it
 

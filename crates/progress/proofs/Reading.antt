@@ -21,14 +21,14 @@ use Rattle.protocol.proofs.Agreement.States.{history_append, once_append}
 use Rattle.protocol.proofs.Points.Levels.{reached_history, reached_grows, number_reached}
 use Rattle.protocol.proofs.Points.Reading.{asking, correct_client, replying}
 use Rattle.protocol.proofs.Points.Running.{Run, state_by}
-use Rattle.protocol.proofs.Points.Invoking.{run_part, asked_op, one_invocation}
+use Rattle.protocol.proofs.Points.Invoking.{run_part, asked_op, one_invocation, invokes_le}
 use Rattle.protocol.proofs.Points.Accepting.{Replied, replied, read_replied}
 use Rattle.progress.specs.Delivery.{HasEntry, AllDelivered}
 use Rattle.progress.specs.Reading.{StaysAt, ReadsAreAccepted}
 use Rattle.progress.proofs.Events.{Reacted, reacted}
 use Rattle.progress.proofs.Clients.{Accepting}
 use Rattle.progress.proofs.Replies.{run_of}
-use Rattle.progress.proofs.Keeping.{invoked_last}
+use Rattle.progress.proofs.Keeping.{later_reached}
 use Rattle.progress.proofs.Answering.{in_trace, accepted_or_not, safe_behind, Asked, Voted, hears_request, event, voted, not_all_alike}
 
 -- ---- two ends of one list
@@ -46,10 +46,6 @@ ends_of : (newer : List Entry) (e : Entry) (past later start : List Entry) → n
 ends_of newer e past [] start is = before newer (sym is)
 ends_of [] e past (x ∷ later) start is = behind later (ap tail_of is)
 ends_of (y ∷ newer) e past (x ∷ later) start is = ends_of newer e past later start (ap tail_of is)
-
-later_reached : (r : ℕ) (middle past : List Entry) → reached past r ≤ reached (middle ++ past) r
-later_reached r [] past = omega arith
-later_reached r (e ∷ middle) past = let a = later_reached r middle past in let b = reached_grows e (middle ++ past) r in omega arith
 
 -- ---- the law
 
@@ -139,7 +135,7 @@ module _ (c : Configuration) (setting : IsConfiguration c) (k t n : ℕ) (op : O
         go : Once (Speaks (asking me t modes.ReadOnly may.op)) (Invoke k t op ∷ history_of me start) → ⊥
         go (inl h) = h
         go (inr h) =
-            let l = invoked_last c me t may.op (history_of me start) safe_before (asked_op c me t modes.ReadOnly may.op (history_of me start) safe_before h) in
+            let l = invokes_le c me t may.op (history_of me start) safe_before (asked_op c me t modes.ReadOnly may.op (history_of me start) safe_before h) in
             let new = is_new in
             omega arith
 

@@ -24,7 +24,8 @@ use Rattle.progress.proofs.Hearing.{Heard}
 use Rattle.progress.proofs.Answering.{in_history, in_trace}
 use Rattle.progress.proofs.Flipping.{none_is_left}
 use Rattle.progress.proofs.Steady.{active_once, active_between, marks_between, logged_later, SentAt, sent_at, other_hears}
-use Rattle.progress.proofs.Committing.{Stands, stands, Shared, Comes, Reaches, of_unsigned, of_sent, of_others, counts_here, later_reached, committed as committed_by}
+use Rattle.progress.proofs.Committing.{Stands, stands, Shared, Comes, Reaches, of_unsigned, of_sent, of_others, counts_here, committed as committed_by}
+use Rattle.progress.proofs.Keeping.{later_reached}
 
 -- the frame of a body that was sent
 record Frame (body : Body) (xs : List Entry) : Type 0 where

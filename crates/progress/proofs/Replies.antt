@@ -1,5 +1,5 @@
 -- Ordered replies to one request agree: each is of a request that ran, and none runs twice.
-use Rattle.std.proofs.Common.{◌≡◌, ℕ, zero, suc, inl, inr, List, [], ◌∷◌, map, fold, true, refl, sym, ap, ◌∙◌, subst, arith}
+use Rattle.std.proofs.Common.{◌≡◌, ℕ, zero, suc, inl, inr, List, [], ◌∷◌, map, true, refl, sym, ap, ◌∙◌, subst, arith}
 use Rattle.tuple_codec.specs.Operations.{Outcome}
 use Rattle.terms.specs.declared.order.Mode.TheVariants as modes
 use Rattle.wire.specs.Messages.{BodyData as Body, reply as Reply}
@@ -8,7 +8,7 @@ use Rattle.protocol.specs.System.Configuration.{Configuration, IsConfiguration, 
 use Rattle.protocol.specs.System.Trace.{Entry, party_of, history_of, Once, Has, SendsBody, Unforged}
 use Rattle.protocol.specs.System.Texts.{NoCollision}
 use Rattle.protocol.specs.System.Run.{IsRun}
-use Rattle.protocol.specs.Replica.State.{State, opening, execute, run_frame, ran_in}
+use Rattle.protocol.specs.Replica.State.{State, opening, execute, ran_in}
 use Rattle.protocol.specs.Space.Linear.{Placing, ordered_point, batch_of, last_executed}
 use Rattle.protocol.specs.Laws.Runs.{ran_points}
 use Rattle.protocol.proofs.Words.Temporal.{once_weaker, once_in_history}
@@ -17,10 +17,10 @@ use Rattle.protocol.proofs.Words.Elements.{has_left, has_right, has_weaker, has_
 use Rattle.protocol.proofs.Words.Leaving.{executed_number}
 use Rattle.protocol.proofs.Words.Reacting.{is_replica_right, is_client_right}
 use Rattle.protocol.proofs.Points.Running.{Run}
-use Rattle.protocol.proofs.Points.Sorting.{AllOf, all_weaker}
-use Rattle.protocol.proofs.Points.Keeping.{RanBy, Later, AllDiffer, Full, opening_full, frames_differ, executed_full, executed_times, differ_same}
+use Rattle.protocol.proofs.Points.Keeping.{RanBy, opening_full, differ_same}
 use Rattle.protocol.proofs.Points.Accepting.{Answers, replied, ordered_replied}
 use Rattle.protocol.proofs.Points.Whole.{safe_run}
+use Rattle.protocol.proofs.Points.Twice.{batches_differ}
 use Rattle.progress.specs.Answered.{OrderedRepliesAgree}
 
 -- ---- a run, for the laws over safe histories
@@ -36,14 +36,6 @@ run_of c setting trace run unforged apart =
 abbrev batches_from : List Entry → ℕ → ℕ → List (List ℕ)
 batches_from xs k zero = []
 batches_from xs k (suc n) = batch_of xs k ∷ batches_from xs (suc k) n
-
-batches_differ : (c : Configuration) → IsConfiguration c → (st : State) (batches : List (List ℕ)) → Full st → AllOf (Later st) (ran_points c st batches) × AllDiffer (ran_points c st batches)
-batches_differ c setting st [] full = (tt, tt)
-batches_differ c setting st (batch ∷ batches) full =
-    let below = batches_differ c setting (execute c st batch) batches (executed_full c st batch full) in
-    frames_differ c setting 0 (suc st.number) st (requests_of batch) (ran_points c (execute c st batch) batches) full
-    (all_weaker (Later (execute c st batch)) (Later (fold (run_frame c (suc st.number)) st (requests_of batch)))
-    (λ x h cl is_cl. let a = h cl is_cl in let b = executed_times c st batch cl in omega arith) (ran_points c (execute c st batch) batches) below.0) below.1
 
 -- the request of this client and timestamp, with its answer and its number
 abbrev Answering : ℕ → ℕ → ℕ → Outcome → Placing → Type 0

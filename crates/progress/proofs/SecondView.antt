@@ -68,7 +68,7 @@ use Rattle.progress.proofs.Faults.{faulty_primaries_are_silent, no_batches}
 abbrev giving : Configuration → ℕ → List ℕ → Body
 giving c i batch = record { sender = primary c 1; message = PrePrepare 1 i batch }
 
-sends_any : (body : Body) (past other : List Entry) (e : Entry) → SendsBody body past e → SendsBody body other e
+pub sends_any : (body : Body) (past other : List Entry) (e : Entry) → SendsBody body past e → SendsBody body other e
 sends_any body past other (Sent p bytes) h = h
 sends_any body past other _ h = absurd h
 
@@ -128,9 +128,6 @@ low_started c me (e ∷ past) point leaves zeros =
 
 module _ (c : Configuration) (setting : IsConfiguration c) (later start : List Entry) (is_run : IsRun c (later ++ start)) (goes : OnlyTheseStopped c [] (later ++ start))
     (unforged : Unforged c (later ++ start)) (apart : NoCollision c (later ++ start)) (f : SecondGoesOn c later start) where
-  abbrev p1 : ℕ
-  p1 = primary c 1
-
   abbrev trace : List Entry
   trace = later ++ start
 

@@ -199,9 +199,6 @@ left_by c (e ∷ past) l = go (new_view_in c e) refl l (left_by c past)
 
 module _ (c : Configuration) (setting : IsConfiguration c) (trace : List Entry) (is_run : IsRun c trace) (goes : OnlyTheseStopped c [] trace) (unforged : Unforged c trace) (apart : NoCollision c trace)
     (n : SecondIsNext c trace) where
-  abbrev p1 : ℕ
-  p1 = primary c 1
-
   abbrev whole : ℕ → List Entry
   whole q = history_of q trace
 

@@ -123,9 +123,6 @@ came_said c trace p s vc unforged one other h = go (once_at (λ past e. GotsSaid
 
 module _ (c : Configuration) (setting : IsConfiguration c) (trace : List Entry) (is_run : IsRun c trace) (goes : OnlyTheseStopped c [] trace) (unforged : Unforged c trace) (apart : NoCollision c trace)
     (n : SecondIsNext c trace) where
-  abbrev p1 : ℕ
-  p1 = primary c 1
-
   right : (q : ℕ) → is_correct_replica c q ≡ true → SafeReplica c q (history_of q trace)
   right q correct = Silence.safe c setting trace is_run goes unforged apart n q correct
 

@@ -24,9 +24,10 @@ use Rattle.protocol.proofs.Agreement.Voting.{correct_replica}
 use Rattle.protocol.proofs.Agreement.States.{once_append}
 use Rattle.protocol.proofs.Points.Reading.{asking, correct_client}
 use Rattle.protocol.proofs.Points.Running.{Run}
-use Rattle.protocol.proofs.Points.Invoking.{call_body, asked_op, opened_invoked, one_invocation}
+use Rattle.protocol.proofs.Points.Invoking.{call_body, asked_op, opened_invoked, one_invocation, invokes_le}
+use Rattle.protocol.proofs.Points.Accepting.{open_last}
 use Rattle.progress.proofs.Flipping.{next_output}
-use Rattle.progress.proofs.Keeping.{invoked_last, open_last, times_grow}
+use Rattle.progress.proofs.Keeping.{times_grow}
 
 -- ---- waiting requests were heard
 
@@ -116,7 +117,7 @@ module _ (c : Configuration) (trace : List Entry) (run : Run c trace) (k : ℕ) 
   heard_most t op h =
       let said' = heard_was_said c trace r (asking me t modes.Ordered op) run.runs.unforged (correct_replica c r correct) (correct_client c me client) h in
       let invoked = asked_op c me t modes.Ordered op (history_of me trace) safe said' in
-      let l = invoked_last c me t op (history_of me trace) safe invoked in
+      let l = invokes_le c me t op (history_of me trace) safe invoked in
       let last = open_last (history_of me trace) call opened in (
         (let g : t ≤ call.timestamp = omega arith in g),
         λ same. one_invocation c me call.timestamp op call.op (history_of me trace) safe (subst (λ (i : ℕ). Once (Invokes me i op) (history_of me trace)) same invoked) (opened_invoked c me call (history_of me trace) safe opened),

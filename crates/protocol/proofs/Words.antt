@@ -4,6 +4,7 @@ pub mod Options
 pub mod Modes
 pub mod Linking
 pub mod Elements
+pub mod Pairs
 pub mod Lists
 pub mod Bodies
 pub mod Leaving

@@ -1,6 +1,6 @@
 -- Laws of counts.
 use Rattle.std.proofs.Common.{◌≡◌, ℕ, zero, suc, ◌+◌, ◌*◌, ◌≤◌, ◌<◌, Bool, true, false, cond, ◌&&◌, ◌||◌, not, ◌==◌, List, [], ◌∷◌, length, eqb-true, refl, ap, ◌∙◌, arith}
-use Rattle.std.proofs.lemmas.Bool.{eqb-false}
+use Rattle.std.proofs.lemmas.Bool.{eqb-false, and_parts}
 use Rattle.quorum.specs.Quorum.{count_below, member, QuorumsMeet, OneIsCorrect}
 
 -- the counts of two tests on one number, and of both
@@ -33,17 +33,13 @@ some_more p q (suc n) h = go (p n) (q n) refl refl h (some_more p q n)
     go false true e d g below = let lt : count_below q n < count_below p n = omega arith in wider (below lt)
     go false false e d g below = let lt : count_below q n < count_below p n = omega arith in wider (below lt)
 
-pub both : (x y : Bool) → (x && y) ≡ true → (x ≡ true) × (y ≡ true)
-both true y e = (refl, e)
-both false y e = absurd cc
-
 pub quorums_meet : QuorumsMeet
 quorums_meet f faulty p q few first second =
     let n : ℕ = 3 * f + 1 in
     let meet : count_below p n + count_below q n ≤ n + count_below (λ k. p k && q k) n = two_meet p q n in
     let more : count_below faulty n < count_below (λ k. p k && q k) n = omega arith in
     let r = some_more (λ k. p k && q k) faulty n more in
-    let b = both (p r.0) (q r.0) r.3 in
+    let b = and_parts (p r.0) (q r.0) r.3 in
     (r.0, r.1, r.2, b.0, b.1)
 
 pub one_is_correct : OneIsCorrect

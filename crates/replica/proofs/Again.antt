@@ -3,9 +3,7 @@ use Rattle.std.proofs.Common.{◌≡◌, ℕ, ◌+◌, ◌≤◌, ◌<◌, inl, 
 use Rattle.std.specs.Prelude.{is_some, ◌==◌}
 use Rattle.std.proofs.lemmas.Bool.{eqb-true, eqb-false}
 use Rattle.std.proofs.lemmas.List.{append-nil, append_assoc}
-use Rattle.wire.specs.Lists.{Each}
 use Rattle.wire.specs.Messages.{MessageData as Message, CheckpointEntryData as CheckpointEntry, pre_prepare as PrePrepare, prepare as Prepare, commit as Commit, checkpoint as Checkpoint, new_view as NewView}
-use Rattle.wire.specs.Spelling.{IsBatch, IsCarried, is_ordered_request, pieces_spelling}
 use Rattle.wire.specs.Words.{requests_of, said}
 use Rattle.signing.specs.Heard.{heard}
 use Rattle.ordering.specs.Log as logs
@@ -313,9 +311,6 @@ change_only a new o before after at says is = record {
 }
 
 -- ---- a batch
-
-pub requests_make_a_batch : (frames : List (List ℕ)) → 1 ≤ length frames → length frames ≤ 16 → Each (IsCarried is_ordered_request) frames → IsBatch 1 (pieces_spelling frames)
-requests_make_a_batch frames some few each = record { requests = frames; whole = refl; enough = some; few = few; each = each }
 
 -- the requests of the batch are authentic
 held_are_genuine : (c : Configuration) (me : ℕ) (s : Start) (desk : Desk) (log : LogData) (due : List Message) (outputs : List Entry) (number : ℕ) (text : List ℕ) → events.Fits c me s desk log due outputs

@@ -58,20 +58,17 @@ fetch_within m me bytes s message fetch h is =
 -- a served part is no proposal
 no_number : (pages : List (List ℕ)) (k index : ℕ) (level : Level) → GivesNoNumber (answer_by pages k level index)
 no_number pages k index levels.Root = tt
-no_number pages k index levels.Inner = tt
-no_number pages k index levels.Page = tt
+no_number pages k index _ = tt
 
 -- and nothing new for view changes
 no_news : (c : Configuration) (me : ℕ) (past : List Entry) (pages : List (List ℕ)) (k index : ℕ) (level : Level) → IsNoNews c me past (answer_by pages k level index)
 no_news c me past pages k index levels.Root = tt
-no_news c me past pages k index levels.Inner = tt
-no_news c me past pages k index levels.Page = tt
+no_news c me past pages k index _ = tt
 
 -- and not signed
 never_signed : {A : Type 0} (pages : List (List ℕ)) (k index : ℕ) (level : Level) → is_signed (answer_by pages k level index) ≡ true → A
 never_signed pages k index levels.Root signed = absurd cc
-never_signed pages k index levels.Inner signed = absurd cc
-never_signed pages k index levels.Page signed = absurd cc
+never_signed pages k index _ signed = absurd cc
 
 none_of : (k : ℕ) (xs : List Snapshot) → Each (λ x. x.number ≢ k) xs → Has (λ x. x.number ≡ k) xs → ⊥
 none_of k [] each has = absurd has

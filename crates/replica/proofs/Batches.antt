@@ -72,10 +72,6 @@ heard_digests m me s bytes message x h is = heard_message m me bytes _ (h ∙ ap
 
 -- ---- texts
 
--- with a request it is a batch too
-pub batch_with_some : (text : List ℕ) → IsBatch 1 text → IsBatch 0 text
-batch_with_some text b = record { requests = b.requests; whole = b.whole; enough = omega arith; few = b.few; each = b.each }
-
 null_is_batch : IsBatch 0 (0 ∷ [])
 null_is_batch = record { requests = []; whole = refl; enough = omega arith; few = omega arith; each = tt }
 

@@ -1,6 +1,6 @@
 -- An event that begins with bytes: what the replica drops, and what its log takes.
 use Rattle.std.proofs.Common.{◌≡◌, ◌≢◌, ℕ, suc, ◌+◌, ◌*◌, ◌<◌, inl, inr, Bool, true, false, not, cond, ◌&&◌, ◌==◌, List, [], ◌∷◌, Option, Some, None, refl, sym, ap, ◌∙◌, subst, nat_lt, nat_le, arith, eqb-true, ◌⊎◌}
-use Rattle.std.specs.Prelude.{is_none, option_map}
+use Rattle.std.specs.Prelude.{is_none}
 use Rattle.std.specs.Bool.{then_some}
 use Rattle.std.specs.Option.{option_and_then}
 use Rattle.std.proofs.lemmas.Bool.{and_parts, false≢true, leb-true, ltb-true}
@@ -55,7 +55,7 @@ use Rattle.replica_histories.specs.Inputs.{asked, IsBesideLog}
 use Rattle.replica_histories.specs.Logs.{FitsLog, Takes}
 use Rattle.replica_histories.proofs.Entering.{inputs_fit}
 use Rattle.replica_histories.proofs.Resting.{held_are_settled}
-use Rattle.replica_histories.proofs.Counting.{batches_count, batches_drop, prepares_count, prepares_drop, commits_count, commits_drop, others_drop}
+use Rattle.replica_histories.proofs.Counting.{batches_count, batches_drop, prepares_count, prepares_drop, commits_count, commits_drop, others_drop, mapped_none}
 use Rattle.replica.specs.declared.taking.Touched.TheVariants as touched
 use Rattle.replica.specs.State.{OrdererData, JoinedData, AreOne}
 use Rattle.replica.specs.Desks.{Stands, FitsEvent, changes_of}
@@ -301,7 +301,7 @@ commit_taken r sender p new one t bytes h =
 
 -- ---- messages with a fault
 
-some_fault : (o : Option Dropped) → is_none o ≡ false → (fault : Dropped) × (o ≡ Some fault)
+pub some_fault : (o : Option Dropped) → is_none o ≡ false → (fault : Dropped) × (o ≡ Some fault)
 some_fault None h = absurd cc
 some_fault (Some x) h = (x, refl)
 
@@ -362,10 +362,6 @@ no_digest : (first : Option (List ℕ)) (digest : List ℕ) → fault_beside fir
 no_digest None digest h = refl
 no_digest (Some x) digest h = absurd cc
 
-mapped_none : {A B : Type 0} (f : A → B) (o : Option A) → option_map f o ≡ None → o ≡ None
-mapped_none f None h = refl
-mapped_none f (Some x) h = absurd cc
-
 -- if the log has no digest for a number, it has no batch
 no_batch : (log : LogData) (i : ℕ) → is_in_marks log i ≡ true → logs.logged_digest log i ≡ None → logged_batch log i ≡ None
 no_batch log i within h = ap (λ (b : Bool). cond b (logs.row_of log i).batch None) within ∙ mapped_none sha256 (logs.row_of log i).batch (sym (ap (λ (b : Bool). cond b (logs.digest_of (logs.row_of log i)) None) within) ∙ h)
@@ -408,17 +404,11 @@ IsOther m = ((x : WirePrePrepare) → m ≡ messages.PrePrepare x → ⊥) × ((
     × ((x : WireMeta) → m ≡ messages.Meta x → ⊥) × ((x : WirePage) → m ≡ messages.Page x → ⊥)
 
 other_beside : (s : ℕ) (m : WireMessage) → IsOther m → IsBesideLog (Some (record { sender = s; message = message_data m }))
-other_beside s (messages.Request x) h = tt
 other_beside s (messages.PrePrepare x) h = h.0 x refl
 other_beside s (messages.Prepare x) h = h.1 x refl
 other_beside s (messages.Commit x) h = h.2 x refl
 other_beside s (messages.Checkpoint x) h = h.3 x refl
-other_beside s (messages.ViewChange x) h = tt
-other_beside s (messages.NewView x) h = tt
-other_beside s (messages.Reply x) h = tt
-other_beside s (messages.Fetch x) h = tt
-other_beside s (messages.Meta x) h = tt
-other_beside s (messages.Page x) h = tt
+other_beside s _ h = tt
 
 -- Nor is it a client's, if a replica sent it.
 no_client : (m : Membership) (s : ℕ) → s < 256 → is_client m s ≡ false
@@ -431,16 +421,12 @@ no_client m s below = go (nat_le 256 s) refl
 other_no_call : (c : Configuration) (m : Membership) (s : ℕ) (w : WireMessage) → s < 256 → has_sender m (record { sender = s; message = message_data w }) ≡ true → IsOther w
     → IsNoCall c (Some (record { sender = s; message = message_data w }))
 other_no_call c m s (messages.Request x) below sends other = absurd (let bad : false ≡ true = sym (no_client m s below) ∙ sends in cc)
-other_no_call c m s (messages.PrePrepare x) below sends other = record { call = refl; asks = λ st. refl; parts = refl; views = refl; changes = tt }
-other_no_call c m s (messages.Prepare x) below sends other = record { call = refl; asks = λ st. refl; parts = refl; views = refl; changes = tt }
-other_no_call c m s (messages.Commit x) below sends other = record { call = refl; asks = λ st. refl; parts = refl; views = refl; changes = tt }
-other_no_call c m s (messages.Checkpoint x) below sends other = record { call = refl; asks = λ st. refl; parts = refl; views = refl; changes = tt }
 other_no_call c m s (messages.ViewChange x) below sends other = absurd (other.5 x refl)
 other_no_call c m s (messages.NewView x) below sends other = absurd (other.6 x refl)
-other_no_call c m s (messages.Reply x) below sends other = record { call = refl; asks = λ st. refl; parts = refl; views = refl; changes = tt }
 other_no_call c m s (messages.Fetch x) below sends other = absurd (other.4 x refl)
 other_no_call c m s (messages.Meta x) below sends other = absurd (other.7 x refl)
 other_no_call c m s (messages.Page x) below sends other = absurd (other.8 x refl)
+other_no_call c m s _ below sends other = record { call = refl; asks = λ st. refl; parts = refl; views = refl; changes = tt }
 
 -- A received message that has no part in the three phases is dropped.
 drops_heard : (r : JoinedData) (bytes : List ℕ) (body : Body) → AreOne r.orderer r.desk → IsBesideLog (Some body) → ((c : Configuration) → IsNoCall c (Some body))
@@ -482,13 +468,4 @@ client_dropped r k m bytes one unmarked h = drops r one bytes (λ c past runs kn
     no_sender : (c : Configuration) (past : List Entry) (x : WireMessage) → ((y : WireRequest) → x ≡ messages.Request y → ⊥) → FitsLog c (me_of r) r.orderer.log past
         → has_sender (members c) (record { sender = 256 + k; message = message_data x }) ≡ true → ⊥
     no_sender c past (messages.Request x) other f h = other x refl
-    no_sender c past (messages.PrePrepare x) other f h = no_replica c past f h
-    no_sender c past (messages.Prepare x) other f h = no_replica c past f h
-    no_sender c past (messages.Commit x) other f h = no_replica c past f h
-    no_sender c past (messages.Checkpoint x) other f h = no_replica c past f h
-    no_sender c past (messages.ViewChange x) other f h = no_replica c past f h
-    no_sender c past (messages.NewView x) other f h = no_replica c past f h
-    no_sender c past (messages.Reply x) other f h = no_replica c past f h
-    no_sender c past (messages.Fetch x) other f h = no_replica c past f h
-    no_sender c past (messages.Meta x) other f h = no_replica c past f h
-    no_sender c past (messages.Page x) other f h = no_replica c past f h
+    no_sender c past _ other f h = no_replica c past f h

@@ -1,8 +1,7 @@
 -- A view begins by a new view that the replica takes or sends: what stood still stands, with its batches.
-use Rattle.std.proofs.Common.{◌≡◌, ◌≢◌, ℕ, zero, suc, ◌+◌, ◌-◌, ◌^◌, ◌<◌, ◌≤◌, ◌⊎◌, inl, inr, Bool, true, false, cond, ◌&&◌, not, ◌==◌, is_none, nat_lt, nat_le, List, [], ◌∷◌, length, Option, Some, None, slice_get, option_map, refl, sym, ap, ◌∙◌, subst, arith}
+use Rattle.std.proofs.Common.{◌≡◌, ◌≢◌, ℕ, zero, suc, ◌+◌, ◌-◌, ◌^◌, ◌<◌, ◌≤◌, ◌⊎◌, inl, inr, Bool, true, false, cond, nat_lt, nat_le, List, [], ◌∷◌, length, Option, Some, None, slice_get, refl, sym, ap, ◌∙◌, subst, arith}
 use Rattle.std.specs.Prelude.{AllPairs}
 use Rattle.std.proofs.lemmas.Bool.{le-ltb, lt-ltb, leb-true, leb-false}
-use Rattle.sha2.specs.Sha256.{sha256}
 use Rattle.terms.specs.declared.state.Level.TheVariants as levels
 use Rattle.wire.specs.Lists.{Each}
 use Rattle.wire.specs.Messages.{MessageData as Message, NewViewData, CheckpointEntryData as CheckpointEntry, fetch as Fetch}
@@ -16,6 +15,7 @@ use Rattle.protocol.specs.System.Trace.{Once}
 use Rattle.protocol.specs.Replica.Certificates.{taken}
 use Rattle.protocol.specs.Replica.State.{Call}
 use Rattle.protocol.proofs.Words.Options.{some_injective}
+use Rattle.protocol.proofs.Words.Pairs.{Pairs, pairs_of, all_pairs}
 use Rattle.claims.specs.ClaimsView.{ClaimsData}
 use Rattle.replica_histories.specs.Changes.{AddsBatches, BeginsClaims}
 use Rattle.replica_histories.specs.Desk.{Desk, desk_from}
@@ -39,8 +39,8 @@ use Rattle.replica.specs.Going.{GoesOn, IsOneParty, IsVoted, IsVotedAll}
 use Rattle.replica.specs.Saying.{Says}
 use Rattle.replica.proofs.EnteringViews.{begun_desk}
 use Rattle.replica.proofs.Following.{aim_of, aimed_is, aims_desk}
-use Rattle.replica.proofs.Lists.{Pairs, pairs_of, all_pairs}
 use Rattle.replica.proofs.StartsFetched.{start_aims}
+use Rattle.replica.proofs.ViewsEntered.{FetchedSo, unlogged_voted}
 
 -- ---- the waiting calls are of different clients
 
@@ -67,27 +67,6 @@ calls_differ c rs calls h d = all_pairs CallsDiffer calls (pairs_differ c rs cal
 
 -- ---- votes that the log asks for
 
--- none for a number without a batch
-digest_of_batch : (m : LogData) (i : ℕ) → logs.logged_digest m i ≡ option_map sha256 (logs.logged_batch m i)
-digest_of_batch m i = go (logs.is_in_marks m i)
-  where
-    go : (b : Bool) → cond b (logs.digest_of (logs.row_of m i)) None ≡ option_map sha256 (cond b (logs.row_of m i).batch None)
-    go true = refl
-    go false = refl
-
-stopped : (b : Bool) (o : Option (List ℕ)) → o ≡ None → cond b o None ≡ None
-stopped true o e = e
-stopped false o e = refl
-
-pub none_asked : (m : LogData) (i : ℕ) → logs.logged_batch m i ≡ None → IsVoted m i
-none_asked m i h = (
-  stopped (m.active && not (m.me == logs.primary m m.view) && is_none (logs.prepare_of m i m.me)) (logs.logged_digest m i) none,
-  stopped (m.active && logs.is_prepared m i && is_none (logs.commit_of m i m.me)) (logs.logged_digest m i) none,
-)
-  where
-    none : logs.logged_digest m i ≡ None
-    none = digest_of_batch m i ∙ ap (option_map sha256) h
-
 past_end : (xs : List (List ℕ)) (k : ℕ) → length xs ≤ k → slice_get xs k ≡ None
 past_end [] zero l = refl
 past_end [] (suc k) l = refl
@@ -103,14 +82,14 @@ asks_there log new is small i = go (logs.is_in_marks (begun_log log new) i) refl
     inside above w true l = inl (above, leb-true i (new.start + length new.batches) l)
     inside above w false l =
         let over = leb-false i (new.start + length new.batches) l in
-        inr (none_asked (begun_log log new) i (begun_batch log new is small i w above ∙ past_end new.batches (i - suc new.start) (omega (arith, over, above))))
+        inr (unlogged_voted (begun_log log new) i (begun_batch log new is small i w above ∙ past_end new.batches (i - suc new.start) (omega (arith, over, above))))
 
     go : (b : Bool) → logs.is_in_marks (begun_log log new) i ≡ b → ((new.start < i) × (i ≤ new.start + length new.batches)) ⊎ IsVoted (begun_log log new) i
     go true w =
         let over = above_low (begun_log log new) i w in
         let low = begun_low log new is small in
         inside (omega (arith, over, low)) w (nat_le i (new.start + length new.batches)) refl
-    go false w = inr (none_asked (begun_log log new) i (ap (λ (b : Bool). cond b (logs.row_of (begun_log log new) i).batch None) w))
+    go false w = inr (unlogged_voted (begun_log log new) i (ap (λ (b : Bool). cond b (logs.row_of (begun_log log new) i).batch None) w))
 
 -- ---- all parts of it
 
@@ -200,18 +179,13 @@ module _ (new : NewViewData) (own : Option (List ℕ)) (r : JoinedData) (before 
 
 -- ---- after the fetch
 
-pub record IsFetchedFrom (m fetched : JoinedData) : Type 0 where
-  pub orderer : fetched.orderer ≡ m.orderer
-  pub me : fetched.desk.me ≡ m.desk.me
-  pub membership : fetched.desk.membership ≡ m.desk.membership
-
-fetched_from : (entry : CheckpointEntry) (m fetched : JoinedData) (before said : List Output) → FetchesStart entry m before fetched said → IsFetchedFrom m fetched
-fetched_from entry m fetched before said (inl h) = subst (IsFetchedFrom m) (sym h.2) (record {
+fetched_from : (entry : CheckpointEntry) (m fetched : JoinedData) (before said : List Output) → FetchesStart entry m before fetched said → FetchedSo m fetched
+fetched_from entry m fetched before said (inl h) = subst (FetchedSo m) (sym h.2) (record {
   orderer = refl;
   me = ap (λ (d : DeskData). d.me) h.1.1;
   membership = ap (λ (d : DeskData). d.membership) h.1.1;
 })
-fetched_from entry m fetched before said (inr h) = subst (IsFetchedFrom m) (sym h.1) (record { orderer = refl; me = refl; membership = refl })
+fetched_from entry m fetched before said (inr h) = subst (FetchedSo m) (sym h.1) (record { orderer = refl; me = refl; membership = refl })
 
 module _ (new : NewViewData) (own : Option (List ℕ)) (r : JoinedData) (before : List Output) (n : JoinedData) (after : List Output) (k : Begins new own r before n after) where
   abbrev me : ℕ
@@ -229,7 +203,7 @@ module _ (new : NewViewData) (own : Option (List ℕ)) (r : JoinedData) (before 
   abbrev mid : JoinedData
   mid = record r { orderer = the_orderer; desk = the_desk }
 
-  from : IsFetchedFrom mid k.fetched
+  from : FetchedSo mid k.fetched
   from = fetched_from (start_of new) mid k.fetched before k.said k.fetches
 
   pub one_party : IsOneParty r n

@@ -339,9 +339,7 @@ module _ (input : Entry) (old : JoinedData) (alone : AreOne old.orderer old.desk
   may_begin a b x y touched.View begun came moved = begins_now a b x y begun came moved
   may_begin a b x y touched.Nothing (same, still, none) came moved =
       subst (λ (r : JoinedData). TakesInput input old touched.Nothing r y) (sym same) (subst (λ (os : List Output). TakesInput input old touched.Nothing a os) (sym still) (rests_now a x none came moved))
-  may_begin a b x y touched.Waiting begun came moved = absurd begun
-  may_begin a b x y (touched.Row number) begun came moved = absurd begun
-  may_begin a b x y touched.State begun came moved = absurd begun
+  may_begin a b x y _ begun came moved = absurd begun
 
 -- others may move it to their view
 pub record Joins (a : JoinedData) (x : List Output) (b : JoinedData) (y : List Output) : Type 0 where

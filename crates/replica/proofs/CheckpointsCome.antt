@@ -1,6 +1,6 @@
 -- A checkpoint arrives. The replica drops or counts it. Then its marks move, or it fetches the state.
 use Rattle.std.proofs.Common.{◌≡◌, ◌≤◌, ◌<◌, ◌+◌, ◌*◌, ◌⊎◌, ℕ, suc, inl, inr, Bool, true, false, cond, ◌&&◌, List, [], ◌∷◌, Option, Some, None, refl, sym, ap, ◌∙◌, subst}
-use Rattle.std.specs.Prelude.{nat_le, is_none}
+use Rattle.std.specs.Prelude.{nat_le}
 use Rattle.std.proofs.lemmas.Bool.{leb-true, le-ltb, lt-ltb}
 use Rattle.std.proofs.lemmas.List.{length-set}
 use Rattle.terms.specs.declared.parties.ReplicaId.{ReplicaId}
@@ -43,7 +43,7 @@ use Rattle.desk.specs.Fetching.{aimed_at, aiming}
 use Rattle.replica.specs.Joined.{Runs, me_of}
 use Rattle.replica.specs.Going.{CommitsNoMore, IsExecuted, IsOneParty, IsSameLog, IsVotedAll, Rests}
 use Rattle.replica.specs.Saying.{Says}
-use Rattle.replica.proofs.Beginning.{IsNoCall, drops, heard_by, none_taken, rests}
+use Rattle.replica.proofs.Beginning.{IsNoCall, drops, heard_by, none_taken, rests, some_fault}
 use Rattle.replica.proofs.DueCheckpoints.{cut_commits, cut_voted, either, same_cut, settled_claims, settled_desk, settled_orderer, settled_snapshots}
 use Rattle.replica_histories.proofs.Counting.{checkpoint_free}
 use Rattle.replica.proofs.Following.{aim_of, aimed_is, aims, aims_desk}
@@ -308,10 +308,6 @@ module _ (r : JoinedData) (one : AreOne r.orderer r.desk) (s : ℕ) (entry : Che
       followed n outs (inr (quorum, ahead, same, says)) = subst (λ (k : JoinedData). TakesBytes bytes r touched.Nothing k outs) (sym same) (fetches outs quorum ahead says)
 
 -- ---- as the program takes it
-
-some_fault : (o : Option Dropped) → is_none o ≡ false → (fault : Dropped) × (o ≡ Some fault)
-some_fault None h = absurd cc
-some_fault (Some x) h = (x, refl)
 
 module _ (r : JoinedData) (one : AreOne r.orderer r.desk) (sender : ReplicaId) (m : WireCheckpoint) where
   pub checkpoint_dropped : (o : OrdererData) → TakesCheckpoint r.orderer sender m o false → TakesMessage sender (Checkpoint m.number.0 m.root) r touched.Nothing (record r { orderer = o }) []

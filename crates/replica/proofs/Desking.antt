@@ -197,10 +197,8 @@ module _ (c : Configuration) (d : DeskData) (text : List ℕ) (ran : List Ran) (
 
 -- an execution is no frame
 executions_meant : (c : Configuration) (me number : ℕ) (text : List ℕ) (output : Output) → entry_of me output ≡ Executed me number text → IsSentAsMeant c me output
-executions_meant c me number text (outputs.Executed n batch) e = tt
-executions_meant c me number text (outputs.Installed n root) e = tt
 executions_meant c me number text (outputs.Send receivers frame) e = absurd cc
-executions_meant c me number text (outputs.Accepted t answer) e = tt
+executions_meant c me number text _ e = tt
 
 run_stands : (d : DeskData) (executed : ExecutedData) (text : List ℕ) (ran : List Ran) (output : Output) (before after : List Output) (c : Configuration) (s : Start) (o : OrdererData) → IsDesk d → IsReplicatedState d.executed.state → c.clients ≤ 256 → AreFew d.snapshots → IsAfter c d.executed text (map told ran) executed
     → executed.state.number ≡ suc d.executed.state.number → entry_of d.me output ≡ Executed d.me (suc d.executed.state.number) text → after ≡ before ++ output ∷ []

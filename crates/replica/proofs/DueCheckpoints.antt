@@ -1,8 +1,9 @@
 -- The checkpoint that is due, and the marks that it moves.
-use Rattle.std.proofs.Common.{◌≡◌, ℕ, ◌%◌, ◌≤◌, ◌<◌, ◌^◌, Bool, true, false, cond, List, [], ◌∷◌, Some, None, inl, refl, sym, ap, ◌∙◌, subst, arith, ◌==◌, min, ◌-◌}
+use Rattle.std.proofs.Common.{◌≡◌, ℕ, ◌%◌, ◌≤◌, Bool, true, false, cond, List, [], ◌∷◌, Some, inl, refl, sym, ap, ◌∙◌, subst, arith, ◌==◌, min, ◌-◌}
 use Rattle.std.specs.Prelude.{nat_le}
 use Rattle.std.proofs.lemmas.Bool.{leb-false}
 use Rattle.wire.specs.Messages.{MessageData as Message, CheckpointEntryData as CheckpointEntry, checkpoint as Checkpoint}
+use Rattle.wire.proofs.Skipping.{none_chosen}
 use Rattle.events.specs.declared.output.Output.{Output}
 use Rattle.ordering.specs.Log as logs
 use Rattle.ordering.specs.Log.{LogData}
@@ -14,13 +15,13 @@ use Rattle.protocol.specs.Replica.State.{State, root_of}
 use Rattle.protocol.specs.Replica.RightReplica.{Point, MayCheckpoint, others}
 use Rattle.protocol.specs.Replica.Owed.{IsSaying, latest_checkpoint}
 use Rattle.protocol.proofs.Words.Options.{some_injective}
-use Rattle.replica_histories.specs.Desk.{Desk, point_of, desk_from, kept_from, snapshot_of}
+use Rattle.replica_histories.specs.Desk.{Desk, point_of, desk_from, kept_from}
 use Rattle.replica_histories.specs.Events as events
 use Rattle.replica_histories.specs.Events.{Start, after_outputs}
 use Rattle.replica_histories.specs.Changes.{CutsClaims, FitsChanges}
 use Rattle.replica_histories.specs.Marks.{cut_if_stable, checked_log}
 use Rattle.replica_histories.specs.Outputs.{checkpoint_due}
-use Rattle.replica_histories.proofs.Words.{passed, gated}
+use Rattle.replica_histories.proofs.Words.{passed}
 use Rattle.replica_histories.proofs.Asking.{cuts_ask_no_more}
 use Rattle.replica_histories.proofs.Cutting.{cut_same}
 use Rattle.replica_histories.proofs.Ending.{steps_leave}
@@ -35,11 +36,9 @@ use Rattle.desk.specs.Waiting.{WaitingData}
 use Rattle.replica.specs.Desks.{given, FitsWaiting, FitsEvent, Stands, changes_of}
 use Rattle.replica.specs.Going.{CommitsNoMore, IsSameLog, IsSameOrderer, IsVotedAll, KeepsChoice}
 use Rattle.replica.proofs.Choosing.{settled_choice}
-use Rattle.desk.specs.Desking.{RunsWhole, due_entry, is_due, newest_entry}
-use Rattle.desk.specs.Keeping.{newest_with}
+use Rattle.desk.specs.Desking.{due_entry, is_due, newest_entry}
 use Rattle.replica.specs.Checkpoints.{IsDueKept, SaysCheckpoint, SaysDueCheckpoint, Settles}
 use Rattle.replica.specs.Saying.{Says}
-use Rattle.replica.proofs.Parties.{same_party}
 use Rattle.replica.proofs.Staying.{numbers_alike, numbers_beside, sent_beside}
 use Rattle.replica.proofs.Voting.{SaidIn, said_in}
 
@@ -60,19 +59,6 @@ pub entry_due : (d : DeskData) (entry : CheckpointEntry) → IsDueKept d → due
 entry_due d entry kept is =
     let a = passed (is_due d) (newest_entry d.snapshots) entry is in
     record { due = a.0; is = some_injective entry (entry_at d.executed.state) (sym a.1 ∙ kept a.0) }
-
--- its number is one
-pub due_number : (d : DeskData) (entry : CheckpointEntry) → IsDueKept d → d.executed.state.number < 2 ^ 48 → due_entry d ≡ Some entry → entry.number < 2 ^ 48
-due_number d entry kept fits is = subst (λ (e : CheckpointEntry). e.number < 2 ^ 48) (sym (entry_due d entry kept is).is) fits
-
-none_due : (d : DeskData) → IsDueKept d → due_entry d ≡ None → is_due d ≡ false
-none_due d kept none = go (is_due d) refl
-  where
-    go : (b : Bool) → is_due d ≡ b → is_due d ≡ false
-    go false e = e
-    go true e =
-        let bad : Some (entry_at d.executed.state) ≡ None = sym (kept e) ∙ sym (ap (λ (b : Bool). cond b (newest_entry d.snapshots) None) e) ∙ none in
-        absurd cc
 
 due_when : (c : Configuration) (d : DeskData) (b : Bool) → c.period ≡ d.period → is_due d ≡ b → checkpoint_due c d.executed.state ≡ cond b (message_at d.executed.state ∷ []) []
 due_when c d b period is =
@@ -98,7 +84,7 @@ same_cut log h = record {
 pub cut_voted : (log : LogData) (h : ℕ) → IsLog log → IsVotedAll log → IsVotedAll (logs.cut_to log h)
 cut_voted log h is voted i =
     let a = cuts_ask_no_more log h i is in
-    (a.0 ∙ gated (logs.is_in_marks (logs.cut_to log h) i) (logs.due_prepare log i) (voted i).0, a.1 ∙ gated (logs.is_in_marks (logs.cut_to log h) i) (logs.due_commit log i) (voted i).1)
+    (a.0 ∙ none_chosen (logs.is_in_marks (logs.cut_to log h) i) (logs.due_prepare log i) (voted i).0, a.1 ∙ none_chosen (logs.is_in_marks (logs.cut_to log h) i) (logs.due_commit log i) (voted i).1)
 
 pub cut_commits : (log : LogData) (h : ℕ) → IsLog log → CommitsNoMore log (logs.cut_to log h)
 cut_commits log h is i text has =
@@ -289,27 +275,3 @@ module _ (a : JoinedData) (o : OrdererData) (n : JoinedData) (entry : Checkpoint
     commits = subst (λ (k : OrdererData). CommitsNoMore a.orderer.log k.log) (sym orderer_is)
         (either (CommitsNoMore a.orderer.log) counted entry (λ i text h. h) (cut_commits counted entry.number counted_is_log));
   }
-
--- nothing is due
-pub says_none : (a : JoinedData) (x : List Output) → IsDueKept a.desk → due_entry a.desk ≡ None → SaysDueCheckpoint a x a x
-says_none a x kept none = record {
-  stands = λ c s known voted st. record {
-    desk = st.desk;
-    is = st.is;
-    fits = subst (λ (ms : List Message). FitsEvent c a.desk.me s a.orderer st.desk a.desk.waiting ms x) (due_when c a.desk false st.is.period_is (none_due a.desk kept none)) st.fits;
-  };
-  party = same_party a;
-  used = refl;
-  desk = refl;
-  voted = λ v. v;
-  commits = λ i text h. h;
-}
-
--- ---- after an execution
-
--- the executed state is kept if it is to have a checkpoint
-pub runs_kept : (old new : DeskData) (text : List ℕ) (x y : List Output) → RunsWhole old text x new y → IsDueKept new
-runs_kept old new text x y r due =
-    ap (λ (k : DeskData). newest_entry k.snapshots) r.runs.same
-    ∙ ap (λ (b : Bool). newest_entry (cond b (newest_with (snapshot_of new.executed.state) old.snapshots) old.snapshots))
-    (sym (ap (λ (k : DeskData). new.executed.state.number % k.period == 0) r.runs.same) ∙ due)

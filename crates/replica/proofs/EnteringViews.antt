@@ -1,5 +1,5 @@
 -- How a new view begins: the batches that are logged, and the votes that are sent.
-use Rattle.std.proofs.Common.{◌≡◌, ◌≢◌, ℕ, zero, suc, ◌+◌, ◌≤◌, ◌<◌, ◌⊎◌, inl, inr, Bool, true, false, cond, List, [], ◌∷◌, length, map, take, get_or, Option, refl, sym, ap, ◌∙◌, subst, arith, ◌==◌, eqb-true}
+use Rattle.std.proofs.Common.{◌≡◌, ◌≢◌, ℕ, suc, ◌+◌, ◌≤◌, ◌<◌, ◌⊎◌, inl, inr, Bool, true, false, cond, List, [], ◌∷◌, length, map, Option, refl, sym, ap, ◌∙◌, subst, arith, ◌==◌, eqb-true}
 use Rattle.std.specs.Arc.{arc_value}
 use Rattle.std.specs.declared.sync.Arc.{Arc}
 use Rattle.std.specs.declared.alloc.Global.{Global}
@@ -14,6 +14,7 @@ use Rattle.view_change.specs.Sets.{texts_of}
 use Rattle.protocol.specs.System.Configuration.{Configuration}
 use Rattle.protocol.specs.Replica.State.{Call}
 use Rattle.protocol.proofs.Words.Elements.{each_has, each_weaker}
+use Rattle.protocol.proofs.Words.Pairs.{Pairs, pairs_of, all_pairs}
 use Rattle.replica_histories.specs.Changes.{AddsLogged, claims_from, texts_from}
 use Rattle.replica_histories.specs.Views.{with_batches}
 use Rattle.desk.specs.declared.waiting.BegunCall.{BegunCall}
@@ -32,7 +33,6 @@ use Rattle.replica.specs.Marking.{MovesMarks}
 use Rattle.replica.specs.Saying.{SaysVotes}
 use Rattle.replica.specs.EnteringViews.{entering, Enters, FetchesStart, LogsBatches, SaysVotesOf}
 use Rattle.desk.specs.Begun.{NotesBegun}
-use Rattle.replica.proofs.Lists.{Pairs, pairs_of, all_pairs}
 use Rattle.replica.proofs.Parties.{same_orderer, orderers_twice}
 use Rattle.replica.proofs.Voting.{goes_twice}
 
@@ -203,13 +203,6 @@ fetch_passed entry r d outs aims = inr (aims.0, ap (λ (x : DeskData). record r 
 
 pub fetch_started : (entry : CheckpointEntry) (r new : JoinedData) (d : DeskData) (before after : List Output) → AimsAt entry r.desk d true → new ≡ record r { desk = d } → SaysFetch (record r { desk = d }) before after → FetchesStart entry r before new after
 fetch_started entry r new d before after aims same says = inl (d, aims, same, subst (λ (x : JoinedData). SaysFetch x before after) (sym same) says)
-
--- ---- each of several texts
-
-pub each_next : (P : List ℕ → Type 0) (xs : List (Arc (List ℕ) Global)) (i : ℕ) (d : Arc (List ℕ) Global) → i < length xs → Each P (texts_of (take i xs)) → P (arc_value (get_or xs i d)) → Each P (texts_of (take (suc i) xs))
-each_next P [] i d l h p = absurd (omega (arith, l))
-each_next P (x ∷ xs) zero d l h p = (p, tt)
-each_next P (x ∷ xs) (suc i) d l h p = (h.0, each_next P xs i d (omega (arith, l)) h.1 p)
 
 -- ---- all of it
 

@@ -1,6 +1,5 @@
 -- The execution of committed batches.
-use Rattle.std.proofs.Common.{◌≡◌, ℕ, suc, ◌+◌, ◌≤◌, ◌<◌, ◌^◌, ◌⊎◌, inl, inr, Bool, true, false, cond, not, ◌&&◌, List, [], ◌∷◌, length, filter, Option, Some, None, refl, sym, ap, ◌∙◌, subst, arith, nat_lt, nat_le}
-use Rattle.std.proofs.lemmas.Bool.{and_parts, ltb-true}
+use Rattle.std.proofs.Common.{◌≡◌, ℕ, suc, ◌+◌, ◌≤◌, ◌⊎◌, inl, inr, Bool, true, false, cond, not, List, [], ◌∷◌, length, filter, Option, Some, None, refl, sym, ap, ◌∙◌, subst, arith}
 use Rattle.events.specs.declared.output.Output.{Output}
 use Rattle.ordering.specs.Log.{LogData, is_in_marks, replicas, committed_batch, row_decided, row_of}
 use Rattle.replica_histories.proofs.Words.{passed, given_not}
@@ -21,11 +20,6 @@ use Rattle.replica.proofs.Rows.{within}
 pub committed_within : (log : LogData) (i : ℕ) (text : List ℕ) → committed_batch log i ≡ Some text → is_in_marks log i ≡ true
 committed_within log i text h =
     (passed (is_in_marks log i) (row_decided log.faults (replicas log) log.me (row_of log i)) text h).0
-
--- and so it is a number
-pub committed_number : (log : LogData) (i : ℕ) (text : List ℕ) → committed_batch log i ≡ Some text → i < 2 ^ 48
-committed_number log i text h =
-    ltb-true i (2 ^ 48) (and_parts (nat_lt log.low i && nat_le i (log.low + log.span)) (nat_lt i (2 ^ 48)) (committed_within log i text h)).1
 
 none_outside : (log : LogData) (i : ℕ) → is_in_marks log i ≡ false → committed_batch log i ≡ None
 none_outside log i e = rw e refl

@@ -1,5 +1,6 @@
 -- A new replica fits the empty history.
-use Rattle.std.proofs.Common.{◌≡◌, ℕ, ◌+◌, ◌*◌, ◌<◌, ◌≤◌, [], true, false, Some, None, refl, sym, ap, arith}
+use Rattle.std.proofs.Common.{◌≡◌, ℕ, ◌+◌, ◌*◌, ◌<◌, ◌≤◌, [], true, false, refl, sym, ap, arith}
+use Rattle.std.proofs.lemmas.Option.{none-some}
 use Rattle.ordering.specs.Log.{new_log}
 use Rattle.protocol.specs.System.Configuration.{Configuration, IsConfiguration, span}
 use Rattle.protocol.specs.Replica.State.{opening}
@@ -12,9 +13,6 @@ use Rattle.replica.specs.Taking.{IsNewOrderer}
 use Rattle.desk.specs.Desking.{IsNewDesk}
 use Rattle.replica.proofs.Flags.{flags_first}
 use Rattle.replica.specs.Joined.{Fits}
-
-none_some : {A : Type 0} (x : A) → None ≡ Some x → ⊥
-none_some x e = absurd cc
 
 -- a new replica
 module _ (c : Configuration) (me : ℕ) (valid : IsConfiguration c) (mine : me < 3 * c.faults + 1) where
@@ -36,14 +34,14 @@ module _ (c : Configuration) (me : ℕ) (valid : IsConfiguration c) (mine : me <
         state = refl;
         snapshots = refl;
         transfer = refl;
-        rests = λ o is. absurd (none_some o is);
+        rests = λ o is. absurd (none-some o is);
         frames = refl;
         waiting = tt;
         differ = λ i j d l m. absurd (omega (arith, m));
       });
       holds = rw orders.0 first;
       numbers = rw (orders.0, desks) (λ own. flags_first c me 0 opening);
-      said = rw orders.0 (λ entry is. absurd (none_some entry is));
+      said = rw orders.0 (λ entry is. absurd (none-some entry is));
       changes = rw orders.0 (changes_begin c me);
       all = rw (orders.0, desks) (λ next. refl);
       begun = rw orders.0 (λ off own. absurd (let bad : true ≡ false = off in cc));

@@ -29,11 +29,11 @@ abbrev pub aim_of : CheckpointEntry → DeskData → OpenData
 aim_of entry d = opened d.executed.state d.transfer entry
 
 -- The fetch is of the root.
-asks_root : (st : State) (open_one : Option OpenData) (entry : CheckpointEntry) → fetch_of (opened st open_one entry).transfer ≡ Fetch entry.number levels.Root 0
+pub asks_root : (st : State) (open_one : Option OpenData) (entry : CheckpointEntry) → fetch_of (opened st open_one entry).transfer ≡ Fetch entry.number levels.Root 0
 asks_root st None entry = refl
 asks_root st (Some o) entry = refl
 
-opened_same : (st : State) (open_one : Option OpenData) (entry : CheckpointEntry)
+pub opened_same : (st : State) (open_one : Option OpenData) (entry : CheckpointEntry)
     → transfer_to (option_map (λ o. o.transfer) open_one) entry.number entry.digest (pages_of st) ≡ (opened st open_one entry).transfer
 opened_same st None entry = refl
 opened_same st (Some o) entry = refl

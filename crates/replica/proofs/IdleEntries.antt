@@ -8,7 +8,7 @@ use Rattle.protocol.specs.System.Configuration.{Configuration, members}
 use Rattle.wire.specs.Words.{said, carried}
 use Rattle.signing.specs.Heard.{heard, signed_body}
 use Rattle.protocol.specs.System.Trace.{Entry, Once, Has, frames_in}
-use Rattle.protocol.specs.System.Trace.Entry.{Invoke, Got, Tick, Executed, Installed, Sent, Accepted}
+use Rattle.protocol.specs.System.Trace.Entry.{Got, Sent}
 use Rattle.protocol.specs.Replica.Selection.{change_in, signed_change, is_within}
 use Rattle.protocol.specs.Replica.Certificates.{new_view_from, change_from, checkpoint_from, batch_from, prepare_from, commit_from, view}
 use Rattle.protocol.specs.Replica.Transfers.{place_from, fetch_sent, asked_last}
@@ -148,11 +148,7 @@ reply_is_quiet _ s h = absurd cc
 pub beside_idle : (c : Configuration) (me : ℕ) (e : Entry) → is_beside e ≡ true → IsIdle c me e
 beside_idle c me (Got p bytes) h = got_idle c me p bytes (λ body is. read_is_quiet body.message body.sender (marked_are_requests bytes body h is))
 beside_idle c me (Sent p bytes) h = sent_idle c me p bytes (λ body is. reply_is_quiet body.message body.sender (marked_are_replies bytes body h is))
-beside_idle c me (Invoke x y z) h = absurd cc
-beside_idle c me (Tick x) h = absurd cc
-beside_idle c me (Executed x y z) h = absurd cc
-beside_idle c me (Installed x y z) h = absurd cc
-beside_idle c me (Accepted x y z) h = absurd cc
+beside_idle c me _ h = absurd cc
 
 pub parted : (c : Configuration) (me : ℕ) (h : List Entry) → LeavesOut c me (without_reads h) h
 parted c me [] = none

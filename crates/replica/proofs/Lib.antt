@@ -1,5 +1,4 @@
 pub mod Results
-pub mod Lists
 pub mod Given
 pub mod Parties
 pub mod Choosing

@@ -1,10 +1,9 @@
 -- New views that the replica sends again, and texts that are batches.
-use Rattle.std.proofs.Common.{◌≡◌, ℕ, ◌⊎◌, inl, inr, true, false, List, [], ◌∷◌, ◌++◌, length, map, Vec, Option, Some, None, Result, Ok, Err, IfOk, IfSome, IfNone, MatchOption, refl, sym, ap, ◌∙◌, subst, append_assoc, arith}
-use Rattle.std.specs.Arc.{arc_value}
+use Rattle.std.proofs.Common.{◌≡◌, ℕ, ◌⊎◌, inl, inr, true, false, List, [], ◌∷◌, ◌++◌, length, map, Vec, Option, Some, None, Result, Ok, Err, IfOk, IfSome, IfNone, MatchOption, refl, sym, ap, ◌∙◌, subst, arith}
 use Rattle.std.specs.Option.{option_map_or}
 use Rattle.std.specs.declared.alloc.Global.{Global}
 use Rattle.std.specs.declared.sync.Arc.{Arc}
-use Rattle.std.proofs.lemmas.List.{append-nil, map-append}
+use Rattle.std.proofs.lemmas.List.{append-nil}
 use Rattle.sha2.specs.Sha256.{sha256}
 use Rattle.wire.specs.Spelling.{IsNewView}
 use Rattle.wire.specs.Views.{batch_text}
@@ -81,19 +80,6 @@ view_again frame o before after there says = (
   },
   λ other is_it. subst (λ (b : List ℕ). PostedFrame o b after) (some_injective frame other (sym there ∙ is_it)) (frame_now o frame before after says),
 )
-
--- ---- texts of batches
-
--- one more is hashed
-pub batch_hashed : (old new : List (Arc (List ℕ) Global)) (a : Arc (List ℕ) Global) (items rest : List Batch) (b : Batch) (whole : List (List ℕ)) → new ≡ old ++ a ∷ [] → arc_value a ≡ batch_text b → items ≡ b ∷ rest
-    → texts_of old ++ map batch_text items ≡ whole → texts_of new ++ map batch_text rest ≡ whole
-batch_hashed old new a items rest b whole is value are left =
-    ap (λ xs. texts_of xs ++ map batch_text rest) is
-    ∙ ap (λ ts. ts ++ map batch_text rest) (map-append arc_value old (a ∷ []))
-    ∙ append_assoc (texts_of old) (arc_value a ∷ []) (map batch_text rest)
-    ∙ ap (λ (t : List ℕ). texts_of old ++ (t ∷ map batch_text rest)) value
-    ∙ ap (λ (xs : List Batch). texts_of old ++ map batch_text xs) (sym are)
-    ∙ left
 
 -- ---- a selection
 

@@ -47,9 +47,6 @@ above_mark low xs same = subst (Each (λ (x : Snapshot). low ≤ x.number)) same
 
 -- Before a state is kept there are at most two: the oldest, and one of a multiple of the period.
 few_before : (low period number : ℕ) (xs : List Snapshot) → suc number ≤ low + 2 * period → suc number % period ≡ 0 → Each (λ x. low ≤ x.number) xs → Descend xs → AreKept period number xs → length xs ≤ 2
-few_before low period number [] within multiple above order h = omega arith
-few_before low period number (x ∷ []) within multiple above order h = omega arith
-few_before low period number (x ∷ y ∷ []) within multiple above order h = omega arith
 few_before low period number (x ∷ y ∷ z ∷ rest) within multiple above order h =
     let most = h.below.0 in
     let least = above.1.1.0 in
@@ -57,6 +54,7 @@ few_before low period number (x ∷ y ∷ z ∷ rest) within multiple above orde
     let one = multiples_apart period x.number (suc number) h.due.0 multiple (omega (arith, most)) in
     let two = multiples_apart period y.number x.number h.due.1.0 h.due.0 order.0.0 in
     absurd (omega (arith, one, two, least, last, within))
+few_before low period number _ within multiple above order h = omega arith
 
 -- all are kept, if there is room
 abbrev pub all_with : ℕ → State → List Snapshot → List Snapshot

@@ -1,5 +1,5 @@
 -- The primary assigns the next number to the oldest requests without one.
-use Rattle.std.proofs.Common.{◌≡◌, ◌≢◌, ℕ, zero, suc, ◌+◌, ◌≤◌, ◌<◌, inl, inr, Bool, true, false, cond, not, List, [], ◌∷◌, length, map, filter, take, drop, max, refl, sym, ap, ◌∙◌, subst, arith, AllPairs}
+use Rattle.std.proofs.Common.{◌≡◌, ◌≢◌, ℕ, zero, suc, ◌+◌, ◌≤◌, ◌<◌, inl, inr, Bool, true, false, cond, not, List, [], ◌∷◌, length, map, take, drop, max, refl, sym, ap, ◌∙◌, subst, arith, AllPairs}
 use Rattle.std.proofs.lemmas.List.{take-append-drop, length-take, length-map}
 use Rattle.wire.specs.Lists.{Each}
 use Rattle.wire.specs.Spelling.{pieces_spelling}
@@ -14,7 +14,8 @@ use Rattle.protocol.specs.Replica.Certificates.{low, is_in_marks}
 use Rattle.protocol.specs.Replica.State.{State, Call}
 use Rattle.protocol.specs.Replica.RightReplica.{IsFree}
 use Rattle.protocol.specs.Replica.Owed.{IsNumbered, AreDifferent}
-use Rattle.protocol.proofs.Words.Elements.{has_map, has_mapped}
+use Rattle.protocol.proofs.Words.Elements.{has_map, has_mapped, each_where, has_filter}
+use Rattle.protocol.proofs.Words.Pairs.{Pairs, pairs_of, all_pairs}
 use Rattle.replica_histories.specs.Desk.{Desk}
 use Rattle.replica_histories.specs.Logs.{FitsLog}
 use Rattle.replica_histories.specs.Events.{Start, after_outputs}
@@ -23,7 +24,7 @@ use Rattle.replica_histories.specs.Numbers.{AreCalls, Waiting, HasNumber, HasNon
 use Rattle.replica_histories.specs.Outputs.{MayNumber}
 use Rattle.replica_histories.proofs.Words.{marks_are}
 use Rattle.replica_histories.proofs.Numbers.{next_is_free}
-use Rattle.replica_histories.proofs.NumbersLists.{each_where, has_taken, Pairs, pairs_of, all_pairs, pairs_kept, pairs_mapped, pairs_unmapped, pairs_front, IsAt, Spells, spelled_at, Differ, frames_differ}
+use Rattle.replica_histories.proofs.NumbersLists.{has_taken, pairs_kept, pairs_mapped, pairs_unmapped, pairs_front, IsAt, Spells, spelled_at, Differ, frames_differ}
 use Rattle.desk.specs.declared.waiting.WaitingRequest.{WaitingRequest}
 use Rattle.replica.specs.State.{JoinedData, AreOne}
 use Rattle.desk.specs.State.{DeskData}
@@ -41,22 +42,12 @@ use Rattle.replica.proofs.Rows.{due_prepare_elsewhere, due_commit_elsewhere}
 
 -- ---- waiting requests
 
--- a kept request was there
-has_kept : {A : Type 0} (P : A → Type 0) (p : A → Bool) (xs : List A) → Has P (filter p xs) → Has P xs
-has_kept P p [] h = h
-has_kept {A} P p (x ∷ xs) h = go (p x) (has_kept P p xs) h
-  where
-    go : (b : Bool) → (Has P (filter p xs) → Has P xs) → Has P (cond b (x ∷ filter p xs) (filter p xs)) → Has P (x ∷ xs)
-    go true rest (inl k) = inl k
-    go true rest (inr k) = inr (rest k)
-    go false rest k = inr (rest k)
-
 -- one of the oldest without a number waits
 frame_waits : (frame : List ℕ) (w : WaitingData) → Has (λ x. x ≡ frame) (texts (unnumbered w)) → Has (λ x. x ≡ frame) (frames_of w)
 frame_waits frame w h =
     let at = has_map (λ x. x ≡ frame) (λ (r : WaitingRequest). r.frame.items) (unnumbered w) h in
     has_mapped (λ x. x ≡ frame) (λ (r : WaitingRequest). r.frame.items) w.requests
-    (has_kept (λ (r : WaitingRequest). r.frame.items ≡ frame) (λ (r : WaitingRequest). not r.numbered) w.requests
+    (has_filter (λ (r : WaitingRequest). r.frame.items ≡ frame) (λ (r : WaitingRequest). not r.numbered) w.requests
     (has_taken (λ (r : WaitingRequest). r.frame.items ≡ frame) 16 (all_unnumbered w.requests) at))
 
 -- a request that is rightly flagged as without a number has none

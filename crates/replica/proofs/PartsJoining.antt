@@ -1,5 +1,6 @@
 -- Desk and orderer together hold what a whole replica holds of the whole history, and the other way round.
 use Rattle.std.proofs.Common.{◌≡◌, ℕ, ◌+◌, ◌*◌, ◌≤◌, ◌<◌, ◌⊎◌, inl, inr, Bool, true, false, cond, List, [], ◌∷◌, length, refl, sym, ap, ◌∙◌, subst, arith, Option, Some, None, is_some}
+use Rattle.std.proofs.lemmas.Option.{none-some}
 use Rattle.std.specs.Prelude.{nat_le, nat_lt, slice_get, not, ◌&&◌, ◌^◌}
 use Rattle.sha2.specs.Sha256.{sha256}
 use Rattle.quorum.specs.Votes.{has_digest}
@@ -12,7 +13,7 @@ use Rattle.wire.specs.Messages.{FrameData, MessageData as Message, ViewChangeDat
 use Rattle.ordering.specs.Log.{LogData}
 use Rattle.protocol.specs.System.Configuration.{Configuration, primary, replicas, span}
 use Rattle.protocol.specs.System.Trace.{Entry, Once, Has, either}
-use Rattle.protocol.specs.System.Trace.Entry.{Invoke, Got, Tick, Executed, Installed, Sent, Accepted}
+use Rattle.protocol.specs.System.Trace.Entry.{Got, Sent}
 use Rattle.protocol.specs.Replica.RightReplica.{SendsBytes, SentBefore, HasSeen, IsFree}
 use Rattle.protocol.specs.Replica.Certificates.{target, view, taken, is_later, low, is_in_marks, logged, prepare_of, commit_of, Prepared, Committed}
 use Rattle.protocol.specs.Replica.State.{State, Call}
@@ -152,18 +153,10 @@ module _ (c : Configuration) (me : ℕ) (g h : List Entry) (s : CertifySame c me
 
 saying_sent : (me : ℕ) (message : Message) (frame : List ℕ) (past : List Entry) (e : Entry) → said frame ≡ Some (record { sender = me; message = message }) → SendsBytes frame past e → IsSaying me message e
 saying_sent me message frame past (Sent p text) says is = ap said is ∙ says
-saying_sent me message frame past (Got x y) says is = absurd is
-saying_sent me message frame past (Invoke x y z) says is = absurd is
-saying_sent me message frame past (Tick x) says is = absurd is
-saying_sent me message frame past (Executed x y z) says is = absurd is
-saying_sent me message frame past (Installed x y z) says is = absurd is
-saying_sent me message frame past (Accepted x y z) says is = absurd is
+saying_sent me message frame past _ says is = absurd is
 
 pub taken_none : (c : Configuration) (me : ℕ) (e : Entry) (past : List Entry) → IsIdle c me e → taken c past e ≡ None
 taken_none c me e past idle = ap (option_and_then (λ (new : NewViewData). then_some (is_later (view c past) (target past) new) new)) idle.view
-
-pub none_some : {A : Type 0} (x : A) → None ≡ Some x → ⊥
-none_some x e = absurd cc
 
 -- an idle entry brings no view change that counts
 idle_brings_none : (c : Configuration) (me : ℕ) (x : ℕ × ViewChangeData) (past : List Entry) (e : Entry) → IsIdle c me e → BringsChange c x past e → ⊥
@@ -200,7 +193,7 @@ spent_on past e spent leaf l = let k = spent leaf l in (k.0, k.1, inr k.2)
 
 -- no new view starts at an idle entry
 pub idle_starts : (c : Configuration) (me k : ℕ) (past : List Entry) (e : Entry) → IsIdle c me e → Once (StartsAhead c k) (e ∷ past) → Once (StartsAhead c k) past
-idle_starts c me k past e idle (inl h) = absurd (none_some h.0 (sym (taken_none c me e past idle) ∙ h.1))
+idle_starts c me k past e idle (inl h) = absurd (none-some h.0 (sym (taken_none c me e past idle) ∙ h.1))
 idle_starts c me k past e idle (inr h) = h
 
 -- from the entries of ordering to all
@@ -213,14 +206,14 @@ module _ (c : Configuration) (me : ℕ) (g h : List Entry) (p : LeavesOut c me g
 
   taken_back : (new : NewViewData) → Once (λ past e. taken c past e ≡ Some new) h → Once (λ past e. taken c past e ≡ Some new) g
   taken_back new k = once_back c me (λ past e. taken c past e ≡ Some new) (λ e g h p x. sym (taken_same c me e g h (words_same c me g h p)) ∙ x)
-      (λ e past idle x. none_some new (sym (taken_none c me e past idle) ∙ x)) g h p k
+      (λ e past idle x. none-some new (sym (taken_none c me e past idle) ∙ x)) g h p k
 
   begins_over : (v : ℕ) (batch : List ℕ) → Once (BeginsViewWith c v batch) g → Once (BeginsViewWith c v batch) h
   begins_over v batch k = once_over c me (BeginsViewWith c v batch) (λ e g h p b. (b.0, taken_same c me e g h (words_same c me g h p) ∙ b.1, b.2, b.3)) g h p k
 
   begins_back : (v : ℕ) (batch : List ℕ) → Once (BeginsViewWith c v batch) h → Once (BeginsViewWith c v batch) g
   begins_back v batch k = once_back c me (BeginsViewWith c v batch) (λ e g h p b. (b.0, sym (taken_same c me e g h (words_same c me g h p)) ∙ b.1, b.2, b.3))
-      (λ e past idle b. none_some b.0 (sym (taken_none c me e past idle) ∙ b.1)) g h p k
+      (λ e past idle b. none-some b.0 (sym (taken_none c me e past idle) ∙ b.1)) g h p k
 
   pub log_joins : (log : LogData) → FitsLog c me log g → FitsLog c me log h
   log_joins log = log_over c me g h words log begins_back
@@ -234,30 +227,16 @@ module _ (c : Configuration) (me : ℕ) (g h : List Entry) (p : LeavesOut c me g
     where
       sends_anywhere : (frame : List ℕ) (a b : List Entry) (e : Entry) → SendsBytes frame a e → SendsBytes frame b e
       sends_anywhere frame a b (Sent p text) x = x
-      sends_anywhere frame a b (Got x y) k = absurd k
-      sends_anywhere frame a b (Invoke x y z) k = absurd k
-      sends_anywhere frame a b (Tick x) k = absurd k
-      sends_anywhere frame a b (Executed x y z) k = absurd k
-      sends_anywhere frame a b (Installed x y z) k = absurd k
-      sends_anywhere frame a b (Accepted x y z) k = absurd k
+      sends_anywhere frame a b _ k = absurd k
 
   seen_anywhere : (frame : List ℕ) (a b : List Entry) (e : Entry) → HasSeen frame a e → HasSeen frame b e
   seen_anywhere frame a b (Sent p text) x = x
   seen_anywhere frame a b (Got p text) x = x
-  seen_anywhere frame a b (Invoke x y z) k = absurd k
-  seen_anywhere frame a b (Tick x) k = absurd k
-  seen_anywhere frame a b (Executed x y z) k = absurd k
-  seen_anywhere frame a b (Installed x y z) k = absurd k
-  seen_anywhere frame a b (Accepted x y z) k = absurd k
+  seen_anywhere frame a b _ k = absurd k
 
   sends_so : (frame : List ℕ) (a b : List Entry) (e : Entry) → SendsBytes frame a e → SendsBytes frame b e
   sends_so frame a b (Sent p text) x = x
-  sends_so frame a b (Got x y) k = absurd k
-  sends_so frame a b (Invoke x y z) k = absurd k
-  sends_so frame a b (Tick x) k = absurd k
-  sends_so frame a b (Executed x y z) k = absurd k
-  sends_so frame a b (Installed x y z) k = absurd k
-  sends_so frame a b (Accepted x y z) k = absurd k
+  sends_so frame a b _ k = absurd k
 
   sent_over : (frame : List ℕ) → SentBefore frame g → SentBefore frame h
   sent_over frame k = once_over c me (SendsBytes frame) (λ e g h p x. sends_so frame g h e x) g h p k
@@ -273,12 +252,7 @@ module _ (c : Configuration) (me : ℕ) (g h : List Entry) (p : LeavesOut c me g
 
       seen : (e : Entry) (past : List Entry) → SendsBytes sent past e → HasSeen sent past e
       seen (Sent p text) past x = inl x
-      seen (Got x y) past k = absurd k
-      seen (Invoke x y z) past k = absurd k
-      seen (Tick x) past k = absurd k
-      seen (Executed x y z) past k = absurd k
-      seen (Installed x y z) past k = absurd k
-      seen (Accepted x y z) past k = absurd k
+      seen _ past k = absurd k
 
       none : (e : Entry) (past : List Entry) → IsIdle c me e → SendsBytes sent past e → (o : Option FrameData) → frame_of sent ≡ o → ⊥
       none e past idle x None is = absurd (let bad : None ≡ Some leaf = sym (ap (option_and_then (λ (f : FrameData). leaf_in f.authenticator)) is) ∙ by in cc)
@@ -291,12 +265,7 @@ module _ (c : Configuration) (me : ℕ) (g h : List Entry) (p : LeavesOut c me g
   brought_same : (x : ℕ × ViewChangeData) (a b : List Entry) (e : Entry) → CertifySame c me a b → BringsChange c x a e → BringsChange c x b e
   brought_same x a b (Got p bytes) s h =
       (h.0, (subst (λ (v : ℕ). v < x.1.view) (sym s.view) h.1.0, h.1.1, subst (λ (v : ℕ). v < x.1.view) (sym (s.latest x.0)) h.1.2))
-  brought_same x a b (Sent p text) s h = absurd h
-  brought_same x a b (Invoke u v w) s h = absurd h
-  brought_same x a b (Tick u) s h = absurd h
-  brought_same x a b (Executed u v w) s h = absurd h
-  brought_same x a b (Installed u v w) s h = absurd h
-  brought_same x a b (Accepted u v w) s h = absurd h
+  brought_same x a b _ s h = absurd h
 
   brought_over : (x : ℕ × ViewChangeData) → Once (BringsChange c x) g → Once (BringsChange c x) h
   brought_over x k = once_over c me (BringsChange c x) (λ e g h p b. brought_same x g h e (words_same c me g h p) b) g h p k

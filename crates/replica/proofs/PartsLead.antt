@@ -1,5 +1,6 @@
 -- The parts of a replica fit the histories that their joined replica fits.
 use Rattle.std.proofs.Common.{◌≡◌, ℕ, zero, suc, ◌+◌, ◌*◌, ◌<◌, inr, Bool, true, false, List, [], ◌∷◌, refl, sym, ap, ◌∙◌, subst, Option, Some, None}
+use Rattle.std.proofs.lemmas.Option.{none-some}
 use Rattle.std.specs.Prelude.{is_none, IsTrue, option_map}
 use Rattle.authenticator.specs.Membership.{Membership}
 use Rattle.events.specs.declared.output.Output.{Output}
@@ -26,14 +27,11 @@ use Rattle.desk.specs.Desking.{IsNewDesk}
 use Rattle.replica.specs.Taking.{IsNewOrderer}
 use Rattle.replica.specs.Inputs.{input_of}
 use Rattle.replica.specs.Joined as joined_ones
-use Rattle.replica.specs.Parted.{HoldsDesk, HoldsOrderer, FitsDesk, FitsOrderer, FitBoth, AreTogether, BothLead, BothSendAsMeant, DeskStops, OrdererStops, Reacts}
+use Rattle.replica.specs.Parted.{HoldsDesk, HoldsOrderer, FitsDesk, FitsOrderer, FitBoth, AreTogether, BothLead, BothSendAsMeant, Reacts}
 use Rattle.replica.specs.Changing.{AreChanges}
 use Rattle.replica.specs.Joined.{joined}
 use Rattle.replica.proofs.Fitting.{fits_new}
 use Rattle.replica.proofs.PartsJoining.{parts_join, holds_part}
-
-none_some : {A : Type 0} (x : A) → None ≡ Some x → ⊥
-none_some x e = absurd cc
 
 -- ---- view-change data
 
@@ -44,8 +42,8 @@ change_said c h signed =
     (s.frame.body.sender, reads_said h.frame s.frame s.spelled ∙ ap (λ m. Some (record { sender = s.frame.body.sender; message = m })) s.message)
 
 held_said : (c : Configuration) (first : ℕ) (held : List (Option HeldData)) → AreHeldFrom c first held → AreChanges held
-held_said c first [] are s h is = absurd (none_some h is)
-held_said c first (None ∷ held) are zero h is = absurd (none_some h is)
+held_said c first [] are s h is = absurd (none-some h is)
+held_said c first (None ∷ held) are zero h is = absurd (none-some h is)
 held_said c first (Some k ∷ held) are zero h is = subst (λ (x : HeldData). (sender : ℕ) × (said x.frame ≡ Some (record { sender = sender; message = ViewChange x.change }))) (some_injective k h is) (change_said c k are.0.2)
 held_said c first (o ∷ held) are (suc s) h is = held_said c (suc first) held are.1 s h is
 
@@ -223,7 +221,7 @@ stopped_desk c me d stopped history other same none fits right = record {
   me_is = ap (λ (m : MemberData). m.me) same ∙ fits.me_is;
   members_are = fits.members_are ∙ sym (ap (λ (m : MemberData). m.membership) same);
   right = right;
-  running = λ x is. absurd (none_some x (sym none ∙ is));
+  running = λ x is. absurd (none-some x (sym none ∙ is));
 }
 
 stopped_orderer : (c : Configuration) (me : ℕ) (o stopped : OrdererPart) (ordering other : List Entry) → stopped.member ≡ o.member → stopped.holds ≡ None → FitsOrderer c me o ordering
@@ -231,14 +229,8 @@ stopped_orderer : (c : Configuration) (me : ℕ) (o stopped : OrdererPart) (orde
 stopped_orderer c me o stopped ordering other same none fits = record {
   me_is = ap (λ (m : MemberData). m.me) same ∙ fits.me_is;
   members_are = fits.members_are ∙ sym (ap (λ (m : MemberData). m.membership) same);
-  running = λ x is. absurd (none_some x (sym none ∙ is));
+  running = λ x is. absurd (none-some x (sym none ∙ is));
 }
-
-pub desk_stops : (d stopped : DeskPart) → stopped.member ≡ d.member → stopped.holds ≡ None → DeskStops d stopped
-desk_stops d stopped same none c me history other = stopped_desk c me d stopped history other same none
-
-pub orderer_stops : (o stopped : OrdererPart) → stopped.member ≡ o.member → stopped.holds ≡ None → OrdererStops o stopped
-orderer_stops o stopped same none c me ordering other = stopped_orderer c me o stopped ordering other same none
 
 -- an input of the party, without an output after it
 stops_right : (c : Configuration) (me : ℕ) (event : Event) (history : List Entry) → IsReplica c me history → IsReplica c me (input_of me event ∷ history)

@@ -1,5 +1,6 @@
 -- A read beside ordering keeps what the desk holds; no orderer is mentioned.
 use Rattle.std.proofs.Common.{◌≡◌, ℕ, suc, ◌+◌, ◌-◌, ◌≤◌, inl, inr, true, false, List, [], ◌∷◌, map, refl, sym, ap, ◌∙◌, subst, arith, Option, Some, None, is_some, ◌<◌}
+use Rattle.std.proofs.lemmas.Option.{none-some}
 use Rattle.std.specs.Option.{option_map_or}
 use Rattle.std.specs.Prelude.{option_and_then}
 use Rattle.tuple_codec.specs.Operations.{Operation, Outcome}
@@ -37,7 +38,7 @@ use Rattle.replica.specs.Reads.{is_read_request, is_read_reply}
 use Rattle.protocol.proofs.Words.Linking.{heard_said}
 use Rattle.replica.proofs.IdleEntries.{got_idle, sent_idle, reply_is_quiet}
 use Rattle.replica.proofs.SameWords.{idle_same, same_then, active_same, count_checkpoints_same}
-use Rattle.replica.proofs.PartsJoining.{prepared_same, committed_same, taken_none, none_some, idle_starts, can_begin_idle, spent_on, turned}
+use Rattle.replica.proofs.PartsJoining.{prepared_same, committed_same, taken_none, idle_starts, can_begin_idle, spent_on, turned}
 
 -- an idle entry numbers nothing
 pub idle_keeps : (c : Configuration) (me v : ℕ) (past : List Entry) (e : Entry) → IsIdle c me e → KeepsNumbers c me v past e
@@ -55,7 +56,7 @@ idle_keeps c me v past e idle = record {
 
     less : (client timestamp : ℕ) → IsNumbered c me (e ∷ past) v client timestamp → IsNumbered c me past v client timestamp
     less client timestamp (batch, (inl at), has) = (batch, inl (at.0, sym (s.logged v at.0) ∙ at.1), has)
-    less client timestamp (batch, (inr (inl b)), has) = absurd (none_some b.0 (sym (taken_none c me e past idle) ∙ b.1))
+    less client timestamp (batch, (inr (inl b)), has) = absurd (none-some b.0 (sym (taken_none c me e past idle) ∙ b.1))
     less client timestamp (batch, (inr (inr at)), has) = (batch, inr at, has)
 
 addressed : (c : Configuration) (me : ℕ) (past : List Entry) (client timestamp number : ℕ) (a : Outcome) (proof : AuthenticatorData) → receivers_of proof ≡ client ∷ []

@@ -24,7 +24,7 @@ use Rattle.replica_histories.specs.Questions.{read_from, read_reply}
 use Rattle.replica_histories.specs.Transfers.{FitsOpen}
 use Rattle.replica_histories.specs.TransfersQuorums.{QuorumsFetched}
 use Rattle.replica_histories.proofs.Transfers.{open_stays, asks_none}
-use Rattle.replica.specs.State.{MemberData, DeskPart, IsDeskPart}
+use Rattle.replica.specs.State.{DeskPart, IsDeskPart}
 use Rattle.desk.specs.State.{DeskData}
 use Rattle.replica.specs.Flags.{FitsFlags}
 use Rattle.replica.specs.Idle.{IsIdle}
@@ -179,18 +179,3 @@ read_sends part d bytes outs holds are (inl a) c me h f =
     subst (λ (os : List Output). AreSentAsMeant c me os) (sym a.says.given_is)
     (subst (λ (k : ℕ). AreSentAsMeant c k (a.says.output ∷ [])) ((are d holds).0 ∙ f.me_is) (a.says.posts.meant c (f.members_are ∙ sym (are d holds).1), tt))
 read_sends part d bytes outs holds are (inr (none, same)) c me h f = subst (λ (os : List Output). AreSentAsMeant c me os) (sym same) tt
-
--- and one that stopped before it gave anything
-pub read_stops : (part stopped : DeskPart) (bytes : List ℕ) → stopped.member ≡ part.member → stopped.holds ≡ None → asks_read bytes ≡ true → ReadLeads part bytes [] stopped
-read_stops part stopped bytes same none marks c me h f = (
-  record {
-    me_is = ap (λ (m : MemberData). m.me) same ∙ f.me_is;
-    members_are = f.members_are ∙ sym (ap (λ (m : MemberData). m.membership) same);
-    right = inr (refl, tt, f.right);
-    running = λ x is. absurd (none_some x (sym none ∙ is));
-  },
-  unread (Got me bytes) h marks,
-)
-  where
-    none_some : (x : DeskData) → None ≡ Some x → ⊥
-    none_some x e = absurd cc

@@ -7,7 +7,7 @@ use Rattle.quorum.specs.Votes.{or_else}
 use Rattle.ordering.specs.declared.votes.Vote.{Vote}
 use Rattle.ordering.specs.Votes.{vote_of, with_vote}
 use Rattle.ordering.specs.Log as logs
-use Rattle.ordering.specs.Log.{Row, no_row, LogData, primary, replicas, digest_of, is_in_marks, is_row_prepared, place, row_of, with_row, with_prepare, with_commit, due_prepare, due_commit, logged_digest, prepare_of, commit_of, logged_batch}
+use Rattle.ordering.specs.Log.{Row, no_row, LogData, primary, replicas, digest_of, is_in_marks, is_row_prepared, place, row_of, with_row, with_prepare, with_commit, due_prepare, due_commit, logged_digest, prepare_of, commit_of}
 use Rattle.ordering.specs.Keeping.{IsLog}
 use Rattle.ordering.specs.Laws.{PreparesCount, CommitsCount}
 use Rattle.replica_histories.proofs.Words.{passed}

@@ -1,17 +1,19 @@
 -- Every word of the certificates is the same on a history with and without idle entries.
-use Rattle.std.proofs.Common.{◌≡◌, ℕ, Bool, true, false, cond, ◌&&◌, List, ◌∷◌, refl, ap, ◌∙◌, arith, Option, Some, None}
+use Rattle.std.proofs.Common.{◌≡◌, ℕ, Bool, cond, ◌&&◌, List, ◌∷◌, refl, ap, ◌∙◌, arith, Option, Some, None}
 use Rattle.std.specs.Prelude.{◌==◌, nat_le, max, option_and_then}
 use Rattle.std.specs.Option.{option_map_or}
 use Rattle.std.specs.Bool.{then_some}
 use Rattle.quorum.specs.Votes.{or_else}
 use Rattle.quorum.proofs.Counting.{count_same}
 use Rattle.wire.specs.Messages.{BodyData as Body, NewViewData, CheckpointEntryData as CheckpointEntry}
+use Rattle.wire.proofs.Skipping.{none_chosen}
 use Rattle.protocol.specs.System.Configuration.{Configuration, replicas}
 use Rattle.protocol.specs.System.Trace.{Entry}
-use Rattle.protocol.specs.System.Trace.Entry.{Invoke, Got, Tick, Executed, Installed, Sent, Accepted}
+use Rattle.protocol.specs.System.Trace.Entry.{Got, Sent}
 use Rattle.protocol.specs.Replica.Selection.{is_quorum}
 use Rattle.protocol.specs.Replica.Certificates.{brought, view, view_after, target, taken, is_later, is_active_in, new_view_in, change_sent, checkpoint_in, installed_at, count_checkpoints, says_checkpoint, is_stable, stable_at, started_at, low, is_in_marks, counts_at, checkpoints_of, with_checkpoint, batch_begun, batch_from, begun_proposal, entry_proposal, proposal, logged, prepare_from, prepare_of, commit_from, commit_of, vote_in, change_taken, change_at, latest_change}
 use Rattle.protocol.specs.Replica.Transfers.{fetch_sent, fetching, asked_last}
+use Rattle.protocol.proofs.Words.Options.{or_else_alone}
 use Rattle.replica.specs.Idle.{IsIdle, CertifySame, WordsStay}
 use Rattle.replica.specs.Idle.LeavesOut.{none, both, beside}
 
@@ -64,12 +66,7 @@ module _ (c : Configuration) (me : ℕ) (e : Entry) (g h : List Entry) (f : Cert
     where
       go : (x : Entry) → counts_at c me h x v i ≡ counts_at c me g x v i
       go (Got p bytes) = ap (λ (b : Bool). b && is_in_marks c (low c me h) i) (active_same v) ∙ ap (λ (n : ℕ). is_active_in c g v && is_in_marks c n i) f.low
-      go (Sent p bytes) = refl
-      go (Invoke x y z) = refl
-      go (Tick x) = refl
-      go (Executed x y z) = refl
-      go (Installed x y z) = refl
-      go (Accepted x y z) = refl
+      go _ = refl
 
   pub vote_same : (vote : Body → Option (List ℕ)) (v i : ℕ) → vote_in c me h e vote v i ≡ vote_in c me g e vote v i
   vote_same vote v i = ap (λ (b : Bool). cond b (option_and_then vote (brought c e)) None) (counts_same v i)
@@ -89,24 +86,14 @@ module _ (c : Configuration) (me : ℕ) (e : Entry) (g h : List Entry) (f : Cert
     where
       go : (x : Entry) → asked_last (x ∷ h) ≡ asked_last (x ∷ g)
       go (Sent p bytes) = ap (or_else _) f.asked
-      go (Got p bytes) = f.asked
-      go (Invoke x y z) = f.asked
-      go (Tick x) = f.asked
-      go (Executed x y z) = f.asked
-      go (Installed x y z) = f.asked
-      go (Accepted x y z) = f.asked
+      go _ = f.asked
 
   change_both : (s : ℕ) → change_at c h e s ≡ change_at c g e s
   change_both s = go e
     where
       go : (x : Entry) → change_at c h x s ≡ change_at c g x s
-      go (Sent p bytes) = refl
       go (Got p bytes) = ap (λ (v : ℕ). change_taken c v s bytes) f.view
-      go (Invoke x y z) = refl
-      go (Tick x) = refl
-      go (Executed x y z) = refl
-      go (Installed x y z) = refl
-      go (Accepted x y z) = refl
+      go _ = refl
 
   pub both_same : CertifySame c me (e ∷ g) (e ∷ h)
   unfolding logged prepare_of commit_of
@@ -124,14 +111,6 @@ module _ (c : Configuration) (me : ℕ) (e : Entry) (g h : List Entry) (f : Cert
   }
 
 -- ---- an idle entry
-
-gated : {A : Type 0} (b : Bool) (o : Option A) → o ≡ None → cond b o None ≡ None
-gated true o h = h
-gated false o h = refl
-
-or_none : {A : Type 0} (o later : Option A) → later ≡ None → or_else o later ≡ o
-or_none None later h = h
-or_none (Some x) later h = refl
 
 both_none : {A : Type 0} (o later : Option A) → o ≡ None → later ≡ None → or_else o later ≡ None
 both_none None later h k = k
@@ -163,12 +142,12 @@ module _ (c : Configuration) (me : ℕ) (e : Entry) (idle : IsIdle c me e) (h : 
     view = ap (view_after (view c h) (target h)) idle.view;
     checkpoints = λ s. ap (λ (o : Option (ℕ × CheckpointEntry)). with_checkpoint s o (checkpoints_of c h s)) idle.checkpoint;
     low = low_idle;
-    logged = λ v i. or_none (logged c me h v i) (proposal c me h e v i)
+    logged = λ v i. or_else_alone (logged c me h v i) (proposal c me h e v i)
         (both_none (begun_proposal c me h e v i) (entry_proposal c me h e v i)
-        (gated (is_in_marks c (low c me (e ∷ h)) i) (option_and_then (batch_begun v i) (taken c h e)) (ap (option_and_then (batch_begun v i)) taken_none))
-        (gated (counts_at c me h e v i) (option_and_then (batch_from c me v i) (brought c e)) (idle.batch v i)));
-    prepares = λ v i s. or_none (prepare_of c me h v i s) (vote_in c me h e (prepare_from c s v i) v i) (gated (counts_at c me h e v i) (option_and_then (prepare_from c s v i) (brought c e)) (idle.prepare s v i));
-    commits = λ v i s. or_none (commit_of c me h v i s) (vote_in c me h e (commit_from s v i) v i) (gated (counts_at c me h e v i) (option_and_then (commit_from s v i) (brought c e)) (idle.commit s v i));
+        (none_chosen (is_in_marks c (low c me (e ∷ h)) i) (option_and_then (batch_begun v i) (taken c h e)) (ap (option_and_then (batch_begun v i)) taken_none))
+        (none_chosen (counts_at c me h e v i) (option_and_then (batch_from c me v i) (brought c e)) (idle.batch v i)));
+    prepares = λ v i s. or_else_alone (prepare_of c me h v i s) (vote_in c me h e (prepare_from c s v i) v i) (none_chosen (counts_at c me h e v i) (option_and_then (prepare_from c s v i) (brought c e)) (idle.prepare s v i));
+    commits = λ v i s. or_else_alone (commit_of c me h v i s) (vote_in c me h e (commit_from s v i) v i) (none_chosen (counts_at c me h e v i) (option_and_then (commit_from s v i) (brought c e)) (idle.commit s v i));
     fetching = none_max (fetching h) (fetch_sent e) idle.fetch;
     asked = idle.asked h;
     latest = λ s. max_none (latest_change c h s) (change_at c h e s) (idle.latest h s);

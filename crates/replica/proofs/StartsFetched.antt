@@ -1,5 +1,5 @@
 -- The replica fetches the state at the start of a new view.
-use Rattle.std.proofs.Common.{◌≡◌, ◌<◌, ℕ, List, ◌∷◌, Option, Some, None, refl, sym, ap, ◌∙◌, subst, option_map}
+use Rattle.std.proofs.Common.{◌≡◌, ◌<◌, ℕ, List, ◌∷◌, Option, Some, sym, ap, ◌∙◌, subst}
 use Rattle.terms.specs.declared.state.Level.TheVariants as levels
 use Rattle.wire.specs.Messages.{MessageData as Message, CheckpointEntryData as CheckpointEntry, NewViewData, fetch as Fetch}
 use Rattle.events.specs.declared.output.Output.{Output}
@@ -7,28 +7,19 @@ use Rattle.state_transfer.specs.Transfer.{TransferData}
 use Rattle.protocol.specs.System.Configuration.{Configuration, members}
 use Rattle.protocol.specs.System.Trace.{Once}
 use Rattle.protocol.specs.Replica.Certificates.{taken}
-use Rattle.protocol.specs.Replica.State.{State, pages_of}
+use Rattle.protocol.specs.Replica.State.{pages_of}
 use Rattle.replica_histories.specs.Desk.{Desk}
 use Rattle.replica_histories.specs.Events.{Start, after_outputs}
 use Rattle.replica_histories.specs.Transfers.{MayAsk, AsksNext, transfer_to}
 use Rattle.replica_histories.proofs.NewViews.{starts_may_ask}
 use Rattle.replica.specs.State.{OrdererData}
-use Rattle.desk.specs.State.{OpenData, DeskData}
+use Rattle.desk.specs.State.{DeskData}
 use Rattle.desk.specs.Waiting.{WaitingData}
 use Rattle.replica.specs.Desks.{given, FitsEvent, IsDeskOf}
-use Rattle.desk.specs.Fetching.{aimed_at, fetch_of, opened}
+use Rattle.desk.specs.Fetching.{aimed_at, fetch_of}
 use Rattle.replica.specs.Saying.{Says}
 use Rattle.replica.proofs.Asking.{asks_due}
-use Rattle.replica.proofs.Following.{aim_of, aimed_is}
-
-aim_root : (st : State) (open_one : Option OpenData) (entry : CheckpointEntry) → fetch_of (opened st open_one entry).transfer ≡ Fetch entry.number levels.Root 0
-aim_root st None entry = refl
-aim_root st (Some o) entry = refl
-
-aim_same : (st : State) (open_one : Option OpenData) (entry : CheckpointEntry)
-    → transfer_to (option_map (λ o. o.transfer) open_one) entry.number entry.digest (pages_of st) ≡ (opened st open_one entry).transfer
-aim_same st None entry = refl
-aim_same st (Some o) entry = refl
+use Rattle.replica.proofs.Following.{aim_of, aimed_is, opened_same, asks_root}
 
 module _ (c : Configuration) (s : Start) (o : OrdererData) (d : DeskData) (desk : Desk) (w : WaitingData) (new : NewViewData) (before after : List Output) (is : IsDeskOf c d desk) where
   abbrev pub start_of : CheckpointEntry
@@ -39,7 +30,7 @@ module _ (c : Configuration) (s : Start) (o : OrdererData) (d : DeskData) (desk 
       × AsksNext c o.endpoint.me (aim_of start_of d).transfer desk.state (after_outputs s (given o.endpoint.me before))
   start_may_ask due once ahead f =
       subst (λ (t : TransferData). MayAsk c o.endpoint.me t desk.state.number (after_outputs s (given o.endpoint.me before)) × AsksNext c o.endpoint.me t desk.state (after_outputs s (given o.endpoint.me before)))
-      (ap (λ (t : Option TransferData). transfer_to t new.start new.root (pages_of d.executed.state)) is.transfer ∙ aim_same d.executed.state d.transfer start_of)
+      (ap (λ (t : Option TransferData). transfer_to t new.start new.root (pages_of d.executed.state)) is.transfer ∙ opened_same d.executed.state d.transfer start_of)
       (starts_may_ask c o.endpoint.me s desk o.log due (given o.endpoint.me before) new (pages_of d.executed.state) once
       (subst (λ (n : ℕ). n < new.start) (sym (aimed_is c d desk is)) ahead) f.fits)
 
@@ -50,4 +41,4 @@ module _ (c : Configuration) (s : Start) (o : OrdererData) (d : DeskData) (desk 
   start_aims rest known once ahead says f =
       let asking = start_may_ask (Fetch new.start levels.Root 0 ∷ rest) once ahead f in
       asks_due c s o desk w before after (aim_of start_of d).transfer known says rest asking.0 asking.1
-      (subst (λ (m : Message). FitsEvent c o.endpoint.me s o desk w (m ∷ rest) before) (sym (aim_root d.executed.state d.transfer start_of)) f)
+      (subst (λ (m : Message). FitsEvent c o.endpoint.me s o desk w (m ∷ rest) before) (sym (asks_root d.executed.state d.transfer start_of)) f)

@@ -4,7 +4,7 @@ use Rattle.std.proofs.Common.{◌≡◌, ℕ, false, List, ◌∷◌, Option, No
 use Rattle.std.specs.Prelude.{option_and_then, ⊤}
 use Rattle.std.specs.Option.{option_map_or}
 use Rattle.std.specs.Bool.{then_some}
-use Rattle.wire.specs.Messages.{BodyData as Body, MessageData as Message, CheckpointEntryData as CheckpointEntry, NewViewData, request as Request, pre_prepare as PrePrepare, prepare as Prepare, commit as Commit, checkpoint as Checkpoint, view_change as ViewChange, new_view as NewView, reply as Reply, fetch as Fetch, meta as Meta, page as Page}
+use Rattle.wire.specs.Messages.{BodyData as Body, MessageData as Message, CheckpointEntryData as CheckpointEntry, NewViewData, pre_prepare as PrePrepare, new_view as NewView}
 use Rattle.ordering.specs.Log as logs
 use Rattle.ordering.specs.Log.{Row, LogData}
 use Rattle.events.specs.declared.output.Output.{Output}
@@ -42,30 +42,12 @@ abbrev pub GivesNoNumber : Message → Type 0
 GivesNoNumber message = elim message [ PrePrepare v i batch ↦ ⊥ | NewView new ↦ ⊥ | _ ↦ ⊤ ]
 
 begins_none : (c : Configuration) (me : ℕ) (message : Message) → GivesNoNumber message → new_view_from c (record { sender = me; message = message }) ≡ None
-begins_none c me (Request t mode op) h = refl
-begins_none c me (PrePrepare v i batch) h = refl
-begins_none c me (Prepare v i digest) h = refl
-begins_none c me (Commit v i digest) h = refl
-begins_none c me (Checkpoint number root) h = refl
-begins_none c me (ViewChange vc) h = refl
 begins_none c me (NewView new) h = absurd h
-begins_none c me (Reply client t mode number answer) h = refl
-begins_none c me (Fetch k level index) h = refl
-begins_none c me (Meta k level index digests) h = refl
-begins_none c me (Page k index text) h = refl
+begins_none c me _ h = refl
 
 proposes_none : (message : Message) → GivesNoNumber message → is_pre_prepare message ≡ false
-proposes_none (Request t mode op) h = refl
 proposes_none (PrePrepare v i batch) h = absurd h
-proposes_none (Prepare v i digest) h = refl
-proposes_none (Commit v i digest) h = refl
-proposes_none (Checkpoint number root) h = refl
-proposes_none (ViewChange vc) h = refl
-proposes_none (NewView new) h = refl
-proposes_none (Reply client t mode number answer) h = refl
-proposes_none (Fetch k level index) h = refl
-proposes_none (Meta k level index digests) h = refl
-proposes_none (Page k index text) h = refl
+proposes_none _ h = refl
 
 pub sent_beside : (c : Configuration) (me : ℕ) (message : Message) (receivers bytes : List ℕ) (past : List Entry) → GivesNoNumber message → IsPosted c me message receivers bytes → IsBeside c me past (Sent me bytes)
 sent_beside c me message receivers bytes past none posted = record {

@@ -275,9 +275,6 @@ module _ (r : JoinedData) (one : AreOne r.orderer r.desk) where
     begins_then touched.Nothing new outs (same, still, none) =
         subst (λ (d : JoinedData). TakesTick r touched.Nothing d outs) (sym same)
         (subst (λ (os : List Output). TakesTick r touched.Nothing mid os) (sym still) (ticks_left none))
-    begins_then touched.Waiting new outs h = absurd h
-    begins_then (touched.Row number) new outs h = absurd h
-    begins_then touched.State new outs h = absurd h
     begins_then touched.View new outs b = record {
       party = ones_twice r mid new left.party b.party;
       begins = λ c past runs known. (
@@ -294,6 +291,7 @@ module _ (r : JoinedData) (one : AreOne r.orderer r.desk) where
         active_begins_none c new.orderer b.active,
       );
     }
+    begins_then _ new outs h = absurd h
 
   pub ticks_on : {E : Type 0} (result : Result Touched E) (v : ℕ) (fetched mid new : JoinedData) (x y outs : List Output)
       → fetched ≡ r → SaysFetch r [] x → IsDue fetched v → ChangesView v fetched x mid y true

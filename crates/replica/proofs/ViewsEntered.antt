@@ -7,6 +7,7 @@ use Rattle.sha2.specs.Sha256.{sha256}
 use Rattle.terms.specs.declared.state.Level.TheVariants as levels
 use Rattle.wire.specs.Lists.{Each}
 use Rattle.wire.specs.Messages.{MessageData as Message, CheckpointEntryData as CheckpointEntry, NewViewData, new_view as NewView, fetch as Fetch}
+use Rattle.wire.proofs.Skipping.{none_chosen}
 use Rattle.events.specs.declared.output.Output.{Output}
 use Rattle.events.specs.Outputs.{AreSentAsMeant}
 use Rattle.ordering.specs.Log as logs
@@ -21,6 +22,7 @@ use Rattle.protocol.specs.Replica.Certificates.{brought, taken}
 use Rattle.protocol.specs.Replica.State.{Call}
 use Rattle.protocol.proofs.Words.Options.{some_injective}
 use Rattle.protocol.proofs.Agreement.Marks.{takes, selected_in}
+use Rattle.protocol.proofs.Words.Pairs.{Pairs, pairs_of, all_pairs}
 use Rattle.replica_histories.specs.Desk.{Desk, desk_from}
 use Rattle.replica_histories.specs.Events as histories
 use Rattle.replica_histories.specs.Events.{Start, after_outputs}
@@ -32,7 +34,7 @@ use Rattle.replica_histories.proofs.Beginning.{start_small}
 use Rattle.replica_histories.proofs.ChangesMade.{views_are_begun}
 use Rattle.replica_histories.proofs.Cutting.{cut_same}
 use Rattle.replica_histories.proofs.NumbersBegun.{logs_are_of_no_later_view}
-use Rattle.replica_histories.proofs.Words.{gated, given_not}
+use Rattle.replica_histories.proofs.Words.{given_not}
 use Rattle.desk.specs.declared.waiting.BegunCall.{BegunCall}
 use Rattle.desk.specs.declared.waiting.WaitingRequest.{WaitingRequest}
 use Rattle.replica.specs.State.{OrdererData, JoinedData, AreOne}
@@ -50,7 +52,6 @@ use Rattle.desk.specs.Begun.{AreBegun}
 use Rattle.replica.proofs.EnteringViews.{begun_desk}
 use Rattle.replica.proofs.Flags.{flags_begun}
 use Rattle.replica.proofs.Following.{aim_of, aimed_is, aims_desk}
-use Rattle.replica.proofs.Lists.{Pairs, pairs_of, all_pairs}
 use Rattle.replica.proofs.StartsFetched.{start_aims}
 use Rattle.replica.proofs.Staying.{said_on}
 
@@ -201,10 +202,10 @@ module _ (c : Configuration) (s : Start) (r n : JoinedData) (later : Desk) (new 
 -- ---- no vote is left
 
 -- the log asks for no vote of a number without a batch
-unlogged_voted : (m : LogData) (i : ℕ) → logs.logged_batch m i ≡ None → IsVoted m i
+pub unlogged_voted : (m : LogData) (i : ℕ) → logs.logged_batch m i ≡ None → IsVoted m i
 unlogged_voted m i none = (
-  gated (m.active && not (m.me == logs.primary m m.view) && is_none (logs.prepare_of m i m.me)) (logs.logged_digest m i) digest,
-  gated (m.active && logs.is_prepared m i && is_none (logs.commit_of m i m.me)) (logs.logged_digest m i) digest,
+  none_chosen (m.active && not (m.me == logs.primary m m.view) && is_none (logs.prepare_of m i m.me)) (logs.logged_digest m i) digest,
+  none_chosen (m.active && logs.is_prepared m i && is_none (logs.commit_of m i m.me)) (logs.logged_digest m i) digest,
 )
   where
     go : (b : Bool) → cond b (logs.row_of m i).batch None ≡ None → cond b (logs.digest_of (logs.row_of m i)) None ≡ None

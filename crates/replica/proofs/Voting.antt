@@ -56,9 +56,6 @@ silent number o outs = record {
   others = λ i ne v. v;
 }
 
-pub no_prepare : (number : ℕ) (o : OrdererData) (outs : List Output) → due_prepare o.log number ≡ None → SaysPrepare number o outs o outs
-no_prepare number o outs h = record { says = silent number o outs; said = h }
-
 pub no_commit : (number : ℕ) (o : OrdererData) (outs : List Output) → due_commit o.log number ≡ None → SaysCommit number o outs o outs
 no_commit number o outs h = record { says = silent number o outs; said = h; prepared = refl }
 

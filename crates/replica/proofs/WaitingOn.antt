@@ -1,10 +1,10 @@
 -- The waiting requests, after a client's request replaces its older one.
-use Rattle.std.proofs.Common.{◌≡◌, ◌≢◌, ℕ, zero, suc, ◌<◌, ◌≤◌, ◌⊎◌, inl, inr, Bool, true, false, cond, not, ◌&&◌, ◌||◌, ◌==◌, nat_lt, List, [], ◌∷◌, ◌++◌, length, filter, count_by, take, find, Some, refl, sym, ap, ◌∙◌, subst, arith, eq-eqb, eqb-true}
-use Rattle.std.specs.Prelude.{AllPairs, All}
+use Rattle.std.proofs.Common.{◌≡◌, ◌≢◌, ℕ, zero, suc, ◌<◌, ◌≤◌, ◌⊎◌, inl, inr, Bool, true, false, cond, not, ◌&&◌, ◌||◌, ◌==◌, nat_lt, List, [], ◌∷◌, ◌++◌, filter, find, Some, refl, sym, ap, ◌∙◌, subst, arith, eq-eqb, eqb-true}
+use Rattle.std.specs.Prelude.{AllPairs}
 use Rattle.std.specs.List.{list_all}
 use Rattle.std.proofs.lemmas.Bool.{eqb-false, lt-ltb, le-ltb, and_left, and_right}
 use Rattle.std.proofs.lemmas.List.Kept.{AllPairs-cons, AllPairs-filter}
-use Rattle.std.proofs.lemmas.List.Sums.{length-filter}
+use Rattle.std.proofs.lemmas.Option.{same_Some}
 use Rattle.tuple_codec.specs.Operations.{Operation}
 use Rattle.wire.specs.Lists.{Each}
 use Rattle.protocol.specs.System.Configuration.{Configuration}
@@ -13,20 +13,12 @@ use Rattle.protocol.specs.Replica.State.{State, Call, call_of, last_time}
 use Rattle.protocol.specs.Replica.RightReplica.{is_newer}
 use Rattle.protocol.specs.Replica.Owed.{IsNoOlder}
 use Rattle.protocol.proofs.Words.Elements.{has_either, has_filter, has_map, has_mapped, each_has, each_weaker, each_with, all_of_each}
+use Rattle.protocol.proofs.Words.Pairs.{all_of, each_of}
 use Rattle.desk.specs.declared.waiting.WaitingRequest.{WaitingRequest}
 use Rattle.desk.specs.Waiting.{is_of, texts}
 use Rattle.replica.specs.Desks.{IsCallOf, AreCallsOf, AreOfDifferentClients}
 
 -- ---- lists
-
-all_of : {A : Type 0} (P : A → Type 0) (xs : List A) → Each P xs → All P xs
-all_of P [] h k d within = absurd (omega arith)
-all_of P (x ∷ xs) h zero d within = h.0
-all_of P (x ∷ xs) h (suc k) d within = all_of P xs h.1 k d (omega arith)
-
-each_of : {A : Type 0} (P : A → Type 0) (xs : List A) → All P xs → Each P xs
-each_of P [] h = tt
-each_of P (x ∷ xs) h = (h zero x (omega arith), each_of P xs (λ k d within. h (suc k) d (omega arith)))
 
 first_differs : {A : Type 0} (R : A → A → Type 0) (x : A) (xs : List A) → AllPairs R (x ∷ xs) → Each (R x) xs
 first_differs R x xs h = each_of (R x) xs (λ k d within. h zero (suc k) d (omega arith) (omega arith))
@@ -38,18 +30,6 @@ pairs_with : {A : Type 0} (R : A → A → Type 0) (xs : List A) (y : A) → All
 pairs_with R [] y h e = λ i j d below within. absurd (omega (arith, below, within))
 pairs_with R (x ∷ xs) y h e =
     AllPairs-cons R x (xs ++ y ∷ []) (all_of (R x) (xs ++ y ∷ []) (each_with (R x) xs y (first_differs R x xs h) e.0)) (pairs_with R xs y (rest_differs R x xs h) e.1)
-
-same_of : {A : Type 0} (x y : A) → Some x ≡ Some y → x ≡ y
-same_of x y e = cc
-
--- a found item is one of them
-pub found_is : {A : Type 0} (P : A → Type 0) (test : A → Bool) (xs : List A) (x : A) → find test xs ≡ Some x → Each P xs → P x
-found_is P test [] x f e = absurd cc
-found_is P test (y ∷ ys) x f e = go (test y) f (λ g. found_is P test ys x g e.1)
-  where
-    go : (b : Bool) → cond b (Some y) (find test ys) ≡ Some x → (find test ys ≡ Some x → P x) → P x
-    go true g below = subst P (same_of y x g) e.0
-    go false g below = below g
 
 -- ---- requests of one client
 
@@ -103,7 +83,7 @@ found_call c k (y ∷ ys) [] r call h d f has at = absurd h
 found_call c k (y ∷ ys) (x ∷ calls) r call h d f has at = go (y.client.number == k) refl f has (λ g more. found_call c k ys calls r call h.1 (rest_differs Differ y ys d) g more at)
   where
     go : (b : Bool) → (y.client.number == k) ≡ b → cond b (Some y) (find (is_of k) ys) ≡ Some r → (x ≡ call) ⊎ Has (λ z. z ≡ call) calls → (find (is_of k) ys ≡ Some r → Has (λ z. z ≡ call) calls → IsCallOf c r call) → IsCallOf c r call
-    go true e g (inl same) rest = subst (λ (z : Call). IsCallOf c r z) same (subst (λ (z : WaitingRequest). IsCallOf c z x) (same_of y r g) h.0)
+    go true e g (inl same) rest = subst (λ (z : Call). IsCallOf c r z) same (subst (λ (z : WaitingRequest). IsCallOf c z x) (same_Some y r g) h.0)
     go true e g (inr more) rest =
         absurd (each_has (λ (z : Call). z.client ≢ k) calls call (calls_of_others c k ys calls h.1 (others k y ys (eqb-true y.client.number k e) (first_differs Differ y ys d))) more at)
     go false e g (inl same) rest = absurd (eqb-false y.client.number k e (sym h.0.1 ∙ ap (λ (z : Call). z.client) same ∙ at))
@@ -136,7 +116,7 @@ no_older_same c k t op (y ∷ ys) (x ∷ calls) r h d f is = go (y.client.number
     go : (b : Bool) → (y.client.number == k) ≡ b → cond b (Some y) (find (is_of k) ys) ≡ Some r → (find (is_of k) ys ≡ Some r → Each (MayWait k t op) calls) → MayWait k t op x × Each (MayWait k t op) calls
     go false e g below = (λ same. absurd (eqb-false y.client.number k e (sym h.0.1 ∙ same)), below g)
     go true e g below =
-        let one : x ≡ record { client = k; timestamp = t; op = op } = same_of x _ (sym h.0.0 ∙ ap (λ (z : WaitingRequest). call_of c z.frame.items) (same_of y r g) ∙ is) in (
+        let one : x ≡ record { client = k; timestamp = t; op = op } = same_Some x _ (sym h.0.0 ∙ ap (λ (z : WaitingRequest). call_of c z.frame.items) (same_Some y r g) ∙ is) in (
           λ same. inr (ap (λ (z : Call). z.timestamp) one, ap (λ (z : Call). z.op) one),
           each_weaker (λ (z : Call). z.client ≢ k) (MayWait k t op) (λ z ne same. absurd (ne same)) calls
               (calls_of_others c k ys calls h.1 (others k y ys (eqb-true y.client.number k e) (first_differs Differ y ys d))),
@@ -162,7 +142,7 @@ not_newer c k t op (y ∷ ys) (x ∷ calls) r h f le = go (y.client.number == k)
     go : (b : Bool) → (y.client.number == k) ≡ b → cond b (Some y) (find (is_of k) ys) ≡ Some r → (find (is_of k) ys ≡ Some r → list_all (beats k t op) calls ≡ false) → (beats k t op x && list_all (beats k t op) calls) ≡ false
     go false e g below = and_right (beats k t op x) (list_all (beats k t op) calls) (below g)
     go true e g below = and_left (beats k t op x) (list_all (beats k t op) calls)
-        (ap (λ (b : Bool). not b || nat_lt x.timestamp t) (eq-eqb x.client k (h.0.1 ∙ eqb-true y.client.number k e)) ∙ older_than (same_of y r g))
+        (ap (λ (b : Bool). not b || nat_lt x.timestamp t) (eq-eqb x.client k (h.0.1 ∙ eqb-true y.client.number k e)) ∙ older_than (same_Some y r g))
 
 -- it is newer than all waiting ones
 all_newer : (k t : ℕ) (op : Operation) (calls : List Call) → Each (λ x. (x.client ≡ k) → x.timestamp < t) calls → list_all (is_newer (record { client = k; timestamp = t; op = op })) calls ≡ true
@@ -214,26 +194,6 @@ calls_with c (t ∷ rs) (y ∷ calls) r x h is = (h.0, calls_with c rs calls r x
 pub calls_replaced : (c : Configuration) (k : ℕ) (rs : List WaitingRequest) (calls : List Call) (r : WaitingRequest) (x : Call) → AreCallsOf c rs calls → IsCallOf c r x
     → AreCallsOf c (filter (λ r. not (is_of k r)) rs ++ r ∷ []) (filter (λ x. not (x.client == k)) calls ++ x ∷ [])
 calls_replaced c k rs calls r x h is = calls_with c (filter (λ r. not (is_of k r)) rs) (filter (λ x. not (x.client == k)) calls) r x (calls_without c k rs calls h) is
-
-calls_taken : (c : Configuration) (n : ℕ) (rs : List WaitingRequest) (calls : List Call) → AreCallsOf c rs calls → AreCallsOf c (take n rs) (take n calls)
-calls_taken c zero rs calls h = tt
-calls_taken c (suc n) [] [] h = tt
-calls_taken c (suc n) [] (x ∷ calls) h = absurd h
-calls_taken c (suc n) (r ∷ rs) [] h = absurd h
-calls_taken c (suc n) (r ∷ rs) (x ∷ calls) h = (h.0, calls_taken c n rs calls h.1)
-
-as_many_calls : (c : Configuration) (rs : List WaitingRequest) (calls : List Call) → AreCallsOf c rs calls → length calls ≡ length rs
-as_many_calls c [] [] h = refl
-as_many_calls c [] (x ∷ calls) h = absurd h
-as_many_calls c (r ∷ rs) [] h = absurd h
-as_many_calls c (r ∷ rs) (x ∷ calls) h = ap suc (as_many_calls c rs calls h.1)
-
--- of the first ones as many calls as requests are of other clients
-pub calls_counted : (c : Configuration) (k n : ℕ) (rs : List WaitingRequest) (calls : List Call) → AreCallsOf c rs calls
-    → length (filter (λ x. not (x.client == k)) (take n calls)) ≡ count_by (λ r. not (is_of k r)) (take n rs)
-calls_counted c k n rs calls h =
-    as_many_calls c (filter (λ r. not (is_of k r)) (take n rs)) (filter (λ x. not (x.client == k)) (take n calls)) (calls_without c k (take n rs) (take n calls) (calls_taken c n rs calls h))
-    ∙ length-filter (λ r. not (is_of k r)) (take n rs)
 
 pub differ_replaced : (k : ℕ) (rs : List WaitingRequest) (r : WaitingRequest) → r.client.number ≡ k → AreOfDifferentClients rs → AreOfDifferentClients (filter (λ x. not (is_of k x)) rs ++ r ∷ [])
 differ_replaced k rs r is d =

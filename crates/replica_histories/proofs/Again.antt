@@ -15,10 +15,10 @@ use Rattle.protocol.specs.System.Trace.Entry.{Invoke, Got, Sent}
 use Rattle.protocol.specs.Replica.Certificates.{are_genuine, counts_at, taken, checkpoint_from, with_checkpoint, insert_checkpoint, checkpoints_of, batch_from, prepare_from, commit_from, batch_begun, brought, low, is_in_marks, begun_proposal, entry_proposal, proposal, logged, prepare_of, commit_of}
 use Rattle.protocol.specs.Replica.RightReplica.{Point, Leaves, HasSeen, MayCheckpoint, others}
 use Rattle.protocol.specs.Replica.Owed.{NumbersOnce, IsBegunBelow}
-use Rattle.protocol.proofs.Words.Options.{some_injective, and_then_some, then_some_gives, given_once, or_else_cases}
+use Rattle.protocol.proofs.Words.Options.{some_injective, and_then_some, given_once, or_else_cases}
 use Rattle.protocol.proofs.Words.Temporal.{once_weaker, once_stays}
 use Rattle.protocol.proofs.Words.Elements.{each_weaker}
-use Rattle.protocol.proofs.Agreement.Voting.{RightAt, once_right, Logs, logged_stays}
+use Rattle.protocol.proofs.Agreement.Voting.{RightAt, once_right, Logs, logged_stays, batch_is}
 use Rattle.replica_histories.specs.Desk.{Desk, point_of}
 use Rattle.replica_histories.specs.Logs.{above_mark, Takes}
 use Rattle.replica_histories.specs.Events.{Start, after_outputs, Fits}
@@ -113,19 +113,6 @@ Proposed c me batch past = (are_genuine c me batch ≡ true) × Each (λ frame. 
 
 proposed_stays : (c : Configuration) (me : ℕ) (batch : List ℕ) (e : Entry) (past : List Entry) → Proposed c me batch past → Proposed c me batch (e ∷ past)
 proposed_stays c me batch e past h = (h.0, each_weaker (λ frame. Once (HasSeen frame) past) (λ frame. Once (HasSeen frame) (e ∷ past)) (λ frame k. inr k) (requests_of batch) h.1)
-
--- a message that proposes a batch is a pre-prepare by the primary
-batch_is : (c : Configuration) (me v i : ℕ) (batch : List ℕ) (sender : ℕ) (message : Message) → batch_from c me v i (record { sender = sender; message = message }) ≡ Some batch
-    → (message ≡ PrePrepare v i batch) × (sender ≡ primary c v) × (are_genuine c me batch ≡ true)
-batch_is c me v i batch sender (PrePrepare w k b) h =
-    let g = then_some_gives ((w == v) && (k == i) && (sender == primary c v) && are_genuine c me b) b batch h in
-    let p = and_parts ((w == v) && (k == i) && (sender == primary c v)) (are_genuine c me b) g.0 in
-    let q = and_parts ((w == v) && (k == i)) (sender == primary c v) p.0 in
-    let r = and_parts (w == v) (k == i) q.0 in
-    let ev : w ≡ v = eqb-true w v r.0 in
-    let ei : k ≡ i = eqb-true k i r.1 in
-    (rw (ev, ei, g.1) refl, eqb-true sender (primary c v) q.1, subst (λ (x : List ℕ). are_genuine c me x ≡ true) g.1 p.1)
-batch_is c me v i batch sender _ h = absurd cc
 
 proposes : (c : Configuration) (me v i : ℕ) (batch : List ℕ) → primary c v ≡ me → (past : List Entry) (e : Entry) → RightAt c me past e
     → (body : Body) × (brought c e ≡ Some body) × (batch_from c me v i body ≡ Some batch) → Proposed c me batch past

@@ -35,8 +35,7 @@ use Rattle.replica_histories.proofs.TransfersQuorums.{no_root}
 
 is_part : (pages : List (List ℕ)) (k : ℕ) (level : Level) (index : ℕ) → IsPart (answer_by pages k level index)
 is_part pages k levels.Root index = tt
-is_part pages k levels.Inner index = tt
-is_part pages k levels.Page index = tt
+is_part pages k _ index = tt
 
 part_goes : (c : Configuration) (me : ℕ) (s : Start) (desk : Desk) (log : LogData) (due : List Message) (outputs : List Entry) (receivers bytes : List ℕ) (message : Message) (f : Fits c me s desk log due outputs) → IsPart message
     → IsPosted c me message receivers bytes → IsFor c me (after_outputs s outputs) message receivers → MaySay c me (after_outputs s outputs) (point_of desk f.of_desk.states f.of_desk.ran) (Sent me bytes) bytes message → (SendsMessage me message outputs → ⊥)

@@ -4,6 +4,7 @@ use Rattle.std.specs.Prelude.{◌==◌, nat_lt}
 use Rattle.std.proofs.lemmas.Bool.{eqb-false, eq-eqb, ne_eqb, ltb-true, ltb-false}
 use Rattle.quorum.specs.Votes.{or_else}
 use Rattle.wire.specs.Messages.{NewViewData}
+use Rattle.wire.proofs.Skipping.{none_chosen}
 use Rattle.ordering.specs.Log as logs
 use Rattle.ordering.specs.Log.{LogData}
 use Rattle.ordering.specs.Keeping.{IsLog}
@@ -13,7 +14,7 @@ use Rattle.ordering.proofs.Moving.{cuts_keep}
 use Rattle.ordering.proofs.Viewing.{committed_stay}
 use Rattle.replica_histories.specs.Logs.{Stays}
 use Rattle.replica_histories.specs.Views.{with_batches, begun_log}
-use Rattle.replica_histories.proofs.Words.{gated, marks_stay}
+use Rattle.replica_histories.proofs.Words.{marks_stay}
 use Rattle.replica_histories.proofs.Cutting.{cut_low, cut_same, cut_at, cut_is_log}
 
 -- ---- one batch, if its number is within the marks
@@ -200,12 +201,12 @@ module _ (log : LogData) (new : NewViewData) (is : IsLog log) (small : new.start
   pub begun_prepare : (i s : ℕ) → logs.prepare_of (begun_log log new) i s ≡ None
   begun_prepare i s =
       (batches_votes cut (suc new.start) i s new.batches cut_is).0 ∙ (cuts_keep in_view new.start i s in_view_is_log).1
-      ∙ gated (logs.is_in_marks cut i) (logs.prepare_of in_view i s) (committed_stay log new.view i s is).1
+      ∙ none_chosen (logs.is_in_marks cut i) (logs.prepare_of in_view i s) (committed_stay log new.view i s is).1
 
   pub begun_commit : (i s : ℕ) → logs.commit_of (begun_log log new) i s ≡ None
   begun_commit i s =
       (batches_votes cut (suc new.start) i s new.batches cut_is).1 ∙ (cuts_keep in_view new.start i s in_view_is_log).2
-      ∙ gated (logs.is_in_marks cut i) (logs.commit_of in_view i s) (committed_stay log new.view i s is).2
+      ∙ none_chosen (logs.is_in_marks cut i) (logs.commit_of in_view i s) (committed_stay log new.view i s is).2
 
   -- and it has the batch that was committed
   pub begun_decided : (i : ℕ) → logs.is_in_marks (begun_log log new) i ≡ true → (logs.row_of (begun_log log new) i).decided ≡ logs.committed_batch log i

@@ -9,12 +9,12 @@ use Rattle.sha2.specs.Sha256.{sha256}
 use Rattle.quorum.specs.Votes.{has_digest}
 use Rattle.quorum.proofs.Counting.{count_same}
 use Rattle.wire.specs.Messages.{BodyData as Body, MessageData as Message, ViewChangeData, NewViewData, CheckpointEntryData as CheckpointEntry, view_change as ViewChange, new_view as NewView}
+use Rattle.wire.proofs.Skipping.{none_chosen}
 use Rattle.ordering.specs.Log as logs
 use Rattle.ordering.specs.Log.{LogData}
 use Rattle.ordering.proofs.Reading.{above_low}
 use Rattle.protocol.specs.System.Configuration.{Configuration, replicas}
 use Rattle.protocol.specs.System.Trace.{Entry, Once}
-use Rattle.protocol.specs.System.Trace.Entry.{Installed}
 use Rattle.protocol.specs.Replica.Selection.{is_quorum, is_weak_quorum, changes_of, passes_by, count_in, is_within, may_select}
 use Rattle.protocol.specs.Replica.Certificates.{brought, target, taken, installed_at, checkpoint_in, checkpoint_from, checkpoints_of, with_checkpoint, is_stable, stable_at, started_at, low, is_in_marks, counts_at, batch_from, batch_begun, begun_proposal, entry_proposal, proposal, logged, prepare_from, prepare_of, commit_from, commit_of, vote_in, Prepared, Committed}
 use Rattle.protocol.specs.Replica.Owed.{BeginsViewWith}
@@ -26,11 +26,12 @@ use Rattle.protocol.proofs.Agreement.Marks.{Takes, takes, selects, selected_in, 
 use Rattle.protocol.proofs.Agreement.Executing.{commit_stays, committed_later}
 use Rattle.replica_histories.specs.Logs.{above_mark, AreLatest, IsVoted, IsWithin, FitsViews, FitsLog}
 use Rattle.replica_histories.specs.Views.{begun_log}
-use Rattle.replica_histories.proofs.Words.{apart, passed, gated, given_not, marks_same}
+use Rattle.replica_histories.proofs.Words.{apart, passed, given_not, marks_same}
 use Rattle.replica_histories.proofs.Latest.{above_higher}
 use Rattle.replica_histories.proofs.Certified.{logged_within, prepared_there, committed_here, committed_there}
 use Rattle.replica_histories.proofs.Settling.{own_commit}
 use Rattle.replica_histories.proofs.Batches.{begun_is_log, begun_me, begun_faults, begun_span, begun_view, begun_active, begun_checkpoints, begun_low, begun_batch, begun_prepare, begun_commit, begun_decided}
+use Rattle.replica_histories.proofs.Cutting.{installs_nothing}
 
 -- ---- an entry that brings a view change or a new view
 
@@ -45,10 +46,6 @@ pub record Still (c : Configuration) (me : ℕ) (past : List Entry) (e : Entry) 
 abbrev pub IsOfViews : Message → Type 0
 IsOfViews message = elim message [ ViewChange vc ↦ ⊤ | NewView new ↦ ⊤ | _ ↦ ⊥ ]
 
-installs_nothing : (c : Configuration) (body : Body) (e : Entry) → brought c e ≡ Some body → installed_at e ≡ 0
-installs_nothing c body (Installed x y z) h = absurd (let bad : None ≡ Some body = h in cc)
-installs_nothing c body _ h = refl
-
 pub still_brings : (c : Configuration) (me : ℕ) (past : List Entry) (e : Entry) (sender : ℕ) (message : Message) → IsOfViews message → brought c e ≡ Some (record { sender = sender; message = message }) → Still c me past e
 still_brings c me past e sender message is h = record {
   batch = λ v i. nothing (counts_at c me past e v i) (batch_from c me v i) (no_batch v i message is);
@@ -59,7 +56,7 @@ still_brings c me past e sender message is h = record {
 }
   where
     nothing : (b : Bool) (vote : Body → Option (List ℕ)) → vote (record { sender = sender; message = message }) ≡ None → cond b (option_and_then vote (brought c e)) None ≡ None
-    nothing b vote none = gated b (option_and_then vote (brought c e)) (ap (option_and_then vote) h ∙ none)
+    nothing b vote none = none_chosen b (option_and_then vote (brought c e)) (ap (option_and_then vote) h ∙ none)
 
     no_batch : (v i : ℕ) (m : Message) → IsOfViews m → batch_from c me v i (record { sender = sender; message = m }) ≡ None
     no_batch v i (ViewChange vc) k = refl

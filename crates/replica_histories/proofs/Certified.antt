@@ -10,12 +10,13 @@ use Rattle.quorum.proofs.Counting.{count_same}
 use Rattle.ordering.specs.declared.votes.Vote.{Vote}
 use Rattle.ordering.specs.Votes.{vote_of, voters}
 use Rattle.ordering.specs.Log as logs
-use Rattle.ordering.specs.Log.{Row, LogData}
+use Rattle.ordering.specs.Log.{LogData}
 use Rattle.protocol.specs.System.Configuration.{Configuration, replicas}
 use Rattle.protocol.specs.System.Trace.{Entry}
 use Rattle.protocol.specs.Replica.Certificates.{view, target, is_active_in, logged, prepare_of, commit_of, Prepared, Committed}
+use Rattle.protocol.proofs.Agreement.Agreeing.{has_digest_is}
 use Rattle.replica_histories.specs.Logs.{FitsLog}
-use Rattle.replica_histories.proofs.Words.{passed, batch_read, given_digest, digest_given}
+use Rattle.replica_histories.proofs.Words.{passed, batch_read, given_digest}
 
 -- ---- the view
 
@@ -137,7 +138,7 @@ row_committed_here c me log past i batch f within is batch_is = record {
   prepared = prepared_here c me log past i batch f p;
   commits = leb-true (2 * c.faults + 1) (count_below (λ s. has_digest (sha256 batch) (commit_of c me past log.view i s)) (replicas c))
       (sym (counted c log (λ n. 2 * n + 1) (sha256 batch) (logs.row_of log i).commits (commit_of c me past log.view i) f.faults (λ s. commit_read c me log past i s f within)) ∙ votes.0);
-  own = commit_read c me log past i me f within ∙ subst (λ (x : ℕ). vote_of (logs.row_of log i).commits x ≡ Some (sha256 batch)) f.own (digest_given (sha256 batch) _ votes.1);
+  own = commit_read c me log past i me f within ∙ subst (λ (x : ℕ). vote_of (logs.row_of log i).commits x ≡ Some (sha256 batch)) f.own (has_digest_is (sha256 batch) _ votes.1);
 }
   where
     row : (logs.is_row_prepared log.faults (logs.replicas log) (logs.row_of log i) ≡ true)

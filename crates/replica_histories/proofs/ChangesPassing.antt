@@ -6,7 +6,7 @@ use Rattle.std.specs.Option.{option_map_or}
 use Rattle.std.proofs.lemmas.Bool.{and_parts, ne_eqb}
 use Rattle.wire.specs.Messages.{BodyData as Body, MessageData as Message, BatchEntryData as Claim, NewViewData, CheckpointEntryData as CheckpointEntry, pre_prepare as PrePrepare, commit as Commit}
 use Rattle.wire.specs.Words.{said}
-use Rattle.wire.specs.Lists.{Each}
+use Rattle.wire.proofs.Skipping.{none_chosen}
 use Rattle.signing.specs.Heard.{signed_body}
 use Rattle.ordering.specs.Log as logs
 use Rattle.ordering.specs.Log.{LogData}
@@ -18,7 +18,7 @@ use Rattle.protocol.specs.Replica.Selection.{change_in, signed_change}
 use Rattle.protocol.specs.Replica.Certificates.{brought, checkpoint_from, taken, new_view_from, change_sent, change_from, counts_at, low, is_in_marks, logged, commit_from, commit_of, vote_in, latest_change}
 use Rattle.protocol.specs.Replica.Owed.{latest_checkpoint}
 use Rattle.protocol.proofs.Words.Options.{some_injective, or_else_alone, or_else_second}
-use Rattle.protocol.proofs.Words.Elements.{each_has}
+use Rattle.protocol.proofs.Words.Elements.{each_has, each_where}
 use Rattle.protocol.proofs.Words.Plain.{Plain, said_plain, taken_none, plain_target, plain_low}
 use Rattle.protocol.proofs.Words.Linking.{heard_said, signed_said}
 use Rattle.claims.specs.ClaimsView.{ClaimsData, claim_of, IsAmong}
@@ -30,7 +30,7 @@ use Rattle.replica_histories.specs.Events.{start_at}
 use Rattle.replica_histories.specs.Claims.{SaidCommit, WasLogged, FitsClaims}
 use Rattle.replica_histories.specs.Numbers.{is_pre_prepare}
 use Rattle.replica_histories.specs.Changes.{Changes, HasOwnChange, IsOwnView, IsBegunUpTo, FitsChanges, IsSameView, KeepsViews, Passes, CutsClaims, OutputsPass, InputsEnter, ClaimsAreAbove, ChangesBegin, ChangesStay, CommitsAreClaimed, BatchesAreClaimed}
-use Rattle.replica_histories.proofs.Words.{passed, gated, given_not, marks_are}
+use Rattle.replica_histories.proofs.Words.{passed, given_not, marks_are}
 use Rattle.replica_histories.proofs.Certified.{is_prepared_in}
 use Rattle.replica_histories.proofs.Logging.{none_taken}
 use Rattle.replica_histories.proofs.Ending.{steps_leave}
@@ -73,10 +73,6 @@ all_kept {A} test (x ∷ xs) f = go (test x) (f x (inl refl)) (all_kept test xs 
     go true h same = ap (λ (ys : List A). x ∷ ys) same
     go false h same = absurd cc
 
-each_self : {A : Type 0} (P : A → Type 0) (xs : List A) → ((x : A) → Has (λ y. y ≡ x) xs → P x) → Each P xs
-each_self P [] f = tt
-each_self P (x ∷ xs) f = (f x (inl refl), each_self P xs (λ y has. f y (inr has)))
-
 over_low : (c : Configuration) (h i : ℕ) → is_in_marks c h i ≡ true → nat_lt h i ≡ true
 over_low c h i k = (and_parts (nat_lt h i) (nat_le i (h + span c)) (and_parts (nat_lt h i && nat_le i (h + span c)) (nat_lt i (2 ^ 48)) k).0).0
 
@@ -84,7 +80,7 @@ pub claims_are_above : ClaimsAreAbove
 claims_are_above c me log history claims f fits = record {
   prepared = all_kept (λ (x : Claim). nat_lt log.low x.number) claims.prepared (λ x has. at x.number (fits.prepared.listed x has).1);
   logged = all_kept (λ (x : Claim). nat_lt log.low x.number) claims.logged (λ x has. at x.number (fits.logged.listed x has).1);
-  texts = each_self (IsAmong claims.texts) claims.texts (λ text has. has);
+  texts = each_where (IsAmong claims.texts) claims.texts (λ text has. has);
 }
   where
     at : (i : ℕ) → is_in_marks c (low c me history) i ≡ true → nat_lt log.low i ≡ true
@@ -189,7 +185,7 @@ logs_nothing c me past e sender message none brings other v i = logged_same c me
 pub commit_quiet : (c : Configuration) (me : ℕ) (past : List Entry) (e : Entry) (v i : ℕ) → option_and_then (commit_from me v i) (brought c e) ≡ None → commit_of c me (e ∷ past) v i me ≡ commit_of c me past v i me
 unfolding commit_of
 commit_quiet c me past e v i none =
-    or_else_alone (commit_of c me past v i me) (vote_in c me past e (commit_from me v i) v i) (gated (counts_at c me past e v i) (option_and_then (commit_from me v i) (brought c e)) none)
+    or_else_alone (commit_of c me past v i me) (vote_in c me past e (commit_from me v i) v i) (none_chosen (counts_at c me past e v i) (option_and_then (commit_from me v i) (brought c e)) none)
 
 -- no view change
 pub said_no_change : (c : Configuration) (bytes : List ℕ) (body : Body) → said bytes ≡ Some body → change_in body ≡ None → signed_change c bytes ≡ None

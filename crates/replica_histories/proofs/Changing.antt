@@ -22,6 +22,7 @@ use Rattle.protocol.proofs.Words.Temporal.{once_weaker}
 use Rattle.protocol.proofs.Words.Options.{or_else_alone}
 use Rattle.protocol.proofs.Agreement.Executing.{commit_stays, committed_later}
 use Rattle.protocol.proofs.Words.Posting.{leaf_signs_once}
+use Rattle.protocol.proofs.Words.Elements.{each_where}
 use Rattle.replica_histories.specs.Desk.{Desk, snapshot_of, point_of}
 use Rattle.replica_histories.specs.Logs.{above_mark, FitsLog, IsVoted}
 use Rattle.replica_histories.specs.Events.{Start, after_outputs, IsReached, IsFetched, Fits}
@@ -194,15 +195,11 @@ view_changes_fit c me s desk log due outputs vc bytes none_due change posted lea
 
 -- ---- messages that are sent again
 
-each_self : {A : Type 0} (P : A → Type 0) (xs : List A) → ((x : A) → Has (λ y. y ≡ x) xs → P x) → Each P xs
-each_self P [] f = tt
-each_self P (x ∷ xs) f = (f x (inl refl), each_self P xs (λ y has. f y (inr has)))
-
 -- a message that was sent before carries only frames that were seen
 pub seen_again : (me : ℕ) (message : Message) (bytes : List ℕ) (past : List Entry) → said bytes ≡ Some (record { sender = me; message = message }) → SentBefore bytes past
     → Each (λ frame. Once (HasSeen frame) past) (carried message)
 seen_again me message bytes past says before =
-    each_self (λ frame. Once (HasSeen frame) past) (carried message)
+    each_where (λ frame. Once (HasSeen frame) past) (carried message)
     (λ frame has. once_weaker (SendsBytes bytes) (HasSeen frame) (seen frame has) past before)
   where
     carries : (frame : List ℕ) → Has (λ x. x ≡ frame) (carried message) → Has (λ x. x ≡ frame) (frames_in bytes)

@@ -25,7 +25,7 @@ use Rattle.protocol.proofs.Words.Leaving.{executed_number}
 use Rattle.protocol.proofs.Words.Linking.{Speaks}
 use Rattle.protocol.proofs.Agreement.Marks.{low_grows}
 use Rattle.protocol.proofs.Agreement.Voting.{Brings}
-use Rattle.protocol.proofs.Agreement.States.{is_checkpoint}
+use Rattle.protocol.proofs.Agreement.States.{is_checkpoint, checking}
 use Rattle.replica_histories.specs.Logs.{above_mark, AreLatest}
 use Rattle.replica_histories.specs.Marks.{StableAreLow, StableAreCut}
 use Rattle.replica_histories.proofs.Words.{apart}
@@ -139,9 +139,6 @@ stable_are_cut c me log history m f h = go (nat_lt log.low m.number) refl
         omega arith
 
 -- ---- the replica sent its own checkpoints
-
-abbrev pub checking : ℕ → ℕ → List ℕ → Body
-checking s k root = record { sender = s; message = Checkpoint k root }
 
 checkpoint_is : (s : ℕ) (m : CheckpointEntry) (sender : ℕ) (message : Message) → checkpoint_from (record { sender = sender; message = message }) ≡ Some (s, m)
     → ◌≡◌ {A = Body} (record { sender = sender; message = message }) (checking s m.number m.digest)

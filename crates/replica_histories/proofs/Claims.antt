@@ -1,9 +1,8 @@
 -- The history keeps the claims of a replica, and they are the lists of a view change.
-use Rattle.std.proofs.Common.{◌≡◌, ℕ, ◌+◌, ◌≤◌, ◌<◌, ◌^◌, ◌⊎◌, inl, inr, Bool, true, false, length, List, [], ◌∷◌, Some, None, refl, sym, ap, ◌∙◌, subst, arith}
+use Rattle.std.proofs.Common.{◌≡◌, ℕ, ◌+◌, ◌≤◌, ◌<◌, ◌^◌, ◌⊎◌, inl, inr, Bool, true, false, length, List, ◌∷◌, Some, None, refl, sym, ap, ◌∙◌, subst, arith}
 use Rattle.std.specs.Prelude.{nat_lt, nat_le, ◌&&◌}
 use Rattle.std.proofs.lemmas.Bool.{and_parts, and_from, ltb-true, ltb-false, lt-ltb, leb-true, le-leb}
 use Rattle.sha2.proofs.Facts256.{length-sha256}
-use Rattle.wire.specs.Lists.{Each}
 use Rattle.ordering.specs.Log as logs
 use Rattle.ordering.specs.Log.{LogData}
 use Rattle.ordering.proofs.Reading.{above_low}
@@ -11,11 +10,11 @@ use Rattle.protocol.specs.System.Configuration.{Configuration, span}
 use Rattle.protocol.specs.System.Trace.{Entry, Has}
 use Rattle.protocol.specs.Replica.Certificates.{low, is_in_marks, logged, commit_of, Prepared}
 use Rattle.protocol.specs.Replica.RightReplica.{Point, Leaves}
-use Rattle.protocol.proofs.Words.Elements.{each_has}
+use Rattle.protocol.proofs.Words.Elements.{each_has, each_where}
 use Rattle.protocol.proofs.Agreement.Marks.{low_grows}
 use Rattle.protocol.proofs.Agreement.Voting.{logged_stays}
 use Rattle.claims.specs.Recording.{IsPreparedAs, IsLoggedAs, AreDigests, MovesUp, IsLatest, IsEach, RecordsPrepared}
-use Rattle.claims.proofs.Keeping.{latest_is_recorded, each_is_recorded, records_are_lists}
+use Rattle.claims.proofs.Keeping.{latest_is_recorded, each_is_recorded, records_are_lists, logged_digests}
 use Rattle.replica_histories.specs.Logs.{FitsLog}
 use Rattle.replica_histories.specs.Claims.{SaidCommit, WasLogged, ClaimsBegin, ClaimsGrow, ClaimsAreLists}
 use Rattle.replica_histories.proofs.Words.{marks_are}
@@ -40,9 +39,6 @@ certified c me v i digest history point leaves said = spoken_certified c me v i 
 
 commit_digests : (c : Configuration) (me : ℕ) (history : List Entry) (point : Point) → Leaves c me history point → AreDigests (SaidCommit c me history)
 commit_digests c me history point leaves v i digest said = let k = certified c me v i digest history point leaves said in ap length (sym k.digest_is) ∙ length-sha256 k.batch
-
-logged_digests : (c : Configuration) (me : ℕ) (history : List Entry) → AreDigests (IsLoggedAs c me history)
-logged_digests c me history v i digest h = ap length (sym h.2) ∙ length-sha256 h.0
 
 -- ---- the marks move up
 
@@ -69,10 +65,6 @@ module _ (c : Configuration) (me : ℕ) (log : LogData) (past : List Entry) (e :
         still = λ i t l. let m = parts (low c me past) i t in let n = m.1 in inside (low c me (e ∷ past)) i l (omega arith) m.2;
       }
 
-each_self : {A : Type 0} (P : A → Type 0) (xs : List A) → ((x : A) → Has (λ y. y ≡ x) xs → P x) → Each P xs
-each_self P [] f = tt
-each_self P (x ∷ xs) f = (f x (inl refl), each_self P xs (λ y has. f y (inr has)))
-
 pub claims_grow : ClaimsGrow
 claims_grow c me log past e old new claims after commits batches f leaves later committed logs_it grows texts fits = record {
   prepared = subst (IsLatest (SaidCommit c me (e ∷ past)) (is_in_marks c (low c me (e ∷ past)))) (sym grows.prepared)
@@ -82,7 +74,7 @@ claims_grow c me log past e old new claims after commits batches f leaves later 
   logged = subst (IsEach (IsLoggedAs c me (e ∷ past)) (is_in_marks c (low c me (e ∷ past)))) (sym grows.logged)
       (each_is_recorded (IsLoggedAs c me past) (IsLoggedAs c me (e ∷ past)) (is_in_marks c (low c me past)) (is_in_marks c (low c me (e ∷ past))) (low c me (e ∷ past)) claims.logged batches
       (logged_digests c me past) (logged_digests c me (e ∷ past)) (moves c me log past e f (IsLoggedAs c me past) (λ v i digest h. (h.0, h.1))) fits.logged logs_it);
-  texts = each_self (WasLogged c me (e ∷ past)) after.texts (λ text has. was text (texts text has));
+  texts = each_where (WasLogged c me (e ∷ past)) after.texts (λ text has. was text (texts text has));
 }
   where
     was : (text : List ℕ) → Has (λ x. x ≡ text) claims.texts ⊎ WasLogged c me (e ∷ past) text → WasLogged c me (e ∷ past) text

@@ -26,11 +26,11 @@ use Rattle.protocol.specs.Replica.Certificates.{are_genuine, checkpoint_from, ch
 use Rattle.protocol.specs.Replica.State.{State, Call, kept_of, last_time}
 use Rattle.protocol.specs.Replica.RightReplica.{Point}
 use Rattle.protocol.specs.Replica.Owed.{IsNoOlder, has_number}
+use Rattle.protocol.proofs.Agreement.States.{checking}
 use Rattle.replica_histories.specs.Logs.{above_mark, FitsLog, Takes}
 use Rattle.replica_histories.specs.Inputs.{BatchesCount, PreparesCount, CommitsCount, CheckpointsCount, RequestsCount, BatchesDrop, PreparesDrop, CommitsDrop, CheckpointsDrop, EarlyCheckpointsDrop, IsBesideLog, OthersDrop}
 use Rattle.replica_histories.proofs.Words.{apart, mapped, given_not, batch_read, primary_same}
 use Rattle.replica_histories.proofs.Latest.{inserts_same, says_above, number_above, says_number, above_with, listed_passed, passed_adds_nothing, put_or_passed}
-use Rattle.replica_histories.proofs.Checking.{checking}
 use Rattle.replica_histories.proofs.Taking.{takes_no_more, takes_nothing, none_there, prepare_taken, commit_taken, batch_taken}
 use Rattle.replica_histories.proofs.Logging.{got_reads}
 use Rattle.replica_histories.proofs.Cutting.{counts_one, counts_alike}
@@ -66,7 +66,7 @@ beside_none : (o : Option (List ℕ)) (digest : List ℕ) → fault_beside o dig
 beside_none None digest h = refl
 beside_none (Some x) digest h = absurd cc
 
-mapped_none : {A B : Type 0} (f : A → B) (o : Option A) → option_map f o ≡ None → o ≡ None
+pub mapped_none : {A B : Type 0} (f : A → B) (o : Option A) → option_map f o ≡ None → o ≡ None
 mapped_none f None h = refl
 mapped_none f (Some x) h = absurd cc
 

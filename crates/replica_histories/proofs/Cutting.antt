@@ -7,6 +7,7 @@ use Rattle.std.proofs.lemmas.Bool.{and_parts, and_from, eqb-false, ltb-true, ltb
 use Rattle.std.proofs.lemmas.List.{length-append, length-drop, length-replicate, length-set, get_or-set_same, get_or-set_other}
 use Rattle.std.proofs.lemmas.List.Elements.{All-append, All-drop, All-replicate}
 use Rattle.wire.specs.Messages.{BodyData as Body, MessageData as Message, NewViewData, CheckpointEntryData as CheckpointEntry}
+use Rattle.wire.proofs.Skipping.{none_chosen}
 use Rattle.ordering.specs.Log as logs
 use Rattle.ordering.specs.Log.{Row, no_row, LogData}
 use Rattle.ordering.specs.Keeping.{IsRow, IsLog}
@@ -19,13 +20,14 @@ use Rattle.protocol.specs.System.Trace.Entry.{Installed, Sent}
 use Rattle.protocol.specs.Replica.Certificates.{brought, taken, new_view_from, change_sent, change_from, installed_at, checkpoint_in, checkpoint_from, checkpoints_of, with_checkpoint, insert_checkpoint, is_stable, stable_at, started_at, low, counts_at, batch_from, entry_proposal, proposal, logged, prepare_from, prepare_of, commit_from, commit_of, vote_in}
 use Rattle.protocol.specs.Replica.Owed.{IsSaying}
 use Rattle.protocol.proofs.Words.Options.{or_else_alone}
+use Rattle.protocol.proofs.Agreement.States.{checking}
 use Rattle.replica_histories.specs.Logs.{above_mark, AreLatest, IsWithin, FitsViews, FitsLog, IsVoted}
 use Rattle.replica_histories.specs.Events.{IsReached}
 use Rattle.replica_histories.specs.Marks.{checked_log, IsVotedTo, BringsCheckpoint, MarksMove, InstallationsMove}
-use Rattle.replica_histories.proofs.Words.{gated, passed}
+use Rattle.replica_histories.proofs.Words.{passed}
 use Rattle.replica_histories.proofs.Certified.{Same, same_turned, prepared_back, committed_back, logged_within}
 use Rattle.replica_histories.proofs.Latest.{inserts_same, behind_latest, behind_above, above_higher}
-use Rattle.replica_histories.proofs.Checking.{checking, latest_of, log_stable}
+use Rattle.replica_histories.proofs.Checking.{latest_of, log_stable}
 use Rattle.replica_histories.proofs.Settling.{votes_said, voted_goes}
 use Rattle.replica_histories.proofs.Logging.{none_taken, view_quiet, proposal_quiet, begun_quiet, active_goes}
 use Rattle.replica_histories.proofs.Reaching.{reached_by}
@@ -280,7 +282,7 @@ changes_nothing : (c : Configuration) (s k : ℕ) (root : List ℕ) (e : Entry) 
 changes_nothing c s k root (Sent p bytes) h = ap (λ (o : Option Body). option_map_or change_from o 0) h
 changes_nothing c s k root _ h = refl
 
-installs_nothing : (c : Configuration) (body : Body) (e : Entry) → brought c e ≡ Some body → installed_at e ≡ 0
+pub installs_nothing : (c : Configuration) (body : Body) (e : Entry) → brought c e ≡ Some body → installed_at e ≡ 0
 installs_nothing c body (Installed x y z) h = absurd (let bad : None ≡ Some body = h in cc)
 installs_nothing c body _ h = refl
 
@@ -328,9 +330,9 @@ module _ (c : Configuration) (me : ℕ) (log : LogData) (past : List Entry) (e :
   mute = record {
     no_view = none_taken c past e (ap (option_and_then (new_view_from c)) b.brings);
     no_change = changes_nothing c s entry.number entry.digest e b.brings;
-    batch = λ v i. gated (counts_at c me past e v i) (option_and_then (batch_from c me v i) (brought c e)) (ap (option_and_then (batch_from c me v i)) b.brings);
-    prepare = λ v i x. gated (counts_at c me past e v i) (option_and_then (prepare_from c x v i) (brought c e)) (ap (option_and_then (prepare_from c x v i)) b.brings);
-    commit = λ v i x. gated (counts_at c me past e v i) (option_and_then (commit_from x v i) (brought c e)) (ap (option_and_then (commit_from x v i)) b.brings);
+    batch = λ v i. none_chosen (counts_at c me past e v i) (option_and_then (batch_from c me v i) (brought c e)) (ap (option_and_then (batch_from c me v i)) b.brings);
+    prepare = λ v i x. none_chosen (counts_at c me past e v i) (option_and_then (prepare_from c x v i) (brought c e)) (ap (option_and_then (prepare_from c x v i)) b.brings);
+    commit = λ v i x. none_chosen (counts_at c me past e v i) (option_and_then (commit_from x v i) (brought c e)) (ap (option_and_then (commit_from x v i)) b.brings);
   }
 
   pub alike : (x : ℕ) → above_mark log.low (checkpoints_of c (e ∷ past) x) ≡ above_mark log.low (logs.checkpoints_of more x)

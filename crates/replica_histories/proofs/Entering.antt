@@ -23,6 +23,7 @@ use Rattle.protocol.specs.Replica.Transfers.{fetching, asked_last}
 use Rattle.protocol.proofs.Words.Plain.{Plain, plain_low}
 use Rattle.protocol.proofs.Words.Options.{some_injective}
 use Rattle.protocol.proofs.Words.Reacting.{proceeds_leaves}
+use Rattle.protocol.proofs.Agreement.States.{checking}
 use Rattle.replica_histories.specs.Desk.{snapshot_of, point_of}
 use Rattle.state_transfer.specs.Transfer.{TransferData}
 use Rattle.replica_histories.specs.Logs.{above_mark, FitsLog}
@@ -31,7 +32,7 @@ use Rattle.replica_histories.specs.Events.{Start, IsOnItsWay, IsAsked, MaySayDue
 use Rattle.replica_histories.specs.Transfers.{HasQuorum, FitsOpen, open_number}
 use Rattle.replica_histories.specs.TransfersQuorums.{BringsRoot, QuorumsFetched}
 use Rattle.replica_histories.specs.Inputs.{again_for, asked_by, asked, fetch_due, again_due, InputsFit, CheckpointsEnter, TicksFit}
-use Rattle.replica_histories.proofs.Checking.{checking, log_stable, quorum_counted, own_at_most}
+use Rattle.replica_histories.proofs.Checking.{log_stable, quorum_counted, own_at_most}
 use Rattle.replica_histories.proofs.Taking.{takes_nothing}
 use Rattle.replica_histories.proofs.Logging.{none_taken, log_goes, got_read, silent_read}
 use Rattle.replica_histories.proofs.Reaching.{reached_goes}
@@ -40,8 +41,9 @@ use Rattle.replica_histories.proofs.Giving.{kept_on}
 use Rattle.replica_histories.proofs.SaidOnce.{time_of, reply_client, no_reply, fetch_once}
 use Rattle.replica_histories.proofs.Counting.{CheckpointFree, checkpoint_free}
 use Rattle.replica_histories.proofs.Words.{apart}
-use Rattle.replica_histories.proofs.Transfers.{root_later, open_stays, open_above, asked_fetched, quorums_want, lower_are_fetched}
+use Rattle.replica_histories.proofs.Transfers.{root_later, open_stays, open_above, quorums_want, lower_are_fetched}
 use Rattle.replica_histories.proofs.TransfersQuorums.{unchanged_bring_none, none_starts, quorums_begin}
+use Rattle.replica_histories.proofs.TransfersTaking.{asked_at_most}
 
 -- ---- what the input asks for is due
 
@@ -396,7 +398,7 @@ ticks_fit c me desk log past held = record {
     -- the last place that was asked for, with a number above the state's, is the open transfer's
     again : (k index : ℕ) (level : Level) (o : Option TransferData) → FitsOpen c me o desk.state.number past → asked_last past ≡ Some (k, (level, index)) → desk.state.number < k
         → Has (λ x. x ≡ Fetch k level index) (again_due o)
-    again k index level None f was above = let most = asked_fetched past k (level, index) was in let least = f.0 in absurd (omega (arith, most, least, above))
+    again k index level None f was above = let most = asked_at_most past k (level, index) was in let least = f.0 in absurd (omega (arith, most, least, above))
     again k index level (Some t) f was above =
         inl (ap (λ (x : ℕ × (Level × ℕ)). Fetch x.0 x.1.0 x.1.1) (some_injective (t.number, (t.asked.level, t.asked.index)) (k, (level, index)) (sym f.0.asked ∙ was)))
 

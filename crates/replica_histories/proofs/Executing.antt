@@ -5,7 +5,6 @@ use Rattle.std.proofs.lemmas.Bool.{and_parts, le-leb}
 use Rattle.wire.specs.Messages.{MessageData as Message, CheckpointEntryData as CheckpointEntry, checkpoint as Checkpoint, fetch as Fetch}
 use Rattle.wire.specs.Words.{requests_of}
 use Rattle.ordering.specs.Log as logs
-use Rattle.ordering.specs.Log.{LogData}
 use Rattle.ordering.proofs.Reading.{above_low}
 use Rattle.protocol.specs.System.Configuration.{is_number}
 use Rattle.protocol.specs.System.Trace.{Entry, Has}

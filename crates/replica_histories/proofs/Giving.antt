@@ -6,7 +6,7 @@ use Rattle.std.proofs.lemmas.Bool.{and_parts, eqb-false, ne_eqb, not-true, leb-t
 use Rattle.sha2.specs.Sha256.{sha256}
 use Rattle.quorum.specs.Votes.{or_else}
 use Rattle.terms.specs.declared.order.Mode.TheVariants as modes
-use Rattle.wire.specs.Messages.{BodyData as Body, MessageData as Message, AuthenticatorData as Authenticator, macs, signature, request as Request, pre_prepare as PrePrepare, prepare as Prepare, commit as Commit, checkpoint as Checkpoint, view_change as ViewChange, new_view as NewView, reply as Reply, fetch as Fetch, meta as Meta, page as Page}
+use Rattle.wire.specs.Messages.{BodyData as Body, MessageData as Message, AuthenticatorData as Authenticator, macs, signature, pre_prepare as PrePrepare, prepare as Prepare, commit as Commit, checkpoint as Checkpoint, view_change as ViewChange, new_view as NewView, reply as Reply, fetch as Fetch}
 use Rattle.wire.specs.Spelling.{is_signed, authenticator_is_signed}
 use Rattle.wire.specs.Words.{carried, requests_of, said}
 use Rattle.wire.specs.Lists.{Each}
@@ -62,15 +62,8 @@ pub due_stays : (c : Configuration) (me : ℕ) (past : List Entry) (bytes : List
 due_stays c me past bytes point (Reply client timestamp modes.Ordered number answer) h = h
 due_stays c me past bytes point (Reply client timestamp modes.ReadOnly number answer) h = h
 due_stays c me past bytes point (Checkpoint k root) h = (record { multiple = h.0.multiple; executed = inr h.0.executed; state = h.0.state }, h.1)
-due_stays c me past bytes point (Request t mode op) h = absurd h
-due_stays c me past bytes point (PrePrepare v i batch) h = absurd h
-due_stays c me past bytes point (Prepare v i digest) h = absurd h
-due_stays c me past bytes point (Commit v i digest) h = absurd h
-due_stays c me past bytes point (ViewChange vc) h = absurd h
-due_stays c me past bytes point (NewView new) h = absurd h
 due_stays c me past bytes point (Fetch k level index) h = (h.0, (h.1.0, root_later c k h.0 past (Sent me bytes) h.1.1))
-due_stays c me past bytes point (Meta k level index digests) h = absurd h
-due_stays c me past bytes point (Page k index text) h = absurd h
+due_stays c me past bytes point _ h = absurd h
 
 -- the replica may send its own signed frame of a message that may be sent, since it is for all
 signed_addressed : (c : Configuration) (me : ℕ) (past : List Entry) (message : Message) (a : Authenticator) → authenticator_is_signed a ≡ true → IsAddressed c me past message a

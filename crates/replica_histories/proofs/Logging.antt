@@ -7,6 +7,7 @@ use Rattle.std.proofs.lemmas.Bool.{and_parts, eqb-false, leb-true, ltb-true, ltb
 use Rattle.quorum.specs.Votes.{or_else}
 use Rattle.wire.specs.Messages.{BodyData as Body, MessageData as Message, NewViewData, CheckpointEntryData as CheckpointEntry, pre_prepare as PrePrepare, prepare as Prepare, commit as Commit, view_change as ViewChange, new_view as NewView}
 use Rattle.wire.specs.Words.{said}
+use Rattle.wire.proofs.Skipping.{none_chosen}
 use Rattle.signing.specs.Heard.{heard}
 use Rattle.ordering.specs.Log as logs
 use Rattle.ordering.specs.Log.{LogData}
@@ -18,7 +19,7 @@ use Rattle.protocol.specs.Replica.Owed.{BeginsViewWith}
 use Rattle.protocol.proofs.Words.Options.{or_else_alone, or_else_cases, or_else_second}
 use Rattle.protocol.proofs.Words.Plain.{Plain, taken_none}
 use Rattle.replica_histories.specs.Logs.{above_mark, AreLatest, IsWithin, FitsViews, FitsLog, IsVoted, Stays, while_active, Takes}
-use Rattle.replica_histories.proofs.Words.{apart, gated, marks_are, marks_stay, below_marks}
+use Rattle.replica_histories.proofs.Words.{apart, marks_are, marks_stay, below_marks}
 use Rattle.replica_histories.proofs.Latest.{behind_above}
 use Rattle.replica_histories.proofs.Certified.{active, active_view, Same, same_turned, prepared_back, committed_back}
 use Rattle.replica_histories.proofs.Checking.{latest_of, stable_above, stable_are_low}
@@ -110,7 +111,7 @@ low_goes c me log new past e f q t =
 pub proposal_quiet : (c : Configuration) (me : ℕ) (past : List Entry) (e : Entry) (v i : ℕ) → taken c past e ≡ None → proposal c me past e v i ≡ entry_proposal c me past e v i
 proposal_quiet c me past e v i none =
     or_else_second (begun_proposal c me past e v i) (entry_proposal c me past e v i)
-    (gated (is_in_marks c (low c me (e ∷ past)) i) (option_and_then (batch_begun v i) (taken c past e)) (ap (option_and_then (batch_begun v i)) none))
+    (none_chosen (is_in_marks c (low c me (e ∷ past)) i) (option_and_then (batch_begun v i) (taken c past e)) (ap (option_and_then (batch_begun v i)) none))
 
 -- so no later view begins
 pub begun_quiet : (c : Configuration) (past : List Entry) (e : Entry) (most : ℕ) → taken c past e ≡ None → ((v : ℕ) (batch : List ℕ) → Once (BeginsViewWith c v batch) past → v ≤ most) → (v : ℕ) (batch : List ℕ)

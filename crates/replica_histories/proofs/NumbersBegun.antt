@@ -6,17 +6,18 @@ use Rattle.std.proofs.lemmas.Bool.{and_from, lt-ltb, le-leb}
 use Rattle.wire.specs.Messages.{MessageData as Message, NewViewData}
 use Rattle.wire.specs.Words.{requests_of}
 use Rattle.wire.specs.Lists.{Each}
+use Rattle.wire.proofs.Skipping.{none_chosen}
 use Rattle.protocol.specs.System.Configuration.{Configuration, span}
 use Rattle.protocol.specs.System.Trace.{Entry, Has, either}
 use Rattle.protocol.specs.Replica.Certificates.{brought, view, taken, new_view_from, low, is_in_marks, counts_at, batch_from, batch_begun, begun_proposal, entry_proposal, proposal, logged}
 use Rattle.protocol.specs.Replica.State.{Call, call_of}
 use Rattle.protocol.specs.Replica.Owed.{IsOfView, HasRequest, IsNumbered}
 use Rattle.protocol.proofs.Words.Options.{and_then_some, some_injective, or_else_second, or_else_alone}
-use Rattle.protocol.proofs.Words.Elements.{has_some, has_weaker, has_left, has_right, has_either, has_map, has_mapped, each_mapped}
+use Rattle.protocol.proofs.Words.Elements.{has_some, has_weaker, has_left, has_right, has_either, has_map, has_mapped, each_mapped, each_where}
 use Rattle.protocol.proofs.Agreement.Marks.{takes, begins, few_batches, selected_in, proposes}
 use Rattle.replica_histories.specs.Numbers.{Waiting, BegunCall, begun_in, is_begun, arrived, IsBegun, HasNumber, HasNone, IsRightly, AreOfNoLaterView, LogsAreOfNoLaterView, LaterNumberNothing, ViewsBegin}
-use Rattle.replica_histories.proofs.Words.{passed, gated, apart, given_not}
-use Rattle.replica_histories.proofs.NumbersLists.{each_where, IsAt, Spells}
+use Rattle.replica_histories.proofs.Words.{passed, apart, given_not}
+use Rattle.replica_histories.proofs.NumbersLists.{IsAt, Spells}
 use Rattle.replica_histories.proofs.NumbersFlags.{begun_is, is_begun_where}
 
 -- ---- views above the current one
@@ -127,7 +128,7 @@ module _ (c : Configuration) (me : ℕ) (past : List Entry) (e : Entry) (new : N
   no_entry i =
       let r = and_then_some (new_view_from c) (brought c e) new (takes c me past e new enters).brought in
       let message = (begins c r.0 new r.2).message_is in
-      gated (counts_at c me past e new.view i) (option_and_then (batch_from c me new.view i) (brought c e))
+      none_chosen (counts_at c me past e new.view i) (option_and_then (batch_from c me new.view i) (brought c e))
       (ap (option_and_then (batch_from c me new.view i)) r.1 ∙ ap (λ (m : Message). batch_from c me new.view i (record { sender = r.0.sender; message = m })) message)
 
   -- and no batch was logged before

@@ -6,6 +6,7 @@ use Rattle.std.proofs.lemmas.List.{take-append-drop}
 use Rattle.wire.specs.Messages.{pre_prepare as PrePrepare}
 use Rattle.wire.specs.Words.{requests_of, said}
 use Rattle.wire.specs.Lists.{Each}
+use Rattle.wire.proofs.Skipping.{none_chosen}
 use Rattle.protocol.specs.System.Configuration.{Configuration, primary}
 use Rattle.protocol.specs.System.Trace.{Entry, Has}
 use Rattle.protocol.specs.System.Trace.Entry.{Sent}
@@ -16,10 +17,11 @@ use Rattle.protocol.proofs.Agreement.Marks.{low_grows}
 use Rattle.protocol.specs.Replica.Owed.{IsNumbered, HasRequest, AreDifferent, NumbersOnce}
 use Rattle.protocol.proofs.Words.Options.{some_injective, or_else_second}
 use Rattle.protocol.proofs.Words.Elements.{has_some, has_weaker, has_filter, has_map, has_mapped, each_has, each_weaker}
+use Rattle.protocol.proofs.Words.Pairs.{Pairs, pairs_of, all_pairs}
 use Rattle.replica_histories.specs.Numbers.{Waiting, BegunCall, calls_of, unnumbered, with_numbered, IsKnown, IsBegun, HasNumber, HasNone, IsRightly, FitsNumbers, AreCalls, NumbersFit}
-use Rattle.replica_histories.proofs.Words.{gated, given_not}
+use Rattle.replica_histories.proofs.Words.{given_not}
 use Rattle.replica_histories.proofs.NumbersFlags.{flag_has, has_flag, lacks_flag, rightly_none, calls_numbered, each_numbered}
-use Rattle.replica_histories.proofs.NumbersLists.{each_front, each_back, has_taken, Pairs, pairs_of, all_pairs, pairs_kept, pairs_mapped, pairs_unmapped, pairs_front, pairs_across, IsAt, Covers, spelled_at, call_spelled, Differ, frames_differ}
+use Rattle.replica_histories.proofs.NumbersLists.{each_front, each_back, has_taken, pairs_kept, pairs_mapped, pairs_unmapped, pairs_front, pairs_across, IsAt, Covers, spelled_at, call_spelled, Differ, frames_differ}
 use Rattle.replica_histories.proofs.NumbersKept.{numbered_stays, same_proposal, proposal_takes_none, logged_elsewhere}
 
 -- the batch that the primary's own pre-prepare logs for a free number
@@ -32,7 +34,7 @@ logged_here c me v i batch bytes past own genuine says free =
     ∙ ap (option_and_then (batch_from c me v i)) says ∙ proposed
   where
     begun : begun_proposal c me past (Sent me bytes) v i ≡ None
-    begun = gated (is_in_marks c (low c me (Sent me bytes ∷ past)) i) (option_and_then (batch_begun v i) (taken c past (Sent me bytes)))
+    begun = none_chosen (is_in_marks c (low c me (Sent me bytes ∷ past)) i) (option_and_then (batch_begun v i) (taken c past (Sent me bytes)))
         (ap (option_and_then (batch_begun v i)) (proposal_takes_none c me v i batch bytes past says))
 
     proposed : batch_from c me v i (record { sender = me; message = PrePrepare v i batch }) ≡ Some batch

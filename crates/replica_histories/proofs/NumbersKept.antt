@@ -1,50 +1,37 @@
 -- Entries that assign no number.
-use Rattle.std.proofs.Common.{◌≡◌, ◌≢◌, ℕ, inl, inr, true, false, ◌&&◌, List, [], ◌∷◌, refl, sym, arith, ap, ◌∙◌, subst, Option, Some, None, is_some, eqb-true}
-use Rattle.std.specs.Prelude.{◌==◌, option_and_then}
+use Rattle.std.proofs.Common.{◌≡◌, ◌≢◌, ℕ, inl, inr, true, false, List, [], ◌∷◌, refl, sym, arith, ap, ◌∙◌, subst, Option, Some, None, is_some}
+use Rattle.std.specs.Prelude.{option_and_then}
 use Rattle.std.specs.Option.{option_map_or}
-use Rattle.std.proofs.lemmas.Bool.{and_parts}
 use Rattle.quorum.specs.Votes.{or_else}
 use Rattle.wire.specs.Messages.{BodyData as Body, MessageData as Message, pre_prepare as PrePrepare}
 use Rattle.wire.specs.Words.{said}
+use Rattle.wire.proofs.Skipping.{none_chosen}
 use Rattle.protocol.specs.System.Configuration.{Configuration, primary}
 use Rattle.protocol.specs.System.Trace.{Entry, party_of}
 use Rattle.protocol.specs.System.Trace.Entry.{Got, Sent}
-use Rattle.protocol.specs.Replica.Certificates.{brought, taken, low, is_in_marks, are_genuine, counts_at, batch_from, batch_begun, begun_proposal, entry_proposal, proposal, logged}
+use Rattle.protocol.specs.Replica.Certificates.{brought, taken, low, is_in_marks, counts_at, batch_from, batch_begun, begun_proposal, entry_proposal, proposal, logged}
 use Rattle.protocol.specs.Replica.Owed.{IsNumbered}
-use Rattle.protocol.proofs.Words.Options.{and_then_some, then_some_gives, some_injective, or_else_second}
+use Rattle.protocol.proofs.Words.Options.{and_then_some, some_injective, or_else_second}
 use Rattle.protocol.proofs.Words.Plain.{said_plain, taken_none}
 use Rattle.protocol.proofs.Words.Elements.{each_weaker}
 use Rattle.protocol.proofs.Agreement.Marks.{low_grows}
-use Rattle.protocol.proofs.Agreement.Voting.{logged_stays}
+use Rattle.protocol.proofs.Agreement.Voting.{logged_stays, batch_is}
 use Rattle.replica_histories.specs.Numbers.{IsRightly, KeepsNumbers, NumbersStay, is_pre_prepare, sends_pre_prepare, OthersKeepNumbers, BatchesKeepNumbers}
-use Rattle.replica_histories.proofs.Words.{passed, gated, given_not}
+use Rattle.replica_histories.proofs.Words.{passed, given_not}
 use Rattle.replica_histories.proofs.Speaking.{heard_other}
 use Rattle.replica_histories.proofs.NumbersFlags.{either_weaker}
 
 -- ---- which batches an entry logs
 
--- a batch is proposed by a pre-prepare of the view's primary
-pub batch_said : (c : Configuration) (me v i : ℕ) (batch : List ℕ) (sender : ℕ) (message : Message) → batch_from c me v i (record { sender = sender; message = message }) ≡ Some batch
-    → (message ≡ PrePrepare v i batch) × (sender ≡ primary c v)
-batch_said c me v i batch sender (PrePrepare w k b) h =
-    let g = then_some_gives ((w == v) && (k == i) && (sender == primary c v) && are_genuine c me b) b batch h in
-    let p = and_parts ((w == v) && (k == i) && (sender == primary c v)) (are_genuine c me b) g.0 in
-    let q = and_parts ((w == v) && (k == i)) (sender == primary c v) p.0 in
-    let r = and_parts (w == v) (k == i) q.0 in
-    let ev : w ≡ v = eqb-true w v r.0 in
-    let ei : k ≡ i = eqb-true k i r.1 in
-    (rw (ev, ei, g.1) refl, eqb-true sender (primary c v) q.1)
-batch_said c me v i batch sender _ h = absurd cc
-
 -- if no new view is taken, a logged batch comes from such a message
 pub proposal_said : (c : Configuration) (me v i : ℕ) (batch : List ℕ) (past : List Entry) (e : Entry) → taken c past e ≡ None → proposal c me past e v i ≡ Some batch
     → (body : Body) × (brought c e ≡ Some body) × (body.message ≡ PrePrepare v i batch) × (body.sender ≡ primary c v)
 proposal_said c me v i batch past e none h =
-    let begun = gated (is_in_marks c (low c me (e ∷ past)) i) (option_and_then (batch_begun v i) (taken c past e)) (ap (option_and_then (batch_begun v i)) none) in
+    let begun = none_chosen (is_in_marks c (low c me (e ∷ past)) i) (option_and_then (batch_begun v i) (taken c past e)) (ap (option_and_then (batch_begun v i)) none) in
     let entry : entry_proposal c me past e v i ≡ Some batch = sym (or_else_second (begun_proposal c me past e v i) (entry_proposal c me past e v i) begun) ∙ h in
     let p = passed (counts_at c me past e v i) (option_and_then (batch_from c me v i) (brought c e)) batch entry in
     let b = and_then_some (batch_from c me v i) (brought c e) batch p.1 in
-    let s = batch_said c me v i batch b.0.sender b.0.message b.2 in
+    let s = batch_is c me v i batch b.0.sender b.0.message b.2 in
     (b.0, b.1, s.0, s.1)
 
 -- an entry that proposes nothing for a free number logs nothing there

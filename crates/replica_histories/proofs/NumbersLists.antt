@@ -1,6 +1,6 @@
 -- Laws of lists on which numbering stands: parts of a list, filters, and frames beside their calls.
-use Rattle.std.proofs.Common.{◌≡◌, ◌≢◌, ℕ, zero, suc, ◌≤◌, inl, inr, Bool, true, false, cond, List, [], ◌∷◌, ◌++◌, map, take, drop, filter, Some, refl, sym, ap, ◌∙◌, arith, All, AllPairs}
-use Rattle.std.proofs.lemmas.List.Kept.{AllPairs-cons, AllPairs-filter}
+use Rattle.std.proofs.Common.{◌≡◌, ◌≢◌, ℕ, zero, suc, ◌≤◌, inl, inr, Bool, true, false, cond, List, [], ◌∷◌, ◌++◌, map, take, filter, Some, refl, sym, ap, ◌∙◌}
+use Rattle.std.proofs.lemmas.List.Kept.{AllPairs-filter}
 use Rattle.wire.specs.Lists.{Each}
 use Rattle.protocol.specs.System.Configuration.{Configuration}
 use Rattle.protocol.specs.System.Trace.{Has}
@@ -8,6 +8,7 @@ use Rattle.protocol.specs.Replica.State.{Call, call_of}
 use Rattle.protocol.specs.Replica.Owed.{AreDifferent}
 use Rattle.protocol.proofs.Words.Options.{some_injective}
 use Rattle.protocol.proofs.Words.Elements.{each_mapped}
+use Rattle.protocol.proofs.Words.Pairs.{Pairs, pairs_of, all_pairs}
 use Rattle.replica_histories.specs.Numbers.{AreCalls}
 
 -- ---- elements of parts
@@ -20,20 +21,11 @@ pub each_back : {A : Type 0} (P : A → Type 0) (xs ys : List A) → Each P (xs 
 each_back P [] ys h = h
 each_back P (x ∷ xs) ys h = each_back P xs ys h.1
 
-pub each_where : {A : Type 0} (P : A → Type 0) (xs : List A) → ((x : A) → Has (λ y. y ≡ x) xs → P x) → Each P xs
-each_where P [] f = tt
-each_where P (x ∷ xs) f = (f x (inl refl), each_where P xs (λ y h. f y (inr h)))
-
 pub has_taken : {A : Type 0} (P : A → Type 0) (n : ℕ) (xs : List A) → Has P (take n xs) → Has P xs
 has_taken P zero xs h = absurd h
 has_taken P (suc n) [] h = absurd h
 has_taken P (suc n) (x ∷ xs) (inl h) = inl h
 has_taken P (suc n) (x ∷ xs) (inr h) = inr (has_taken P n xs h)
-
-pub has_dropped : {A : Type 0} (P : A → Type 0) (n : ℕ) (xs : List A) → Has P (drop n xs) → Has P xs
-has_dropped P zero xs h = h
-has_dropped P (suc n) [] h = absurd h
-has_dropped P (suc n) (x ∷ xs) h = inr (has_dropped P n xs h)
 
 -- ---- a filtered list, and properties of its elements
 
@@ -51,28 +43,6 @@ each_unmapped P f [] h = tt
 each_unmapped P f (x ∷ xs) h = (h.0, each_unmapped P f xs h.1)
 
 -- ---- each two
-
-abbrev pub Pairs : {A : Type 0} → (A → A → Type 0) → List A → Type 0
-Pairs R [] = Unit {0}
-Pairs R (x ∷ xs) = Each (R x) xs × Pairs R xs
-
-each_of : {A : Type 0} (P : A → Type 0) (xs : List A) → All P xs → Each P xs
-each_of P [] h = tt
-each_of P (x ∷ xs) h = (h 0 x (omega arith), each_of P xs (λ k d l. h (suc k) d (omega (arith, l))))
-
-all_of : {A : Type 0} (P : A → Type 0) (xs : List A) → Each P xs → All P xs
-all_of P [] e k d l = absurd (omega (arith, l))
-all_of P (x ∷ xs) e zero d l = e.0
-all_of P (x ∷ xs) e (suc k) d l = all_of P xs e.1 k d (omega (arith, l))
-
-pub pairs_of : {A : Type 0} (R : A → A → Type 0) (xs : List A) → AllPairs R xs → Pairs R xs
-pairs_of R [] h = tt
-pairs_of R (x ∷ xs) h =
-    (each_of (R x) xs (λ k d l. h 0 (suc k) d (omega arith) (omega (arith, l))), pairs_of R xs (λ i j d l m. h (suc i) (suc j) d (omega (arith, l)) (omega (arith, m))))
-
-pub all_pairs : {A : Type 0} (R : A → A → Type 0) (xs : List A) → Pairs R xs → AllPairs R xs
-all_pairs R [] h = λ i j d l m. absurd (omega (arith, m))
-all_pairs R (x ∷ xs) h = AllPairs-cons R x xs (all_of (R x) xs h.0) (all_pairs R xs h.1)
 
 pub pairs_kept : {A : Type 0} (R : A → A → Type 0) (test : A → Bool) (xs : List A) → Pairs R xs → Pairs R (filter test xs)
 pairs_kept R test xs h = pairs_of R (filter test xs) (AllPairs-filter R test xs (all_pairs R xs h))

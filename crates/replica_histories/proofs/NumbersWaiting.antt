@@ -14,11 +14,12 @@ use Rattle.protocol.specs.System.Trace.{Entry, Has, either}
 use Rattle.protocol.specs.Replica.State.{State, Call, call_in, call_of, runs, kept_by, ran_call, run_call, run_frame, execute, last_time}
 use Rattle.protocol.specs.Replica.RightReplica.{is_newer, with_waiting, still_waiting}
 use Rattle.protocol.proofs.Words.Leaving.{last_put}
-use Rattle.protocol.proofs.Words.Elements.{has_some, has_weaker, has_left, has_right, has_filtered, each_has, each_with, each_filtered, each_of_all}
+use Rattle.protocol.proofs.Words.Elements.{has_some, has_weaker, has_left, has_right, has_filtered, each_has, each_with, each_filtered, each_of_all, each_where}
+use Rattle.protocol.proofs.Words.Pairs.{pairs_of, all_pairs}
 use Rattle.replica_histories.specs.Numbers.{Waiting, BegunCall, calls_of, is_begun, arrived, IsKnown, IsBegun, HasNumber, HasNone, IsRightly, FitsNumbers, entries_with, RequestsFit, InputsKeepNumbers, NoneFalls, StatesFit, ExecutionsRaise, StatesLeaveNoMore}
 use Rattle.replica_histories.proofs.Words.{apart}
 use Rattle.replica_histories.proofs.NumbersFlags.{begun_is, is_begun_where, begun_numbered, fewer_unnumbered}
-use Rattle.replica_histories.proofs.NumbersLists.{mapped_kept, each_where, pairs_of, all_pairs, pairs_with, Differ, Covers}
+use Rattle.replica_histories.proofs.NumbersLists.{mapped_kept, pairs_with, Differ, Covers}
 
 -- if one reason implies another, a call known for either stays known
 either_known : {A B C : Type 0} → A ⊎ C → (A → B) → B ⊎ C

@@ -9,7 +9,7 @@ use Rattle.terms.specs.declared.order.Mode.{Mode}
 use Rattle.terms.specs.declared.order.Mode.TheVariants as modes
 use Rattle.terms.specs.declared.state.Level.{Level}
 use Rattle.terms.specs.declared.state.Level.TheVariants as levels
-use Rattle.wire.specs.Messages.{BodyData as Body, MessageData as Message, ViewChangeData, NewViewData, request as Request, pre_prepare as PrePrepare, prepare as Prepare, commit as Commit, checkpoint as Checkpoint, view_change as ViewChange, new_view as NewView, reply as Reply, fetch as Fetch, meta as Meta, page as Page}
+use Rattle.wire.specs.Messages.{BodyData as Body, MessageData as Message, ViewChangeData, NewViewData, request as Request, checkpoint as Checkpoint, view_change as ViewChange, new_view as NewView, reply as Reply, fetch as Fetch, page as Page}
 use Rattle.wire.specs.Words.{said}
 use Rattle.reply_cache.specs.Replies.{Kept}
 use Rattle.ordering.specs.Log.{LogData}
@@ -171,17 +171,9 @@ is_due_kind message = elim message [ Checkpoint k root ↦ true | Reply client t
 
 kind_of_due : (c : Configuration) (me : ℕ) (past : List Entry) (point : Point) (message : Message) → MaySayDue c me past point message → is_due_kind message ≡ true
 kind_of_due c me past point (Reply client timestamp modes.Ordered number answer) h = refl
-kind_of_due c me past point (Reply client timestamp modes.ReadOnly number answer) h = absurd h
 kind_of_due c me past point (Checkpoint k root) h = refl
 kind_of_due c me past point (Fetch k level index) h = refl
-kind_of_due c me past point (Request t mode op) h = absurd h
-kind_of_due c me past point (PrePrepare v i batch) h = absurd h
-kind_of_due c me past point (Prepare v i digest) h = absurd h
-kind_of_due c me past point (Commit v i digest) h = absurd h
-kind_of_due c me past point (ViewChange vc) h = absurd h
-kind_of_due c me past point (NewView new) h = absurd h
-kind_of_due c me past point (Meta k level index digests) h = absurd h
-kind_of_due c me past point (Page k index text) h = absurd h
+kind_of_due c me past point _ h = absurd h
 
 -- the frame says one message
 pub saying : (me : ℕ) (message other : Message) (bytes : List ℕ) → said bytes ≡ Some (record { sender = me; message = message }) → IsSaying me other (Sent me bytes) → message ≡ other

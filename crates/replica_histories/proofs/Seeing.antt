@@ -1,10 +1,9 @@
 -- The requests of logged batches were seen.
-use Rattle.std.proofs.Common.{◌≡◌, ℕ, zero, suc, ◌-◌, ◌⊎◌, inl, inr, List, [], ◌∷◌, Option, Some, None, slice_get, refl, sym, subst}
+use Rattle.std.proofs.Common.{◌≡◌, ℕ, zero, suc, ◌-◌, ◌⊎◌, inl, inr, List, [], ◌∷◌, Option, Some, None, slice_get, sym, subst}
 use Rattle.std.specs.Prelude.{◌==◌, ◌&&◌, nat_lt, option_and_then}
 use Rattle.std.specs.Option.{option_map_or}
 use Rattle.wire.specs.Messages.{BodyData as Body, MessageData as Message, pre_prepare as PrePrepare}
 use Rattle.wire.specs.Words.{requests_of, requests_of_all, carried}
-use Rattle.wire.specs.Lists.{Each}
 use Rattle.protocol.specs.System.Configuration.{Configuration, primary}
 use Rattle.protocol.specs.System.Trace.{Entry, Once, Has}
 use Rattle.protocol.specs.System.Trace.Entry.{Got, Sent}
@@ -12,7 +11,7 @@ use Rattle.protocol.specs.Replica.Certificates.{brought, taken, new_view_from, l
 use Rattle.protocol.specs.Replica.RightReplica.{HasSeen}
 use Rattle.protocol.proofs.Words.Options.{or_else_cases, and_then_some, then_some_gives, given_once}
 use Rattle.protocol.proofs.Words.Temporal.{once_weaker}
-use Rattle.protocol.proofs.Words.Elements.{has_left, has_right}
+use Rattle.protocol.proofs.Words.Elements.{has_left, has_right, each_where}
 use Rattle.protocol.proofs.Words.Linking.{heard_said}
 use Rattle.protocol.proofs.Agreement.Marks.{takes, begins}
 use Rattle.protocol.proofs.Agreement.Offers.{entry_batch}
@@ -55,13 +54,9 @@ proposed_seen c me v i text frame past e has h = go (or_else_cases (begun_propos
         (subst (λ (m : Message). Has (λ x. x ≡ frame) (carried m)) (sym (begins c r.0 n.0 r.2).message_is)
         (has_right (λ x. x ≡ frame) n.0.changes (requests_of_all n.0.batches) (among n.0.batches (i - n.0.start - 1) text frame b.1 has)))
 
-each_self : {A : Type 0} (P : A → Type 0) (xs : List A) → ((x : A) → Has (λ y. y ≡ x) xs → P x) → Each P xs
-each_self P [] f = tt
-each_self P (x ∷ xs) f = (f x (inl refl), each_self P xs (λ y has. f y (inr has)))
-
 pub logged_are_seen : LoggedAreSeen
 unfolding logged
 logged_are_seen c me v i text history h =
-    each_self (λ frame. Once (HasSeen frame) history) (requests_of text)
+    each_where (λ frame. Once (HasSeen frame) history) (requests_of text)
     (λ frame has. once_weaker (λ past e. proposal c me past e v i ≡ Some text) (HasSeen frame) (λ past e k. proposed_seen c me v i text frame past e has k) history
     (given_once (λ earlier e. proposal c me earlier e v i) text history h))

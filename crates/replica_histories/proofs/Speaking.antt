@@ -1,9 +1,8 @@
 -- The replica sent its own votes in a history, and sent them rightly.
-use Rattle.std.proofs.Common.{◌≡◌, ◌≢◌, ℕ, ◌⊎◌, inl, inr, true, false, ◌&&◌, not, List, [], ◌∷◌, Some, refl, sym, ap, ◌∙◌, eqb-true}
+use Rattle.std.proofs.Common.{◌≡◌, ◌≢◌, ℕ, ◌⊎◌, inl, inr, true, false, not, List, [], ◌∷◌, Some, refl, sym, ap, ◌∙◌}
 use Rattle.std.specs.Prelude.{◌==◌}
-use Rattle.std.proofs.lemmas.Bool.{and_parts}
 use Rattle.sha2.specs.Sha256.{sha256}
-use Rattle.wire.specs.Messages.{BodyData as Body, MessageData as Message, prepare as Prepare}
+use Rattle.wire.specs.Messages.{BodyData as Body, MessageData as Message}
 use Rattle.signing.specs.Heard.{heard}
 use Rattle.signing.proofs.Heard.{heard_was_opened}
 use Rattle.protocol.specs.System.Configuration.{Configuration, primary, members}
@@ -13,9 +12,9 @@ use Rattle.protocol.specs.Replica.Certificates.{prepare_from, commit_from, vote_
 use Rattle.protocol.specs.Replica.RightReplica.{Point, Leaves}
 use Rattle.protocol.specs.Replica.Owed.{IsSaying, SendsMessage}
 use Rattle.protocol.proofs.Words.Temporal.{once_weaker, once_stays}
-use Rattle.protocol.proofs.Words.Options.{then_some_gives, given_once}
+use Rattle.protocol.proofs.Words.Options.{given_once}
 use Rattle.protocol.proofs.Words.Linking.{Speaks}
-use Rattle.protocol.proofs.Agreement.Voting.{RightAt, once_right, preparing, Brings, vote_brought, primary_votes_not, Logs, logs_stay, says_logged}
+use Rattle.protocol.proofs.Agreement.Voting.{RightAt, once_right, preparing, Brings, vote_brought, primary_votes_not, Logs, logs_stay, says_logged, prepare_is}
 use Rattle.protocol.proofs.Agreement.Commits.{Commits as SaidCommits, committing, commit_source, prepared_stays, says_prepared}
 use Rattle.replica_histories.specs.Events.{Start, after_outputs}
 
@@ -36,23 +35,10 @@ own_spoken c me body past point leaves own h =
 
 -- ---- prepares
 
-prepare_is : (c : Configuration) (s v i : ℕ) (d : List ℕ) (sender : ℕ) (message : Message) → prepare_from c s v i (record { sender = sender; message = message }) ≡ Some d
-    → ◌≡◌ {A = Body} (record { sender = sender; message = message }) (preparing s v i d)
-prepare_is c s v i d sender (Prepare view number digest) h =
-    let g = then_some_gives ((sender == s) && (view == v) && (number == i) && not (s == primary c v)) digest d h in
-    let o = and_parts ((sender == s) && (view == v) && (number == i)) (not (s == primary c v)) g.0 in
-    let p = and_parts ((sender == s) && (view == v)) (number == i) o.0 in
-    let q = and_parts (sender == s) (view == v) p.0 in
-    let es : sender ≡ s = eqb-true sender s q.0 in
-    let ev : view ≡ v = eqb-true view v q.1 in
-    let ei : number ≡ i = eqb-true number i p.1 in
-    rw (es, ev, ei, g.1) refl
-prepare_is c s v i d sender _ h = absurd cc
-
 prepare_source : (c : Configuration) (me s v i : ℕ) (d : List ℕ) (past : List Entry) (e : Entry) → vote_in c me past e (prepare_from c s v i) v i ≡ Some d → Brings c (preparing s v i d) past e
 prepare_source c me s v i d past e h =
     let r = vote_brought c me v i d (prepare_from c s v i) past e h in
-    r.1 ∙ ap Some (prepare_is c s v i d r.0.sender r.0.message r.2)
+    r.1 ∙ ap Some (prepare_is c s v i d r.0.sender r.0.message r.2).0
 
 pub prepare_spoken : (c : Configuration) (me v i : ℕ) (d : List ℕ) (past : List Entry) (point : Point) → Leaves c me past point → prepare_of c me past v i me ≡ Some d → Once (Speaks (preparing me v i d)) past
 unfolding prepare_of

@@ -3,24 +3,20 @@ use Rattle.std.proofs.Common.{◌≡◌, ℕ, zero, suc, ◌+◌, ◌*◌, ◌<�
 use Rattle.std.proofs.lemmas.List.{length-replicate}
 use Rattle.std.proofs.lemmas.List.Elements.{All-replicate}
 use Rattle.wire.specs.Messages.{CheckpointEntryData as CheckpointEntry}
+use Rattle.wire.proofs.Skipping.{none_chosen}
 use Rattle.ordering.specs.Votes.{vote_of}
 use Rattle.ordering.specs.Log as logs
 use Rattle.ordering.specs.Log.{Row, no_row, LogData, new_log}
 use Rattle.ordering.specs.Keeping.{IsRow, IsLog}
+use Rattle.ordering.proofs.Moving.{empty}
 use Rattle.protocol.specs.System.Configuration.{Configuration, replicas, span}
 use Rattle.protocol.specs.Replica.Certificates.{view, low, logged, prepare_of, commit_of, checkpoints_of}
 use Rattle.protocol.specs.Replica.RightReplica.{first_point}
 use Rattle.replica_histories.specs.Logs.{above_mark, AreLatest, FitsViews, FitsLog}
 use Rattle.replica_histories.specs.Histories.{first_desk, FirstHold, HeldAreReplicas}
-use Rattle.replica_histories.proofs.Words.{gated}
 use Rattle.replica_histories.proofs.Latest.{none_latest}
 use Rattle.replica_histories.proofs.TransfersTaking.{nothing_at_first}
 use Rattle.replica_histories.proofs.TransfersQuorums.{quorums_first}
-
-empty : (n i : ℕ) → slice_index_or (replicate n no_row) i no_row ≡ no_row
-empty zero i = refl
-empty (suc n) zero = refl
-empty (suc n) (suc i) = empty n i
 
 no_checkpoints : (n s : ℕ) → slice_index_or (replicate n (let none : List CheckpointEntry = [] in none)) s [] ≡ []
 no_checkpoints zero s = refl
@@ -47,7 +43,7 @@ module _ (c : Configuration) (me : ℕ) (some : 1 ≤ c.faults) (few : c.faults 
       none_checked = []
 
   no_reading : {A : Type 0} (of : Row → Option A) → of no_row ≡ None → (i : ℕ) → cond (logs.is_in_marks started i) (of (logs.row_of started i)) None ≡ None
-  no_reading of none i = gated (logs.is_in_marks started i) (of (logs.row_of started i)) (ap of (empty (span c) (logs.place started i)) ∙ none)
+  no_reading of none i = none_chosen (logs.is_in_marks started i) (of (logs.row_of started i)) (ap of (empty (span c) (logs.place started i)) ∙ none)
 
   no_digest : (i : ℕ) → logs.logged_digest started i ≡ None
   no_digest i = no_reading logs.digest_of refl i
@@ -97,8 +93,8 @@ first_hold c me some few mine fits = record {
   };
   of_log = record {
     fits = first_fits c me some few mine fits;
-    prepares = λ i. gated _ _ (no_digest c me some few mine fits i);
-    commits = λ i. gated _ _ (no_digest c me some few mine fits i);
+    prepares = λ i. none_chosen _ _ (no_digest c me some few mine fits i);
+    commits = λ i. none_chosen _ _ (no_digest c me some few mine fits i);
   };
   low = inl (omega arith);
 }

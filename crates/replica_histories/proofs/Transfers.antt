@@ -1,5 +1,5 @@
 -- A transfer wants and has what its replica's history says.
-use Rattle.std.proofs.Common.{◌≡◌, ℕ, zero, suc, max, ◌+◌, ◌*◌, ◌/◌, ◌%◌, ◌≤◌, ◌<◌, ◌⊎◌, inl, inr, Bool, true, false, List, [], ◌∷◌, replicate, set, get_or, refl, sym, ap, ◌∙◌, subst, arith, Option, Some, None, slice_get}
+use Rattle.std.proofs.Common.{◌≡◌, ℕ, zero, suc, ◌+◌, ◌*◌, ◌/◌, ◌%◌, ◌≤◌, ◌<◌, ◌⊎◌, inl, inr, Bool, true, false, List, [], ◌∷◌, set, get_or, refl, sym, ap, ◌∙◌, subst, arith, Option, Some, None, slice_get}
 use Rattle.std.specs.Prelude.{nat_lt, bytes_eq, option_and_then}
 use Rattle.std.specs.Bool.{then_some}
 use Rattle.std.specs.Option.{option_map_or}
@@ -19,7 +19,7 @@ use Rattle.wire.proofs.Saying.{says_what_is_spelled}
 use Rattle.signing.specs.Heard.{heard}
 use Rattle.protocol.specs.System.Configuration.{Configuration, members, replicas}
 use Rattle.protocol.specs.System.Trace.{Entry}
-use Rattle.protocol.specs.System.Trace.Entry.{Invoke, Got, Tick, Executed, Installed, Sent, Accepted}
+use Rattle.protocol.specs.System.Trace.Entry.{Got, Tick, Executed, Sent}
 use Rattle.protocol.specs.Replica.Selection.{is_quorum}
 use Rattle.protocol.specs.Replica.Certificates.{checkpoints_of, says_checkpoint, count_checkpoints}
 use Rattle.protocol.specs.Replica.RightReplica.{IsRootWanted}
@@ -30,7 +30,7 @@ use Rattle.protocol.proofs.Words.Linking.{heard_said}
 use Rattle.state_transfer.specs.declared.place.Place.{Place}
 use Rattle.state_transfer.specs.Transfer.{TransferData, none_told, new_transfer, moved_to, asking, fitting, digest_of_part, pages_of_part, digest_of_page, wanted_at, with_part_digests, with_page_digests, with_digests, with_page}
 use Rattle.replica_histories.specs.Transfers.{known_below, Aims, FitsTransfer, MayAsk, FitsOpen, AreTaken, open_number, place_sent, WantedByHistory, DigestsCount, PagesCount, AimsStay, AskedStays, OpenStays, OpenExecutes, DigestsTaken, DigestsOpen, DigestsMayAsk, PagesMayAsk, TicksMayAsk, PagesGiveBack, PagesRested, QuorumsWant, TransfersStart, TransfersMove, QuorumsOpen, LowerAreFetched, MayAskAny, TransfersMayFetch, TransfersAsk}
-use Rattle.replica_histories.proofs.TransfersTaking.{newer_takes_nothing, newer_taken, took_stays, started_taken, rested_taken, page_taken, meta_taken, tick_taken, fetch_taken, execution_leaves, execution_ends}
+use Rattle.replica_histories.proofs.TransfersTaking.{newer_takes_nothing, newer_taken, took_stays, started_taken, rested_taken, page_taken, meta_taken, tick_taken, fetch_taken, execution_leaves, execution_ends, all_default}
 use Rattle.replica_histories.proofs.TransfersTaking as Taking
 use Rattle.replica_histories.proofs.Words.{passed}
 
@@ -47,11 +47,6 @@ set_cases (y ∷ ys) (suc i) (suc j) x d = go (set_cases ys i j x d)
     go : ((j ≡ i) × (get_or (set ys i x) j d ≡ x)) ⊎ (get_or (set ys i x) j d ≡ get_or ys j d) → ((suc j ≡ suc i) × (get_or (set ys i x) j d ≡ x)) ⊎ (get_or (set ys i x) j d ≡ get_or ys j d)
     go (inl h) = inl (ap suc h.0, h.1)
     go (inr h) = inr h
-
-pub all_default : {A : Type 0} (n i : ℕ) (d : A) → get_or (replicate n d) i d ≡ d
-all_default zero i d = refl
-all_default (suc n) zero d = refl
-all_default (suc n) (suc i) d = all_default n i d
 
 -- ---- wanted digests
 
@@ -223,8 +218,7 @@ more_fits c me t new past e none number place a taken f = let same = asked_stays
 pub digests_keep : (t : TransferData) (level : Level) (index : ℕ) (digests : List (List ℕ))
     → ((with_digests t (record { level = level; index = index }) digests).number ≡ t.number) × ((with_digests t (record { level = level; index = index }) digests).asked ≡ t.asked)
 digests_keep t levels.Root index digests = (refl, refl)
-digests_keep t levels.Inner index digests = (refl, refl)
-digests_keep t levels.Page index digests = (refl, refl)
+digests_keep t _ index digests = (refl, refl)
 
 pub digests_open : DigestsOpen
 digests_open c me t number past bytes s n place digests hears is f =
@@ -395,26 +389,6 @@ open_above c me (Some t) number history f = let above = f.1 in omega arith
 pub fetched_most : (c : Configuration) (me : ℕ) (open_one : Option TransferData) (number : ℕ) (history : List Entry) → FitsOpen c me open_one number history → fetching history ≤ open_number number open_one
 fetched_most c me None number history f = f.0
 fetched_most c me (Some t) number history f = let newest = f.0.newest in omega arith
-
-sent_fetched : (o : Option Body) (past : List Entry) (k : ℕ) (place : Level × ℕ) → (asked_last past ≡ Some (k, place) → k ≤ fetching past) → or_else (option_and_then place_from o) (asked_last past) ≡ Some (k, place)
-    → k ≤ max (option_map_or number_of o 0) (fetching past)
-sent_fetched None past k place earlier is = let most = earlier is in omega (arith, most)
-sent_fetched (Some body) past k place earlier is = of body.sender body.message is
-  where
-    of : (sender : ℕ) (message : Message) → or_else (place_from (record { sender = sender; message = message })) (asked_last past) ≡ Some (k, place) → k ≤ max (number_of (record { sender = sender; message = message })) (fetching past)
-    of sender (Fetch n level index) is = let same : n ≡ k = ap (λ (x : ℕ × (Level × ℕ)). x.0) (some_injective (n, (level, index)) (k, place) is) in omega (arith, same)
-    of sender _ is = let most = earlier is in omega (arith, most)
-
--- of the number of the last asked place a part was fetched
-pub asked_fetched : (history : List Entry) (k : ℕ) (place : Level × ℕ) → asked_last history ≡ Some (k, place) → k ≤ fetching history
-asked_fetched [] k place h = absurd cc
-asked_fetched (Sent p bytes ∷ past) k place h = sent_fetched (said bytes) past k place (asked_fetched past k place) h
-asked_fetched (Invoke x y z ∷ past) k place h = let most = asked_fetched past k place h in omega (arith, most)
-asked_fetched (Got x y ∷ past) k place h = let most = asked_fetched past k place h in omega (arith, most)
-asked_fetched (Tick x ∷ past) k place h = let most = asked_fetched past k place h in omega (arith, most)
-asked_fetched (Executed x y z ∷ past) k place h = let most = asked_fetched past k place h in omega (arith, most)
-asked_fetched (Installed x y z ∷ past) k place h = let most = asked_fetched past k place h in omega (arith, most)
-asked_fetched (Accepted x y z ∷ past) k place h = let most = asked_fetched past k place h in omega (arith, most)
 
 -- a frame that asks for no part
 pub asks_none : (bytes : List ℕ) (sender : ℕ) (message : Message) → said bytes ≡ Some (record { sender = sender; message = message }) → place_from (record { sender = sender; message = message }) ≡ None → place_sent (Sent sender bytes) ≡ None

@@ -169,13 +169,11 @@ may_say c me past point e bytes s k index levels.Page pages h asked = (
 -- it carries no frames, and is for whoever asked
 none_carried : (pages : List (List ℕ)) (k : ℕ) (level : Level) (index : ℕ) → carried (answer_by pages k level index) ≡ []
 none_carried pages k levels.Root index = refl
-none_carried pages k levels.Inner index = refl
-none_carried pages k levels.Page index = refl
+none_carried pages k _ index = refl
 
 is_for : (c : Configuration) (me : ℕ) (past : List Entry) (s k : ℕ) (level : Level) (index : ℕ) (pages : List (List ℕ)) → WasAsked c me past s k level index → IsFor c me past (answer_by pages k level index) (s ∷ [])
 is_for c me past s k levels.Root index pages asked = (s, refl, asked)
-is_for c me past s k levels.Inner index pages asked = (s, refl, asked)
-is_for c me past s k levels.Page index pages asked = (s, refl, asked)
+is_for c me past s k _ index pages asked = (s, refl, asked)
 
 pub answers_may_go : AnswersMayGo
 answers_may_go c me past point e bytes s k index level pages h asked =

@@ -29,8 +29,7 @@ started_rests k root st i l is = pages_read st i l
 
 digests_at : (t : TransferData) (st : State) (level : Level) (index : ℕ) (digests : List (List ℕ)) → RestsOnState t st → RestsOnState (with_digests t (record { level = level; index = index }) digests) st
 digests_at t st levels.Root index digests r = r
-digests_at t st levels.Inner index digests r = r
-digests_at t st levels.Page index digests r = r
+digests_at t st _ index digests r = r
 
 pub digests_rest : DigestsRest
 digests_rest t st place digests r = digests_at t st place.level place.index digests r

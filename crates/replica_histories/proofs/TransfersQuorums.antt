@@ -1,10 +1,10 @@
 -- Only the checkpoint that an entry brings makes a quorum grow, and each quorum above the executed number is fetched.
-use Rattle.std.proofs.Common.{◌≡◌, ℕ, zero, suc, ◌+◌, ◌*◌, ◌≤◌, ◌<◌, ◌⊎◌, inl, inr, Bool, true, false, cond, ◌&&◌, ◌||◌, List, [], ◌∷◌, ◌++◌, take, filter, refl, sym, ap, ◌∙◌, subst, arith, Option, Some, None, eqb-true}
+use Rattle.std.proofs.Common.{◌≡◌, ℕ, zero, suc, ◌+◌, ◌*◌, ◌≤◌, ◌<◌, ◌⊎◌, inl, inr, Bool, true, false, cond, ◌||◌, List, [], ◌∷◌, ◌++◌, take, filter, refl, sym, ap, ◌∙◌, subst, arith, Option, Some, None, eqb-true}
 use Rattle.std.specs.Prelude.{◌==◌, nat_lt, bytes_eq, option_and_then}
 use Rattle.std.specs.Bool.{then_some}
 use Rattle.std.specs.List.{list_any}
 use Rattle.std.specs.Option.{option_map_or}
-use Rattle.std.proofs.lemmas.Bool.{and_parts, ltb-false, leb-true, le-leb, or_left, or_right}
+use Rattle.std.proofs.lemmas.Bool.{and_parts, ltb-false, leb-true, le-leb, or_left, or_right, or_cases}
 use Rattle.std.proofs.lemmas.Slice.Eq.{bytes_eq-Decides}
 use Rattle.quorum.proofs.Counting.{count_same, count_mono}
 use Rattle.terms.specs.declared.state.Level.TheVariants as levels
@@ -20,16 +20,13 @@ use Rattle.protocol.specs.Replica.Owed.{IsSaying, SendsMessage, StartsAhead, has
 use Rattle.protocol.proofs.Agreement.Checkpoints.{known_checkpoint}
 use Rattle.protocol.proofs.Words.Options.{then_some_gives}
 use Rattle.protocol.proofs.Words.Elements.{has_of_any}
+use Rattle.protocol.proofs.Agreement.States.{is_checkpoint}
 use Rattle.replica_histories.specs.Events.{after_outputs, IsOnItsWay}
 use Rattle.replica_histories.specs.Transfers.{HasQuorum}
 use Rattle.replica_histories.specs.TransfersQuorums.{BringsRoot, IsToFetch, QuorumsGrow, CountsStay, UnchangedBringNone, QuorumsFirst, QuorumsStay, QuorumsBegin, QuorumsGoOn, QuorumsEnd}
 use Rattle.replica_histories.proofs.Transfers.{number_of, no_quorum}
 
 -- ---- one more checkpoint among a sender's
-
-or_cases : (a b : Bool) → (a || b) ≡ true → (a ≡ true) ⊎ (b ≡ true)
-or_cases true b h = inl refl
-or_cases false b h = inr h
 
 any_taken : {A : Type 0} (test : A → Bool) (n : ℕ) (xs : List A) → list_any test (take n xs) ≡ true → list_any test xs ≡ true
 any_taken test zero xs h = absurd cc
@@ -73,10 +70,6 @@ any_with test s (Some x) ms not h = go (x.0 == s) h
 
 -- ---- quorums
 
--- whether two checkpoints are the same
-abbrev says_same : CheckpointEntry → CheckpointEntry → Bool
-says_same checkpoint m = (m.number == checkpoint.number) && bytes_eq m.digest checkpoint.digest
-
 -- if each sender says it no more than before
 quorum_was : (c : Configuration) (past : List Entry) (e : Entry) (checkpoint : CheckpointEntry) → ((s : ℕ) → says_checkpoint checkpoint (checkpoints_of c (e ∷ past) s) ≡ true → says_checkpoint checkpoint (checkpoints_of c past s) ≡ true)
     → is_quorum c (count_checkpoints c (e ∷ past) checkpoint) ≡ true → is_quorum c (count_checkpoints c past checkpoint) ≡ true
@@ -88,9 +81,9 @@ quorum_was c past e checkpoint less h =
 -- a checkpoint that says it has its number
 number_said : (checkpoint : CheckpointEntry) (ms : List CheckpointEntry) → says_checkpoint checkpoint ms ≡ true → has_number checkpoint.number ms ≡ true
 number_said checkpoint [] h = absurd cc
-number_said checkpoint (m ∷ ms) h = go (or_cases (says_same checkpoint m) (says_checkpoint checkpoint ms) h) (number_said checkpoint ms)
+number_said checkpoint (m ∷ ms) h = go (or_cases (is_checkpoint checkpoint m) (says_checkpoint checkpoint ms) h) (number_said checkpoint ms)
   where
-    go : (says_same checkpoint m ≡ true) ⊎ (says_checkpoint checkpoint ms ≡ true) → (says_checkpoint checkpoint ms ≡ true → has_number checkpoint.number ms ≡ true) → ((m.number == checkpoint.number) || has_number checkpoint.number ms) ≡ true
+    go : (is_checkpoint checkpoint m ≡ true) ⊎ (says_checkpoint checkpoint ms ≡ true) → (says_checkpoint checkpoint ms ≡ true → has_number checkpoint.number ms ≡ true) → ((m.number == checkpoint.number) || has_number checkpoint.number ms) ≡ true
     go (inl k) more = or_left (m.number == checkpoint.number) (has_number checkpoint.number ms) (and_parts (m.number == checkpoint.number) (bytes_eq m.digest checkpoint.digest) k).0
     go (inr k) more = or_right (m.number == checkpoint.number) (has_number checkpoint.number ms) (more k)
 
@@ -102,9 +95,9 @@ module _ (c : Configuration) (past : List Entry) (e : Entry) (k : ℕ) (root : L
   Less s = says_checkpoint checkpoint (checkpoints_of c (e ∷ past) s) ≡ true → says_checkpoint checkpoint (checkpoints_of c past s) ≡ true
 
   -- another checkpoint makes no quorum of this one
-  others : ((x : ℕ × CheckpointEntry) → checkpoint_in c e ≡ Some x → says_same checkpoint x.1 ≡ false) → (s : ℕ) → Less s
+  others : ((x : ℕ × CheckpointEntry) → checkpoint_in c e ≡ Some x → is_checkpoint checkpoint x.1 ≡ false) → (s : ℕ) → Less s
   unfolding checkpoints_of checkpoint
-  others not s t = any_with (says_same checkpoint) s (checkpoint_in c e) (checkpoints_of c past s) not t
+  others not s t = any_with (is_checkpoint checkpoint) s (checkpoint_in c e) (checkpoints_of c past s) not t
 
   -- nor does one that leaves its sender's checkpoints
   unmoved : (sender : ℕ) → checkpoint_in c e ≡ Some (sender, checkpoint) → Less sender → (s : ℕ) → Less s
@@ -134,7 +127,7 @@ module _ (c : Configuration) (past : List Entry) (e : Entry) (k : ℕ) (root : L
       counts sender is false false f g = inl (was (unmoved sender is (λ t. absurd (let bad : false ≡ true = sym g ∙ number_said checkpoint (checkpoints_of c (e ∷ past) sender) t in cc))))
       counts sender is false true f g = inr (record { sender = sender; brings = is; first = f; kept = g })
 
-      at : (s : ℕ) (m : CheckpointEntry) → checkpoint_in c e ≡ Some (s, m) → (b : Bool) → says_same checkpoint m ≡ b → HasQuorum c past k root ⊎ BringsRoot c past e k root
+      at : (s : ℕ) (m : CheckpointEntry) → checkpoint_in c e ≡ Some (s, m) → (b : Bool) → is_checkpoint checkpoint m ≡ b → HasQuorum c past k root ⊎ BringsRoot c past e k root
       at s m is true same =
           let p = and_parts (m.number == k) (bytes_eq m.digest root) same in
           let number_is : m.number ≡ k = eqb-true m.number k p.0 in
@@ -144,12 +137,12 @@ module _ (c : Configuration) (past : List Entry) (e : Entry) (k : ℕ) (root : L
           counts s there (has_number k (checkpoints_of c past s)) (has_number k (checkpoints_of c (e ∷ past) s)) refl refl
       at s m is false same = inl (was (others (λ x there. other x (sym is ∙ there))))
         where
-          other : (x : ℕ × CheckpointEntry) → Some (s, m) ≡ Some x → says_same checkpoint x.1 ≡ false
-          other x e = ap (λ (o : Option (ℕ × CheckpointEntry)). option_map_or (λ (y : ℕ × CheckpointEntry). says_same checkpoint y.1) o false) (sym e) ∙ same
+          other : (x : ℕ × CheckpointEntry) → Some (s, m) ≡ Some x → is_checkpoint checkpoint x.1 ≡ false
+          other x e = ap (λ (o : Option (ℕ × CheckpointEntry)). option_map_or (λ (y : ℕ × CheckpointEntry). is_checkpoint checkpoint y.1) o false) (sym e) ∙ same
 
       go : (o : Option (ℕ × CheckpointEntry)) → checkpoint_in c e ≡ o → HasQuorum c past k root ⊎ BringsRoot c past e k root
       go None is = inl (was (others (λ x there. absurd (let bad : None ≡ Some x = sym is ∙ there in cc))))
-      go (Some x) is = at x.0 x.1 is (says_same checkpoint x.1) refl
+      go (Some x) is = at x.0 x.1 is (is_checkpoint checkpoint x.1) refl
 
 pub quorums_grow : QuorumsGrow
 quorums_grow c past e k root h = grows c past e k root h

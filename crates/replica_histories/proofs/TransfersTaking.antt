@@ -42,12 +42,7 @@ asked_at_most (Sent p bytes ∷ past) n place h = go (said bytes) refl (asked_at
         let own = place_number body n place (sym (ap (option_and_then place_from) is) ∙ here) in
         let sent = ap (λ (o : Option Body). option_map_or (λ (b : Body). elim b.message [ Fetch k level index ↦ k | _ ↦ 0 ]) o 0) is ∙ own in
         omega arith
-asked_at_most (Invoke x y z ∷ past) n place h = let least = asked_at_most past n place h in omega arith
-asked_at_most (Got x y ∷ past) n place h = let least = asked_at_most past n place h in omega arith
-asked_at_most (Tick x ∷ past) n place h = let least = asked_at_most past n place h in omega arith
-asked_at_most (Executed x y z ∷ past) n place h = let least = asked_at_most past n place h in omega arith
-asked_at_most (Installed x y z ∷ past) n place h = let least = asked_at_most past n place h in omega arith
-asked_at_most (Accepted x y z ∷ past) n place h = let least = asked_at_most past n place h in omega arith
+asked_at_most (_ ∷ past) n place h = let least = asked_at_most past n place h in omega arith
 
 -- An event that goes on for a number for which nothing was fetched takes nothing.
 pub newer_takes_nothing : (c : Configuration) (me k i : ℕ) (past : List Entry) → fetching past < k → took c me (Some k) past i ≡ took c me None past i
@@ -85,7 +80,7 @@ nothing_at_first c me i l = refl
 
 -- ---- the transfer alone
 
-all_default : {A : Type 0} (n i : ℕ) (d : A) → get_or (replicate n d) i d ≡ d
+pub all_default : {A : Type 0} (n i : ℕ) (d : A) → get_or (replicate n d) i d ≡ d
 all_default zero i d = refl
 all_default (suc n) zero d = refl
 all_default (suc n) (suc i) d = all_default n i d
@@ -97,8 +92,7 @@ started_taken c me k next root pages history none i l = none i l ∙ ap (λ (b :
 digests_at : (c : Configuration) (me : ℕ) (next : Option ℕ) (level : Level) (index : ℕ) (digests : List (List ℕ)) (t : TransferData) (history : List Entry) → AreTaken c me next t history
     → AreTaken c me next (with_digests t (record { level = level; index = index }) digests) history
 digests_at c me next levels.Root index digests t history h i l = h i l
-digests_at c me next levels.Inner index digests t history h i l = h i l
-digests_at c me next levels.Page index digests t history h i l = h i l
+digests_at c me next _ index digests t history h i l = h i l
 
 pub digests_taken : (c : Configuration) (me : ℕ) (next : Option ℕ) (level : Level) (index : ℕ) (digests : List (List ℕ)) (t : TransferData) (history : List Entry) → AreTaken c me next t history
     → AreTaken c me next (with_digests t (record { level = level; index = index }) digests) history

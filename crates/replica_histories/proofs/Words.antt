@@ -18,10 +18,6 @@ pub passed : {A : Type 0} (b : Bool) (o : Option A) (x : A) → cond b o None �
 passed true o x h = (refl, h)
 passed false o x h = absurd cc
 
-pub gated : {A : Type 0} (b : Bool) (o : Option A) → o ≡ None → cond b o None ≡ None
-gated true o h = h
-gated false o h = refl
-
 pub mapped : {A B : Type 0} (f : A → B) (o : Option A) (y : B) → option_map f o ≡ Some y → (x : A) × (o ≡ Some x) × (f x ≡ y)
 mapped f None y h = absurd cc
 mapped f (Some x) y h = (x, refl, cc)
@@ -31,10 +27,6 @@ apart b e f = let bad : true ≡ false = sym e ∙ f in cc
 
 pub given_not : {A : Type 0} (o : Option A) (x : A) → o ≡ Some x → o ≡ None → ⊥
 given_not o x e f = let bad : Some x ≡ None = sym e ∙ f in cc
-
-pub digest_given : (d : List ℕ) (o : Option (List ℕ)) → has_digest d o ≡ true → o ≡ Some d
-digest_given d None h = absurd cc
-digest_given d (Some x) h = ap Some (sym ((bytes_eq-Decides d x).0 h))
 
 pub given_digest : (d : List ℕ) (o : Option (List ℕ)) → o ≡ Some d → has_digest d o ≡ true
 given_digest d o h = rw h ((bytes_eq-Decides d d).1 refl)

@@ -20,7 +20,7 @@ number_split a b u v l m e =
     let rest : u ≡ v = sym (drop_at (to_be_bytes w64 a) u 8 refl) ∙ ap (drop 8) e ∙ drop_at (to_be_bytes w64 b) v 8 refl in
     (bytes_same a b l m front, rest)
 
-outcome_same : (r s : Outcome) → IsOutcome r → IsOutcome s → outcome_spelling r ≡ outcome_spelling s → r ≡ s
+pub outcome_same : (r s : Outcome) → IsOutcome r → IsOutcome s → outcome_spelling r ≡ outcome_spelling s → r ≡ s
 outcome_same r s h k e =
     (one IsOutcome outcome_spelling outcome_at outcome_reads (outcome_spelling r) (outcome_spelling s) [] [] r s (record { valid = h; spelled = refl }) (record { valid = k; spelled = refl })
     (ap (λ bs. bs ++ []) e)).1

@@ -60,21 +60,6 @@ spelled_one text o p h k = reply_same o p h.valid k.valid (sym h.spelled ∙ k.s
 
 -- ---- slot by slot
 
-pub AreRead-more : (texts : List (List ℕ)) (slots : List (Option Reply)) (count : ℕ) (text : List ℕ) (slot : Option Reply) → AreRead texts slots count → get_or texts count [] ≡ text → SpellsReply text (reply_of slot)
-    → AreRead texts (slots ++ slot ∷ []) (count + 1)
-AreRead-more texts slots count text slot h is spells = record {
-  long = omega (arith, length_push slots slot, h.long);
-  each = λ client l. elim (cases_eq client count) [
-    | inl same ↦
-        let at : get_or (slots ++ slot ∷ []) client None ≡ slot = ap (λ i. get_or (slots ++ slot ∷ []) i None) same ∙ get_or_push slots slot None count h.long in
-        subst (λ o. SpellsReply (get_or texts client []) (reply_of o)) (sym at) (subst (λ bs. SpellsReply bs (reply_of slot)) (sym (ap (λ i. get_or texts i []) same ∙ is)) spells)
-    | inr other ↦
-        let k : client < count = omega arith in
-        let at : get_or (slots ++ slot ∷ []) client None ≡ get_or slots client None = get_or_append_left slots (slot ∷ []) None client (omega (arith, h.long)) in
-        subst (λ o. SpellsReply (get_or texts client []) (reply_of o)) (sym at) (h.each client k)
-  ];
-}
-
 module _ (texts : List (List ℕ)) (slots : List (Option Reply)) (h : AreRead texts slots 256) where
   pub AreSlots-read : AreSlots slots
   AreSlots-read = record {

@@ -33,9 +33,6 @@ module _ (m : Membership) (party : ℕ) (bytes : List ℕ) (header : HeaderData)
   header_is : (frame : FrameData) → SpellsFrame bytes frame → header ≡ header_of frame
   header_is frame s = has.2 ∙ ap header_of (one_frame bytes has.0 frame has.1 s)
 
-  pub own_by_header : header.sender ≡ party → IsOwn party bytes
-  own_by_header e = record { frame = has.0; spelled = has.1; sender = sym (ap (λ (h : HeaderData). h.sender) has.2) ∙ e }
-
   not_own : header.sender ≢ party → ¬ IsOwn party bytes
   not_own other own = other (ap (λ (h : HeaderData). h.sender) (header_is own.frame own.spelled) ∙ own.sender)
 

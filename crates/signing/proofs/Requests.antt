@@ -26,12 +26,12 @@ not_heard_of_no_frame m me bytes none =
     none_heard (heard m me bytes) (λ body h. let w = heard_was_opened m me bytes body h in none w.frame w.opens.spelled)
 
 -- MACs are no signature that could fail
-macs_hold : (seed text : List ℕ) (sender : ℕ) (authenticator : AuthenticatorData) → authenticator_is_signed authenticator ≡ false
+pub macs_hold : (seed text : List ℕ) (sender : ℕ) (authenticator : AuthenticatorData) → authenticator_is_signed authenticator ≡ false
     → authenticator_holds seed sender text authenticator ≡ true
 macs_hold seed text sender (macs entries) plain = refl
 macs_hold seed text sender (signature s) plain = absurd (let g : ⊥ = cc in g)
 
-none_given : (refusal : Option OpenFault) → is_some refusal ≡ false → None ≡ refusal
+pub none_given : (refusal : Option OpenFault) → is_some refusal ≡ false → None ≡ refusal
 none_given None e = refl
 none_given (Some fault) e = absurd (let g : ⊥ = cc in g)
 

@@ -8,7 +8,7 @@ use Rattle.sha2.specs.Sha256.{sha256}
 use Rattle.protocol.specs.System.Configuration.{Configuration}
 use Rattle.protocol.specs.System.Trace.{Has}
 use Rattle.protocol.specs.Replica.Selection.{may_stand_at, may_be_null, null_batch, is_null, is_some_below, may_stand, may_all_stand}
-use Rattle.wire.specs.Lists.{Each}
+use Rattle.protocol.proofs.Words.Elements.{each_where}
 use Rattle.wire.specs.Messages.{ViewChangeData}
 use Rattle.view_change.specs.Sets.{texts_of}
 use Rattle.view_change.specs.Selecting.{are_for, stands_by_entry, goes_before, how_many_from, IsFrom, AreFrom, IsFirst, AreFirst, NothingFrom}
@@ -91,10 +91,6 @@ best_more c set number held i z best b l is old =
       λ h. lost c set (texts_of held) number (arc_value (get_or held i z)) best (texts_of (drop (i + 1) held)) (sym is ∙ h) now,
     )
 
-each_of : {A : Type 0} (P : A → Type 0) (xs : List A) → ((x : A) → Has (λ y. y ≡ x) xs → P x) → Each P xs
-each_of P [] f = tt
-each_of P (x ∷ xs) f = (f x (inl refl), each_of P xs (λ y has. f y (inr has)))
-
 not_before : (c : Configuration) (set : List (ℕ × ViewChangeData)) (texts : List (List ℕ)) (number : ℕ) (best other : List ℕ) → IsBest c set texts number [] best → IsFrom texts other
     → goes_before c set number (sha256 other) (sha256 best) ≡ false
 not_before c set texts number best other b from = go (b.first other from)
@@ -109,7 +105,7 @@ pub chosen : (c : Configuration) (view number : ℕ) (set : List (ℕ × ViewCha
 chosen c view number set texts best stands null fit b is be h = record {
   stands = go stands is h;
   from = b.there;
-  first = each_of (λ other. goes_before c set number (sha256 other) (sha256 best) ≡ false) (null_batch ∷ texts) (λ other from. not_before c set texts number best other b from);
+  first = each_where (λ other. goes_before c set number (sha256 other) (sha256 best) ≡ false) (null_batch ∷ texts) (λ other from. not_before c set texts number best other b from);
 }
   where
     go : (s : Bool) → s ≡ stands_by_entry c set number (sha256 best) set → (s || null) ≡ true → may_stand c view set number best ≡ true

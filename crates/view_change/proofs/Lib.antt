@@ -10,5 +10,5 @@ pub mod Larger
 mod Mapped
 pub mod Opening
 mod Ranking
-mod Sizing
+pub mod Sizing
 mod Starting

@@ -50,7 +50,7 @@ changes_same : (c d : Configuration) (frames : List (List ℕ)) → c.seed ≡ d
 changes_same c d [] seed faults = refl
 changes_same c d (x ∷ xs) seed faults = ap₂ (λ (y : Option (ℕ × ViewChangeData)) (ys : List (Option (ℕ × ViewChangeData))). y ∷ ys) (signed_same c d x seed faults) (changes_same c d xs seed faults)
 
-of_sizes : ℕ → ℕ → Configuration
+pub of_sizes : ℕ → ℕ → Configuration
 of_sizes faults period = record { faults = faults; clients = 1; seed = []; period = period; faulty_replicas = []; faulty_clients = [] }
 
 -- words that depend on the two sizes alone

@@ -33,21 +33,11 @@ mode_below modes.ReadOnly = omega arith
 
 level_below : (l : Level) → level_byte l < 256
 level_below levels.Root = omega arith
-level_below levels.Inner = omega arith
-level_below levels.Page = omega arith
+level_below _ = omega arith
 
 type_below : (m : MessageData) → message_type m < 256
 type_below (request timestamp mode operation) = omega arith
-type_below (pre_prepare view number batch) = omega arith
-type_below (prepare view number digest) = omega arith
-type_below (commit view number digest) = omega arith
-type_below (checkpoint number root) = omega arith
-type_below (view_change c) = omega arith
-type_below (new_view n) = omega arith
-type_below (reply client timestamp kind number outcome) = omega arith
-type_below (fetch number level index) = omega arith
-type_below (meta number level index digests) = omega arith
-type_below (page number index text) = omega arith
+type_below _ = omega arith
 
 checkpoint_entry_bytes : (m : CheckpointEntryData) → IsCheckpointEntry m → AreBytes (checkpoint_entry_spelling m)
 checkpoint_entry_bytes m h = numbered m.number m.digest h.1.bytes

@@ -6,22 +6,21 @@ use lib.Dec.{eqb, leb}
 use Rattle.tuple_tree.specs.Values.{AreBytes}
 use Rattle.tuple_codec.specs.Operations.{Operation, IsOperation, Outcome, IsOutcome}
 use Rattle.tuple_codec.specs.Spelling.{SpellsOperation, operation_spelling, SpellsOutcome, outcome_spelling}
-use Rattle.tuple_tree.specs.Gives.{Yields}
-use Rattle.tuple_tree.specs.Reading.{◌>>=◌, Reader, read_as, rest_of, byte_at, number_of}
+use Rattle.tuple_tree.specs.Reading.{◌>>=◌, Reader, rest_of, byte_at, number_of}
 use Rattle.tuple_codec.specs.Reading.{operation_at, outcome_at}
 use Rattle.tuple_tree.proofs.Readers.{parts}
 use Rattle.tuple_codec.proofs.OperationLaws.{operation_reads, outcome_reads}
 use Rattle.terms.specs.declared.order.Mode.{Mode}
-use Rattle.wire.specs.Messages.{MessageData, request, pre_prepare, prepare, commit, checkpoint, view_change, new_view, reply, fetch, meta, page, BodyData, AuthenticatorData}
+use Rattle.wire.specs.Messages.{MessageData, request, reply, page, BodyData, AuthenticatorData}
 use Rattle.wire.specs.Spelling.{message_type, body_spelling, is_signed, sender_before}
 use Rattle.wire.specs.Faults.{limit_at}
 use Rattle.wire.specs.Headers.{HeaderData, header_of, asks}
 use Rattle.wire.specs.Judging.{ends}
 use Rattle.wire.specs.Reading.{passing, more_at, follows, anyhow, all_of, authenticator_of, message_by, body_of, frame_read, piece_at, is_change, is_over, of_some, over_in, mode_at, client_at, digest_at, digests_at, batches_at, request_at, reply_at, page_at}
 use Rattle.wire.proofs.Parts.{number_8_reads, mode_reads, piece_reads}
-use Rattle.wire.proofs.Carrying.{is_none, some_of, whole_test}
+use Rattle.wire.proofs.Carrying.{is_none, whole_test}
 use Rattle.wire.proofs.Plain.{client_reads}
-use Rattle.wire.proofs.Carriers.{body_of_found}
+use Rattle.wire.proofs.Carriers.{body_of_found, some_there}
 use Rattle.wire.proofs.Whole.{no_piece, body_fails, authenticator_fails, all_there}
 use Rattle.tuple_codec.specs.declared.bad.Bad.TheVariants as bad
 
@@ -37,23 +36,6 @@ whole at bs = cases (at bs)
     cases : {A : Type 0} (o : Option (A × List ℕ)) → ends (rest_of o) ≡ is_some (all_of o)
     cases None = refl
     cases (Some x) = at_end x.0 x.1
-
--- the value that Yields speaks of
-pub yielded : {X Y : Type 0} (view : X → Y) (r : Option X) (o : Option Y) → Yields view r o → option_map view r ≡ o
-yielded view None o e = sym e
-yielded view (Some x) o e = sym e
-
--- the same test if f is applied to the value
-pub as_whole : {A B : Type 0} (f : A → B) (at : Reader A) (bs : List ℕ) → is_some (all_of (at bs)) ≡ is_some (all_of (read_as f at bs))
-as_whole f at bs = cases f (at bs)
-  where
-    ended : {A B : Type 0} (x : A) (y : B) (rest : List ℕ) → is_some (all_of (Some (x, rest))) ≡ is_some (all_of (Some (y, rest)))
-    ended x y [] = refl
-    ended x y (b ∷ bs) = refl
-
-    cases : {A B : Type 0} (f : A → B) (o : Option (A × List ℕ)) → is_some (all_of o) ≡ is_some (all_of (o >>= λ x. Some (f x.0, x.1)))
-    cases f None = refl
-    cases f (Some x) = ended x.0 (f x.0) x.1
 
 -- ---- requests, replies and pages
 
@@ -222,29 +204,11 @@ from_sender s u b t p e = ap (λ n. made n b t p) (sym e)
 
 type_asks : (m : MessageData) → asks m ≡ eqb (message_type m) 0x41
 type_asks (request timestamp mode operation) = refl
-type_asks (pre_prepare view number batch) = refl
-type_asks (prepare view number digest) = refl
-type_asks (commit view number digest) = refl
-type_asks (checkpoint number root) = refl
-type_asks (view_change c) = refl
-type_asks (new_view n) = refl
-type_asks (reply client timestamp kind number outcome) = refl
-type_asks (fetch number level index) = refl
-type_asks (meta number level index digests) = refl
-type_asks (page number index text) = refl
+type_asks _ = refl
 
 type_signed : (m : MessageData) → is_signed m ≡ (eqb (message_type m) 0x46 || eqb (message_type m) 0x47)
 type_signed (request timestamp mode operation) = refl
-type_signed (pre_prepare view number batch) = refl
-type_signed (prepare view number digest) = refl
-type_signed (commit view number digest) = refl
-type_signed (checkpoint number root) = refl
-type_signed (view_change c) = refl
-type_signed (new_view n) = refl
-type_signed (reply client timestamp kind number outcome) = refl
-type_signed (fetch number level index) = refl
-type_signed (meta number level index digests) = refl
-type_signed (page number index text) = refl
+type_signed _ = refl
 
 abbrev none_of : (bs : List ℕ) → frame_read bs ≡ None → option_map header_of (frame_read bs) ≡ None
 none_of bs e = ap (option_map header_of) e
@@ -272,14 +236,14 @@ module _ (bs text authenticator : List ℕ) (e : piece_at bs ≡ Some (text, aut
 
       module _ (h : AreBytes bs) (m : is_some (message_by k fields) ≡ true) where
         abbrev message : MessageData
-        message = (some_of (message_by k fields) m).0
+        message = (some_there (message_by k fields) m).0
 
         abbrev body : BodyData
         body = record { sender = s; message = message }
 
         body_there : body_of text ≡ Some body
         unfolding body_of
-        body_there = let there : message_by k fields ≡ Some message = (some_of (message_by k fields) m).1 in rw (f, g, there) refl
+        body_there = let there : message_by k fields ≡ Some message = (some_there (message_by k fields) m).1 in rw (f, g, there) refl
 
         text_is : text ≡ body_spelling body
         text_is = let p = piece_reads.found bs authenticator text h e in (body_of_found text body p.1.1 body_there).spelled

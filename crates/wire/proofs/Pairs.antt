@@ -8,6 +8,3 @@ front (Some p) = p.0
 pub same_text : {A : Type 0} (s t : List ℕ) (x y : A) → ◌≡◌ {A = Option (List ℕ × A)} (Some (s, x)) (Some (t, y)) → s ≡ t
 unfolding front
 same_text s t x y e = ap front e
-
-pub no_text : {A : Type 0} (x : A) → None ≡ Some x → ⊥
-no_text x e = cc

@@ -12,7 +12,7 @@ use Rattle.tuple_codec.specs.Spelling.{operation_spelling}
 use Rattle.wire.specs.declared.request_bytes.RequestBytes.{RequestBytes}
 use Rattle.wire.specs.Headers.{IsFrame}
 use Rattle.wire.specs.Marks.{has_type_of_requests}
-use Rattle.wire.specs.Messages.{MessageData, request, pre_prepare, prepare, commit, checkpoint, view_change, new_view, reply, fetch, meta, page, BodyData}
+use Rattle.wire.specs.Messages.{MessageData, request, BodyData}
 use Rattle.wire.specs.Requests.{HoldsRequest, mode_from}
 use Rattle.wire.specs.Sealing.{IsFrontPiece}
 use Rattle.wire.specs.Spelling.{IsMessage, authenticator_spelling, body_spelling, fields_spelling, message_type, mode_byte}
@@ -23,16 +23,7 @@ IsRequest message = (timestamp : ℕ) × (mode : Mode) × (op : Operation) × (m
 
 is_request : (message : MessageData) → eqb (message_type message) 0x41 ≡ true → IsRequest message
 is_request (request timestamp mode op) e = (timestamp, mode, op, refl)
-is_request (pre_prepare view number batch) e = absurd (let g : ⊥ = cc in g)
-is_request (prepare view number digest) e = absurd (let g : ⊥ = cc in g)
-is_request (commit view number digest) e = absurd (let g : ⊥ = cc in g)
-is_request (checkpoint number root) e = absurd (let g : ⊥ = cc in g)
-is_request (view_change c) e = absurd (let g : ⊥ = cc in g)
-is_request (new_view n) e = absurd (let g : ⊥ = cc in g)
-is_request (reply client timestamp kind number outcome) e = absurd (let g : ⊥ = cc in g)
-is_request (fetch number level index) e = absurd (let g : ⊥ = cc in g)
-is_request (meta number level index digests) e = absurd (let g : ⊥ = cc in g)
-is_request (page number index text) e = absurd (let g : ⊥ = cc in g)
+is_request _ e = absurd (let g : ⊥ = cc in g)
 
 mode_again : (mode : Mode) → mode_from (mode_byte mode) ≡ mode
 mode_again modes.Ordered = refl

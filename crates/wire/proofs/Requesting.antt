@@ -37,7 +37,7 @@ spare text (b ∷ rest) frames e some = spare_byte text rest frames b e
 
 -- ---- how many are read
 
-more_number : {A : Type 0} (at : Reader A) (fits : List A → A → Bool) (n : ℕ) (xs ys : List A) (bs rest : List ℕ)
+pub more_number : {A : Type 0} (at : Reader A) (fits : List A → A → Bool) (n : ℕ) (xs ys : List A) (bs rest : List ℕ)
     → more_at at fits n xs bs ≡ Some (ys, rest) → length ys ≡ length xs + n
 more_number at fits zero xs ys bs rest e = omega (arith, ap length (parts e).0)
 more_number at fits (suc n) xs ys bs rest e =

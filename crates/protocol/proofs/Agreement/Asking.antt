@@ -5,7 +5,7 @@ use Rattle.std.proofs.lemmas.Bool.{and_parts, or_cases, leb-true, ltb-true}
 use Rattle.std.proofs.lemmas.Slice.Eq.{bytes_eq-Decides}
 use Rattle.sha2.specs.Sha256.{sha256}
 use Rattle.quorum.specs.Quorum.{count_below}
-use Rattle.protocol.specs.System.Configuration.{Configuration, IsConfiguration, is_replica, is_client, is_correct_replica, primary, members}
+use Rattle.protocol.specs.System.Configuration.{Configuration, IsConfiguration, is_replica, is_client, is_correct_replica, members}
 use Rattle.wire.specs.Messages.{BodyData as Body, MessageData as Message, NewViewData, BatchEntryData as BatchEntry, request as Request, pre_prepare as PrePrepare}
 use Rattle.wire.specs.Words.{carried, requests_of, said}
 use Rattle.wire.specs.Reading.{requests_at}
@@ -21,9 +21,9 @@ use Rattle.protocol.specs.System.Texts.{NoCollision}
 use Rattle.protocol.specs.Replica.State.{Call, call_in, call_of}
 use Rattle.protocol.specs.Laws.Histories.{AreReplicasSafe, Takes}
 use Rattle.protocol.proofs.Words.Temporal.{once_weaker, once_in_trace}
-use Rattle.protocol.proofs.Words.Options.{and_then_some, then_some_gives, some_injective, given_once, or_else_cases}
+use Rattle.protocol.proofs.Words.Options.{and_then_some, some_injective, given_once, or_else_cases}
 use Rattle.protocol.proofs.Words.Linking.{heard_said}
-use Rattle.protocol.proofs.Agreement.Voting.{RightAt, right_always}
+use Rattle.protocol.proofs.Agreement.Voting.{RightAt, right_always, batch_is}
 use Rattle.protocol.proofs.Agreement.Marks.{takes, proposes, Proposes, selected_in}
 use Rattle.protocol.proofs.Agreement.Signed.{change_was_said}
 use Rattle.protocol.proofs.Agreement.Changes.{proposed}
@@ -99,25 +99,16 @@ carried_prepare bytes body v i batch frame is message h = rw is (rw message h)
 heard_asked : (c : Configuration) (r v i : ℕ) (a : List ℕ) (bytes : List ℕ) (sender : ℕ) (message : Message) → heard (members c) r bytes ≡ Some (record { sender = sender; message = message })
     → batch_from c r v i (record { sender = sender; message = message }) ≡ Some a → (frame : List ℕ) → Has (λ x. x ≡ frame) (requests_of a)
     → (is_some (heard (members c) r frame) ≡ true) × Has (λ x. x ≡ frame) (frames_in bytes)
-heard_asked c r v i a bytes sender (PrePrepare view number b) is h frame has =
-    let g = then_some_gives ((view == v) && (number == i) && (sender == primary c v) && are_genuine c r b) b a h in
-    let p = and_parts ((view == v) && (number == i) && (sender == primary c v)) (are_genuine c r b) g.0 in
-    let has' : Has (λ x. x ≡ frame) (requests_of b) = subst (λ (x : List ℕ). Has (λ y. y ≡ frame) (requests_of x)) (sym g.1) has in
-    let says : said bytes ≡ Some (record { sender = sender; message = PrePrepare view number b }) = heard_said c r bytes (record { sender = sender; message = PrePrepare view number b }) is in (
-      every_has (λ request. is_some (heard (members c) r request)) (requests_of b) frame p.1 has',
-      inr (carried_prepare bytes (record { sender = sender; message = PrePrepare view number b }) view number b frame says refl has'),
+heard_asked c r v i a bytes sender message is h frame has =
+    let b = batch_is c r v i a sender message h in
+    let body : Body = record { sender = sender; message = message } in (
+      every_has (λ request. is_some (heard (members c) r request)) (requests_of a) frame b.2 has,
+      inr (carried_prepare bytes body v i a frame (heard_said c r bytes body is) b.0 has),
     )
-heard_asked c r v i a bytes sender _ is h frame has = absurd cc
 
 sent_genuine : (c : Configuration) (r v i : ℕ) (a : List ℕ) (sender : ℕ) (message : Message)
     → batch_from c r v i (record { sender = sender; message = message }) ≡ Some a → (are_genuine c r a ≡ true) × ((frame : List ℕ) → Has (λ x. x ≡ frame) (requests_of a) → Has (λ x. x ≡ frame) (carried message))
-sent_genuine c r v i a sender (PrePrepare view number b) h =
-    let g = then_some_gives ((view == v) && (number == i) && (sender == primary c v) && are_genuine c r b) b a h in
-    let p = and_parts ((view == v) && (number == i) && (sender == primary c v)) (are_genuine c r b) g.0 in (
-      subst (λ (x : List ℕ). are_genuine c r x ≡ true) g.1 p.1,
-      λ frame has. subst (λ (x : List ℕ). Has (λ y. y ≡ frame) (requests_of x)) (sym g.1) has,
-    )
-sent_genuine c r v i a sender _ h = absurd cc
+sent_genuine c r v i a sender message h = let b = batch_is c r v i a sender message h in (b.2, λ frame has. rw (b.0) has)
 
 entry_asked : (c : Configuration) → IsConfiguration c → (r v i : ℕ) (a : List ℕ) (xs past : List Entry) (e : Entry) → ((R : List Entry → Entry → Type 0) → R past e ⊎ Once R past → Once R xs) → is_correct_replica c r ≡ true
     → Always (RightAt c r) (e ∷ past) → entry_proposal c r past e v i ≡ Some a → (frame : List ℕ) (call : Call) → Has (λ x. x ≡ frame) (requests_of a) → call_of c frame ≡ Some call

@@ -93,11 +93,11 @@ change_frame c (frame ∷ frames) s vc h = go (signed_change c frame) refl h (ch
             (frame, inl refl, is ∙ ap Some both)
         test false e k = let r = below k in (r.0, inr r.1, r.2)
 
-begin_seen : (new : NewViewData) (bytes : List ℕ) (whole : List ℕ) (body : Body) → said whole ≡ Some body → body.message ≡ NewView new → Has (λ x. x ≡ bytes) new.changes
+pub begin_seen : (new : NewViewData) (bytes : List ℕ) (whole : List ℕ) (body : Body) → said whole ≡ Some body → body.message ≡ NewView new → Has (λ x. x ≡ bytes) new.changes
     → Has (λ x. x ≡ bytes) (carried_by whole)
 begin_seen new bytes whole body is message h = rw is (rw message (has_left (λ y. y ≡ bytes) new.changes (requests_of_all new.batches) h))
 
-taken_seen : (c : Configuration) (new : NewViewData) (bytes : List ℕ) → Has (λ x. x ≡ bytes) new.changes → (past : List Entry) (e : Entry) → Takes c new past e → HasSeen bytes past e
+pub taken_seen : (c : Configuration) (new : NewViewData) (bytes : List ℕ) → Has (λ x. x ≡ bytes) new.changes → (past : List Entry) (e : Entry) → Takes c new past e → HasSeen bytes past e
 taken_seen c new bytes h past e t = go e (takes c 0 past e new t).brought
   where
     go : (e : Entry) → new_view_in c e ≡ Some new → HasSeen bytes past e

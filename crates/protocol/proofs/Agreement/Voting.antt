@@ -4,11 +4,11 @@ use Rattle.std.specs.Prelude.{option_and_then, ◌==◌}
 use Rattle.std.proofs.lemmas.Bool.{and_parts}
 use Rattle.sha2.specs.Sha256.{sha256}
 use Rattle.protocol.specs.System.Configuration.{Configuration, is_correct, is_correct_replica, primary, members}
-use Rattle.wire.specs.Messages.{BodyData as Body, MessageData as Message, prepare as Prepare}
+use Rattle.wire.specs.Messages.{BodyData as Body, MessageData as Message, pre_prepare as PrePrepare, prepare as Prepare}
 use Rattle.signing.specs.Heard.{heard}
 use Rattle.protocol.specs.System.Trace.{Entry, party_of, history_of, Once, Always, Unforged, Hears}
 use Rattle.protocol.specs.System.Trace.Entry.{Invoke, Got, Sent}
-use Rattle.protocol.specs.Replica.Certificates.{proposal, logged, prepare_from, vote_in, prepare_of, brought, counts_at}
+use Rattle.protocol.specs.Replica.Certificates.{proposal, logged, batch_from, are_genuine, prepare_from, vote_in, prepare_of, brought, counts_at}
 use Rattle.protocol.specs.Replica.RightReplica.{Point, Leaves, May, MaySay, MayPrepare, SafeReplica}
 use Rattle.protocol.specs.Laws.Histories.{AreReplicasSafe}
 use Rattle.protocol.proofs.Words.Temporal.{once_weaker, once_always, once_stays}
@@ -36,7 +36,20 @@ once_right c me Q xs right h = once_always (RightAt c me) Q xs (right_always c m
 abbrev pub preparing : ℕ → ℕ → ℕ → List ℕ → Body
 preparing s v i digest = record { sender = s; message = Prepare v i digest }
 
-prepare_is : (c : Configuration) (s v i : ℕ) (d : List ℕ) (sender : ℕ) (message : Message) → prepare_from c s v i (record { sender = sender; message = message }) ≡ Some d
+-- a message that proposes a batch is a pre-prepare of the view's primary
+pub batch_is : (c : Configuration) (me v i : ℕ) (batch : List ℕ) (sender : ℕ) (message : Message) → batch_from c me v i (record { sender = sender; message = message }) ≡ Some batch
+    → (message ≡ PrePrepare v i batch) × (sender ≡ primary c v) × (are_genuine c me batch ≡ true)
+batch_is c me v i batch sender (PrePrepare w k b) h =
+    let g = then_some_gives ((w == v) && (k == i) && (sender == primary c v) && are_genuine c me b) b batch h in
+    let p = and_parts ((w == v) && (k == i) && (sender == primary c v)) (are_genuine c me b) g.0 in
+    let q = and_parts ((w == v) && (k == i)) (sender == primary c v) p.0 in
+    let r = and_parts (w == v) (k == i) q.0 in
+    let ev : w ≡ v = eqb-true w v r.0 in
+    let ei : k ≡ i = eqb-true k i r.1 in
+    (rw (ev, ei, g.1) refl, eqb-true sender (primary c v) q.1, subst (λ (x : List ℕ). are_genuine c me x ≡ true) g.1 p.1)
+batch_is c me v i batch sender _ h = absurd cc
+
+pub prepare_is : (c : Configuration) (s v i : ℕ) (d : List ℕ) (sender : ℕ) (message : Message) → prepare_from c s v i (record { sender = sender; message = message }) ≡ Some d
     → (◌≡◌ {A = Body} (record { sender = sender; message = message }) (preparing s v i d)) × (not (s == primary c v) ≡ true)
 prepare_is c s v i d sender (Prepare view number digest) h =
     let g = then_some_gives ((sender == s) && (view == v) && (number == i) && not (s == primary c v)) digest d h in

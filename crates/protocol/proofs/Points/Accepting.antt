@@ -16,6 +16,7 @@ use Rattle.protocol.specs.System.Trace.Entry.{Invoke, Got, Executed, Sent, Accep
 use Rattle.space.specs.Applying.{is_read_only, outcome}
 use Rattle.protocol.specs.Replica.State.{State, Ran, opening, tuples, kept_of, execute}
 use Rattle.reply_cache.specs.Replies.{Kept}
+use Rattle.reply_cache.proofs.Determining.{outcome_same}
 use Rattle.protocol.specs.Replica.RightReplica.{Leaves, MaySay, MayReply}
 use Rattle.protocol.specs.Client.RightClient.{SafeClient, OpenCall, open_call, last_call, Vote, latest, is_alike, count_alike, newest_vote, MayAccept, vote_of}
 use Rattle.protocol.specs.Laws.Histories.{ExecutesBatch}
@@ -36,7 +37,6 @@ use Rattle.protocol.proofs.Points.Invoking.{once_split, asked_op}
 use Rattle.protocol.specs.Space.Linear.{last_executed}
 use Rattle.protocol.specs.Replica.RightReplica.{reply_of, MayReplyRead}
 use Rattle.protocol.proofs.Words.Bodies.{FitsMessage, heard_fits}
-use Rattle.protocol.proofs.Words.Paging.{same_outcome}
 use Rattle.protocol.proofs.Words.Temporal.{once_stays}
 use Rattle.tuple_codec.specs.Operations.{Outcome, IsOutcome, Operation}
 use Rattle.tuple_codec.specs.Spelling.{outcome_spelling}
@@ -90,7 +90,7 @@ accepting c past cl t a run = go (is_correct_replica c (256 + cl)) refl run.part
 
 -- ---- acceptances of one timestamp are one
 
-open_last : (xs : List Entry) (call : OpenCall) → open_call xs ≡ Some call → last_call xs ≡ call.timestamp
+pub open_last : (xs : List Entry) (call : OpenCall) → open_call xs ≡ Some call → last_call xs ≡ call.timestamp
 open_last [] call h = absurd cc
 open_last (Invoke x y z ∷ past) call h = ap (λ (o : OpenCall). o.timestamp) (some_injective {A = OpenCall} (record { timestamp = y; op = z }) call h)
 open_last (Accepted x y z ∷ past) call h = absurd cc
@@ -309,12 +309,10 @@ vote_answer me t s vote sender (Reply client timestamp mode number answer) h f =
 vote_answer me t s vote sender _ h f = absurd cc
 
 pub newest_answer : (c : Configuration) (me t : ℕ) (vote : Vote) (xs : List Entry) → newest_vote c me xs t ≡ Some vote → IsOutcome vote.answer
-newest_answer c me t vote [] h = absurd cc
 newest_answer c me t vote (Got p bytes ∷ past) h =
     let r = and_then_some (λ (body : Body). vote_of me t body.sender body) (heard (members c) me bytes) vote h in
     vote_answer me t r.0.sender vote r.0.sender r.0.message r.2 (heard_fits c me bytes r.0 r.1)
-newest_answer c me t vote (Invoke x y z ∷ past) h = absurd cc
-newest_answer c me t vote (_ ∷ past) h = absurd cc
+newest_answer c me t vote _ h = absurd cc
 
 -- ---- among those that are alike one is correct
 
@@ -343,7 +341,7 @@ voted c past p t a x =
         let q = and_parts (v.number == x.vote.number) (bytes_eq (outcome_spelling v.answer) (outcome_spelling x.vote.answer)) k in
         let n : v.number ≡ x.vote.number = eqb-true v.number x.vote.number q.0 in
         let m : v.answer ≡ x.vote.answer =
-        same_outcome v.answer x.vote.answer (heard_answer c p s t mode v.number v.answer (history_of p past) (hears s mode v is)) (newest_answer c p t x.vote (history_of p past) x.newest)
+        outcome_same v.answer x.vote.answer (heard_answer c p s t mode v.number v.answer (history_of p past) (hears s mode v is)) (newest_answer c p t x.vote (history_of p past) x.newest)
         ((bytes_eq-Decides (outcome_spelling v.answer) (outcome_spelling x.vote.answer)).0 q.1) in
         let said' = heard_was_said c past p (record { sender = s; message = Reply p t mode v.number v.answer }) x.run.runs.unforged (correct_client c p x.client) (correct_replica c s correct) (hears s mode v is) in
         subst (λ (i : ℕ). Once (Speaks (record { sender = s; message = Reply p t mode i x.vote.answer })) (history_of s past)) n

@@ -84,7 +84,7 @@ pub invoked_in_trace : (p t : ℕ) (op : Operation) (xs : List Entry) → Once (
 invoked_in_trace p t op xs h = once_weaker (λ past e. (party_of e ≡ p) × Invokes p t op (history_of p past) e) (Invokes p t op) (λ past e u. invokes_any p t op (history_of p past) past e u.1) xs (once_in_trace (Invokes p t op) p xs h)
 
 -- no earlier invocation has a later timestamp, and one timestamp has one operation
-invokes_le : (c : Configuration) (p t : ℕ) (op : Operation) (xs : List Entry) → SafeClient c p xs → Once (Invokes p t op) xs → t ≤ last_call xs
+pub invokes_le : (c : Configuration) (p t : ℕ) (op : Operation) (xs : List Entry) → SafeClient c p xs → Once (Invokes p t op) xs → t ≤ last_call xs
 invokes_le c p t op [] r h = absurd h
 invokes_le c p t op (Invoke x y z ∷ past) r (inl h) = let e = h.1 in omega arith
 invokes_le c p t op (Invoke x y z ∷ past) r (inr h) = let a = invokes_le c p t op past r.1 h in let n = r.0.1.0 in omega arith

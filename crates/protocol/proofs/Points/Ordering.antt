@@ -13,7 +13,7 @@ use Rattle.protocol.specs.System.Trace.{Entry, history_of, Once, Always, Has}
 use Rattle.protocol.specs.System.Trace.Entry.{Invoke, Got, Tick, Executed, Installed, Sent, Accepted}
 use Rattle.protocol.specs.Replica.State.{State, Call, Ran, opening, runs, run_call, call_of, run_frame, execute, ran_by, ran_in, kept_by, kept_of}
 use Rattle.reply_cache.specs.Replies.{Kept}
-use Rattle.protocol.specs.Replica.RightReplica.{Leaves, May, Moves, MaySay, MayReply, snapshots_after}
+use Rattle.protocol.specs.Replica.RightReplica.{Leaves, May, Moves, MaySay, MayReply}
 use Rattle.protocol.specs.Client.RightClient.{Vote, latest, is_alike}
 use Rattle.protocol.specs.Space.Linear.{reached, is_level}
 use Rattle.protocol.proofs.Words.Temporal.{once_weaker, once_always, once_stays}

@@ -163,10 +163,6 @@ ran_tuples c position k r st (frame ∷ frames) l = go (call_of c frame) refl (r
     go None is below = below
     go (Some call) is below = step call (runs st call) below
 
-map_append : (f : Ran → Placing) (xs ys : List Ran) → map f (xs ++ ys) ≡ map f xs ++ map f ys
-map_append f [] ys = refl
-map_append f (x ∷ xs) ys = ap (λ t. f x ∷ t) (map_append f xs ys)
-
 -- the tuples after the points of the first n numbers are those of the state after n batches
 pub tuples_by : (c : Configuration) (trace : List Entry) (st : State) (k more n r : ℕ) → k ≡ suc st.number → r ≡ st.number + n → n ≤ more → ((j : ℕ) → k ≤ j → j ≤ r → (q : ℕ) × (first_position c trace j ≡ Some q))
     → tuples_at r (tuples st) (ordered_points c trace st k more) ≡ tuples (state_by c trace st k n)

@@ -27,7 +27,7 @@ use Rattle.protocol.proofs.Points.Sorting.{AllOf, all_weaker, Stands, IsReadAt, 
 use Rattle.protocol.proofs.Points.Ran.{place_lower, tuples_by}
 use Rattle.protocol.proofs.Points.Keeping.{IsRanPoint, ran_point, Differ, AllDiffer}
 use Rattle.protocol.proofs.Points.Invoking.{once_within, opened_invoked, invoked_in_trace, one_invocation}
-use Rattle.protocol.proofs.Points.Accepting.{Accepting, accepting, accepted_once, accepted_level, accepted_place, read_before, embedded, replied, read_replied, ordered_replied, voted, Voted, Answers, IsSpaceAnswer}
+use Rattle.protocol.proofs.Points.Accepting.{Accepting, accepting, accepted_once, accepted_level, accepted_place, read_before, embedded, replied, read_replied, ordered_replied, voted, Answers}
 use Rattle.protocol.specs.Space.Linear.{last_executed}
 use Rattle.tuple_codec.specs.Operations.{Outcome, Operation}
 use Rattle.protocol.specs.Space.Linear.{invoke_past}

@@ -107,11 +107,6 @@ unfoldable pub state_by : Configuration → List Entry → State → ℕ → ℕ
 state_by c xs st k zero = st
 state_by c xs st k (suc n) = state_by c xs (execute c st (batch_of xs k)) (suc k) n
 
-by_number : (c : Configuration) (xs : List Entry) (st : State) (k n : ℕ) → (state_by c xs st k n).number ≡ st.number + n
-unfolding state_by execute
-by_number c xs st k zero = omega arith
-by_number c xs st k (suc n) = let r = by_number c xs (execute c st (batch_of xs k)) (suc k) n in omega arith
-
 after_by : (c : Configuration) (xs : List Entry) (st : State) (k : ℕ) (batches : List (List ℕ)) → Run c xs → AreExecuted c xs k batches → after_batches c st batches ≡ state_by c xs st k (length batches)
 unfolding state_by
 after_by c xs st k [] run h = refl

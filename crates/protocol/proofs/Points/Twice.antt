@@ -7,7 +7,7 @@ use Rattle.protocol.specs.Laws.Runs.{ran_points, NoneRunsTwice}
 use Rattle.protocol.proofs.Points.Sorting.{AllOf, all_weaker}
 use Rattle.protocol.proofs.Points.Keeping.{Later, AllDiffer, Full, opening_full, none_twice, frames_differ, executed_full, executed_times}
 
-batches_differ : (c : Configuration) → IsConfiguration c → (st : State) (batches : List (List ℕ)) → Full st → AllOf (Later st) (ran_points c st batches) × AllDiffer (ran_points c st batches)
+pub batches_differ : (c : Configuration) → IsConfiguration c → (st : State) (batches : List (List ℕ)) → Full st → AllOf (Later st) (ran_points c st batches) × AllDiffer (ran_points c st batches)
 batches_differ c setting st [] full = (tt, tt)
 batches_differ c setting st (batch ∷ batches) full =
     let below = batches_differ c setting (execute c st batch) batches (executed_full c st batch full) in

@@ -1,12 +1,12 @@
 -- The part of the reading of bodies that the laws use: operations and answers are within the limits, timestamps fit
 -- their bytes, and a batch has at most 16 requests.
-use Rattle.std.proofs.Common.{◌≡◌, ℕ, zero, suc, ◌+◌, ◌^◌, ◌≤◌, ◌<◌, Bool, cond, List, [], ◌∷◌, ◌++◌, length, refl, ap, subst, arith, ◌&&◌, Option, Some, None}
+use Rattle.std.proofs.Common.{◌≡◌, ℕ, ◌^◌, ◌≤◌, ◌<◌, List, [], ◌∷◌, length, refl, subst, arith, ◌&&◌, Option, Some, None}
 use Rattle.std.specs.Prelude.{nat_le, ⊤}
 use Rattle.std.proofs.lemmas.Bool.{and_parts, leb-true}
 use Rattle.std.specs.Bool.{then_some}
 use Rattle.tuple_codec.specs.Operations.{IsOperation, IsOutcome}
-use Rattle.tuple_tree.specs.Reading.{Reader, byte_at}
-use Rattle.tuple_tree.proofs.Readers.{bind_some, guard_holds}
+use Rattle.tuple_tree.specs.Reading.{byte_at}
+use Rattle.tuple_tree.proofs.Readers.{bind_some}
 use Rattle.wire.specs.Messages.{BodyData as Body, MessageData as Message, request as Request, reply as Reply}
 use Rattle.wire.specs.Spelling.{IsMessage}
 use Rattle.wire.specs.Reading.{passing, more_at, anyhow, piece_at, is_request, requests_at}
@@ -17,6 +17,7 @@ use Rattle.signing.specs.Heard.{heard}
 use Rattle.protocol.proofs.Words.Options.{some_injective}
 use Rattle.protocol.proofs.Words.Linking.{heard_said}
 use Rattle.wire.proofs.Forms.{passed_on}
+use Rattle.wire.proofs.Requesting.{more_number}
 
 -- ---- the contents of a message
 
@@ -40,22 +41,6 @@ heard_fits c me bytes body h = said_fits bytes body (heard_said c me bytes body 
 
 -- ---- batches
 
-one_more : {A : Type 0} (xs : List A) (x : A) → length (xs ++ x ∷ []) ≡ suc (length xs)
-one_more [] x = refl
-one_more (y ∷ xs) x = ap suc (one_more xs x)
-
-more_many : {A : Type 0} (at : Reader A) (fits : List A → A → Bool) (n : ℕ) (xs ys : List A) (bs rest : List ℕ)
-    → more_at at fits n xs bs ≡ Some (ys, rest) → length ys ≡ length xs + n
-more_many at fits zero xs ys bs rest e =
-    let same : xs ≡ ys = ap (λ (p : List _ × List ℕ). p.0) (some_injective (xs, bs) (ys, rest) e) in
-    subst (λ zs. length zs ≡ length xs + 0) same (omega arith)
-more_many at fits (suc n) xs ys bs rest e =
-    let k = bind_some (at bs) (λ x. cond (fits xs x.0) (more_at at fits n (xs ++ x.0 ∷ []) x.1) None) (ys, rest) e in
-    let g = guard_holds (fits xs k.0.0) (more_at at fits n (xs ++ k.0.0 ∷ []) k.0.1) (ys, rest) k.2 in
-    let l : length ys ≡ length (xs ++ k.0.0 ∷ []) + n = more_many at fits n (xs ++ k.0.0 ∷ []) ys k.0.1 rest g.1 in
-    let o : length (xs ++ k.0.0 ∷ []) ≡ suc (length xs) = one_more xs k.0.0 in
-    omega arith
-
 passed : (n : ℕ × List ℕ) (bs : List ℕ) → passing (λ n. nat_le 0 n && nat_le n 16) byte_at bs ≡ Some n → n.0 ≤ 16
 passed n bs h =
     let k = bind_some (byte_at bs) (λ x. then_some (nat_le 0 x.0 && nat_le x.0 16) x) n h in
@@ -67,7 +52,7 @@ few_at : (bs rest : List ℕ) (frames : List (List ℕ)) → requests_at 0 bs �
 unfolding requests_at
 few_at bs rest frames h =
     let k = bind_some (passing (λ n. nat_le 0 n && nat_le n 16) byte_at bs) (λ n. more_at (passing is_request piece_at) anyhow n.0 [] n.1) (frames, rest) h in
-    let l = more_many (passing is_request piece_at) anyhow k.0.0 [] frames k.0.1 rest k.2 in
+    let l = more_number (passing is_request piece_at) anyhow k.0.0 [] frames k.0.1 rest k.2 in
     let m = passed k.0 bs k.1 in
     omega arith
 

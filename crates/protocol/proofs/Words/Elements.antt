@@ -92,6 +92,10 @@ each_has P [] x e h = absurd h
 each_has P (y ∷ ys) x e (inl h) = subst P h e.0
 each_has P (y ∷ ys) x e (inr h) = each_has P ys x e.1 h
 
+pub each_where : {A : Type 0} (P : A → Type 0) (xs : List A) → ((x : A) → Has (λ y. y ≡ x) xs → P x) → Each P xs
+each_where P [] f = tt
+each_where P (x ∷ xs) f = (f x (inl refl), each_where P xs (λ y h. f y (inr h)))
+
 pub each_weaker : {A : Type 0} (P Q : A → Type 0) → ((x : A) → P x → Q x) → (xs : List A) → Each P xs → Each Q xs
 each_weaker P Q f [] e = tt
 each_weaker P Q f (x ∷ xs) e = (f x e.0, each_weaker P Q f xs e.1)

@@ -87,7 +87,7 @@ stands_at c view set first (x ∷ xs) (suc k) batch h g i is =
     let n : i ≡ suc first + k = omega arith in
     stands_at c view set (suc first) xs k batch p.1 g i n
 
-none_pass : (n : ℕ) → count_below (λ x. false) n ≡ 0
+pub none_pass : (n : ℕ) → count_below (λ x. false) n ≡ 0
 none_pass zero = refl
 none_pass (suc n) = none_pass n
 

@@ -1,15 +1,9 @@
 -- States are equal if their pages are.
-use Rattle.std.proofs.Common.{◌≡◌, ℕ, ◌+◌, ◌-◌, ◌<◌, Bool, true, false, cond, [], ◌++◌, refl, sym, ap, ◌∙◌, arith}
+use Rattle.std.proofs.Common.{◌≡◌, ℕ, ◌+◌, ◌-◌, ◌<◌, Bool, true, false, cond, [], refl, sym, ap, ◌∙◌, arith}
 use Rattle.std.specs.Prelude.{◌==◌, nat_lt}
 use Rattle.std.proofs.lemmas.Bool.{lt-ltb, ltb-true}
-use Rattle.tuple_codec.specs.Operations.{Outcome, IsOutcome}
-use Rattle.tuple_codec.specs.Spelling.{outcome_spelling}
-use Rattle.tuple_codec.specs.Reading.{outcome_at}
-use Rattle.tuple_codec.proofs.Grammar.{one}
-use Rattle.tuple_codec.proofs.OperationLaws.{outcome_reads}
 use Rattle.space.specs.Births.{SpaceState}
 use Rattle.space.specs.Pages.{header_text, page_text as tuple_page}
-use Rattle.space.proofs.Determining.{number_split}
 use Rattle.space.proofs.Determining
 use Rattle.reply_cache.specs.Replies.{Replies}
 use Rattle.reply_cache.proofs.Determining as Cache
@@ -18,12 +12,6 @@ use Rattle.protocol.specs.Replica.State.{State, kept_of, page_text}
 use Rattle.protocol.specs.Laws.Histories.{PagesDetermine}
 
 -- ---- replies
-
--- outcomes of one spelling are one
-pub same_outcome : (a b : Outcome) → IsOutcome a → IsOutcome b → outcome_spelling a ≡ outcome_spelling b → a ≡ b
-same_outcome a b f g e =
-    (one IsOutcome outcome_spelling outcome_at outcome_reads (outcome_spelling a) (outcome_spelling b) [] [] a b
-    (record { valid = f; spelled = refl }) (record { valid = g; spelled = refl }) (ap (λ xs. xs ++ []) e)).1
 
 -- ---- the pages of each sort
 
@@ -38,7 +26,7 @@ reply_page_at st i l = go (nat_lt (256 + i) 256) refl (nat_lt (256 + i) 512) ref
     go false a true eb = let e : 256 + i - 256 ≡ i = omega arith in ap (λ (j : ℕ). reply_text (kept_of st j)) e
     go false a false eb = let m : 256 + i < 512 = omega arith in absurd (let bad : true ≡ false = sym (lt-ltb (256 + i) 512 m) ∙ eb in cc)
 
-tuple_page_at : (st : State) (i : ℕ) → i < 256 → page_text st i ≡ tuple_page st.space i
+pub tuple_page_at : (st : State) (i : ℕ) → i < 256 → page_text st i ≡ tuple_page st.space i
 unfolding page_text
 tuple_page_at st i l = rw (lt-ltb i 256 l) refl
 

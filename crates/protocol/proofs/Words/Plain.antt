@@ -5,7 +5,7 @@ use Rattle.std.proofs.Common.{◌≡◌, ℕ, Bool, true, false, cond, List, ◌
 use Rattle.std.specs.Prelude.{option_and_then, ⊤}
 use Rattle.std.specs.Bool.{then_some}
 use Rattle.protocol.specs.System.Configuration.{Configuration, members}
-use Rattle.wire.specs.Messages.{BodyData as Body, MessageData as Message, CheckpointEntryData as CheckpointEntry, NewViewData, request as Request, pre_prepare as PrePrepare, prepare as Prepare, commit as Commit, reply as Reply, fetch as Fetch, meta as Meta, page as Page}
+use Rattle.wire.specs.Messages.{BodyData as Body, MessageData as Message, CheckpointEntryData as CheckpointEntry, NewViewData, request as Request, pre_prepare as PrePrepare, prepare as Prepare, commit as Commit, reply as Reply, fetch as Fetch, meta as Meta, page as Page, checkpoint as Checkpoint, view_change as ViewChange, new_view as NewView}
 use Rattle.signing.specs.Heard.{heard}
 use Rattle.wire.specs.Words.{said}
 use Rattle.protocol.specs.System.Trace.{Entry}
@@ -26,37 +26,16 @@ abbrev pub IsPlain : Message → Type 0
 IsPlain message = elim message [ Request t mode op ↦ ⊤ | PrePrepare v i batch ↦ ⊤ | Prepare v i digest ↦ ⊤ | Commit v i digest ↦ ⊤ | Reply client t mode number answer ↦ ⊤ | Fetch k level index ↦ ⊤ | Meta k level index digests ↦ ⊤ | Page k index text ↦ ⊤ | _ ↦ ⊥ ]
 
 none_begins : (c : Configuration) (sender : ℕ) (message : Message) → IsPlain message → new_view_from c (record { sender = sender; message = message }) ≡ None
-none_begins c sender (Request t mode op) h = refl
-none_begins c sender (PrePrepare v i batch) h = refl
-none_begins c sender (Prepare v i digest) h = refl
-none_begins c sender (Commit v i digest) h = refl
-none_begins c sender (Reply client t mode number answer) h = refl
-none_begins c sender (Fetch k level index) h = refl
-none_begins c sender (Meta k level index digests) h = refl
-none_begins c sender (Page k index text) h = refl
-none_begins c sender _ h = absurd h
+none_begins c sender (NewView new) h = absurd h
+none_begins c sender _ h = refl
 
 none_checks : (sender : ℕ) (message : Message) → IsPlain message → checkpoint_from (record { sender = sender; message = message }) ≡ None
-none_checks sender (Request t mode op) h = refl
-none_checks sender (PrePrepare v i batch) h = refl
-none_checks sender (Prepare v i digest) h = refl
-none_checks sender (Commit v i digest) h = refl
-none_checks sender (Reply client t mode number answer) h = refl
-none_checks sender (Fetch k level index) h = refl
-none_checks sender (Meta k level index digests) h = refl
-none_checks sender (Page k index text) h = refl
-none_checks sender _ h = absurd h
+none_checks sender (Checkpoint k root) h = absurd h
+none_checks sender _ h = refl
 
 none_changes : (sender : ℕ) (message : Message) → IsPlain message → change_from (record { sender = sender; message = message }) ≡ 0
-none_changes sender (Request t mode op) h = refl
-none_changes sender (PrePrepare v i batch) h = refl
-none_changes sender (Prepare v i digest) h = refl
-none_changes sender (Commit v i digest) h = refl
-none_changes sender (Reply client t mode number answer) h = refl
-none_changes sender (Fetch k level index) h = refl
-none_changes sender (Meta k level index digests) h = refl
-none_changes sender (Page k index text) h = refl
-none_changes sender _ h = absurd h
+none_changes sender (ViewChange change) h = absurd h
+none_changes sender _ h = refl
 
 pub heard_plain : (c : Configuration) (past : List Entry) (p : ℕ) (bytes : List ℕ) (body : Body) → heard (members c) p bytes ≡ Some body → IsPlain body.message → Plain c past (Got p bytes)
 heard_plain c past p bytes body h o = record {

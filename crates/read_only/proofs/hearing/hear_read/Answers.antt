@@ -1,4 +1,4 @@
-use Rattle.std.proofs.Common.{◌≡◌, ◌==◌, ◌+◌, Some, slice_index, ap, ◌∙◌}
+use Rattle.std.proofs.Common.{◌==◌, ◌+◌, Some, slice_index, ap, ◌∙◌}
 use Rattle.std.proofs.lemmas.Bool.{and_parts}
 use Rattle.terms.specs.declared.order.Mode.{Mode}
 use Rattle.wire.specs.Messages.{request}

@@ -17,8 +17,7 @@ use Rattle.desk.proofs.open_transfer.OpenTransfer.take_digests.Goals as goal
 
 no_page : (level : Level) → IsTrue (has_children level) → level ≢ levels.Page
 no_page levels.Root has same = absurd cc
-no_page levels.Inner has same = absurd cc
-no_page levels.Page has same = absurd cc
+no_page _ has same = absurd cc
 
 abbrev place_of : Meta → Place
 place_of meta = record { level = meta.level; index = meta.index }

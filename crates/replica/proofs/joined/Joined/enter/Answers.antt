@@ -1,6 +1,7 @@
 use Rattle.std.proofs.Common.{rules, ◌≡◌, ℕ, ◌+◌, List, length, sym, ap, ◌∙◌, subst, option_map}
 use Rattle.std.specs.Arc.{arc_value}
 use Rattle.std.proofs.lemmas.List.{length-map}
+use Rattle.std.proofs.lemmas.Result.{on_ok_weaker}
 use Rattle.wire.specs.Messages.{CheckpointEntryData as CheckpointEntry}
 use Rattle.view_change.specs.Sets.{texts_of}
 use Rattle.replica.specs.State.{JoinedData}
@@ -8,7 +9,6 @@ use Rattle.replica.specs.JoinedView.{joined_data}
 use Rattle.replica.specs.EnteringViews.{FetchesStart, SaysVotesOf, entering}
 use Rattle.desk.specs.Begun.{NotesBegun}
 use Rattle.replica.specs.Marking.{MovesMarks}
-use Rattle.replica.proofs.Results.{on_ok}
 use Rattle.replica.proofs.EnteringViews.{enters_all}
 use Rattle.replica.proofs.joined.Joined.enter.Goals as goal
 
@@ -19,7 +19,7 @@ returns-clause-ok c =
     let counted : c.len.result ≡ length c.args.selection.batches.items = search rules in
     let many : c.len.result ≡ length texts = counted ∙ sym (length-map c.args.selection.batches.items arc_value) in
     rw (← c.self.view_is)
-    (on_ok c.say_all_votes.result
+    (on_ok_weaker c.say_all_votes.result
     (λ votes. enters_all c.args.view.0 start texts (option_map (λ frame. frame.items) c.args.own) (joined_data c.self.inside) c.note_begun.new.self c.enter.new.self
     (joined_data c.self-2.inside) c.log_begun.new.self (joined_data c.self-3.inside) c.say_all_votes.new.self c.args.outputs.now.items c.fetch_start.new.outputs.items c.say_all_votes.new.outputs.items
     (subst (λ items. NotesBegun (texts_of items) c.self.inside.desk c.note_begun.new.self) c.deref.ensures.value c.in_ok-note_begun.ensures.ok)

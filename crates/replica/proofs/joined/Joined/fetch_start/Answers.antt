@@ -1,10 +1,10 @@
 use Rattle.std.proofs.Common.{Bool, subst}
+use Rattle.std.proofs.lemmas.Result.{on_ok_weaker}
 use Rattle.wire.specs.Views.{checkpoint_entry_data}
 use Rattle.replica.specs.State.{JoinedData}
 use Rattle.replica.specs.JoinedView.{joined_data}
 use Rattle.desk.specs.Fetching.{AimsAt}
 use Rattle.replica.specs.EnteringViews.{FetchesStart}
-use Rattle.replica.proofs.Results.{on_ok}
 use Rattle.replica.proofs.EnteringViews.{fetch_started, fetch_passed}
 use Rattle.replica.proofs.joined.Joined.fetch_start.Goals as goal
 
@@ -15,7 +15,7 @@ returns-then-not-branch-clause-ok c = subst (λ (r : JoinedData). FetchesStart (
 
 pub returns-clause-ok : goal.returns-clause-ok
 returns-clause-ok c =
-    on_ok c.say_fetch.result
+    on_ok_weaker c.say_fetch.result
     (λ k. subst (λ (r : JoinedData). FetchesStart (checkpoint_entry_data c.args.start.now) r c.args.outputs.now.items c.say_fetch.new.self c.say_fetch.new.outputs.items) c.self.view_is (fetch_started (checkpoint_entry_data c.args.start.now) (joined_data c.self.inside) c.say_fetch.new.self c.aim.new.self c.args.outputs.now.items c.say_fetch.new.outputs.items
     (subst (λ (b : Bool). AimsAt (checkpoint_entry_data c.args.start.now) c.self.inside.desk c.aim.new.self b) c.if-not-branch.false c.in_ok-aim.ensures.ok) c.say_fetch.ensures.same k))
     c.say_fetch.ensures.ok

@@ -1,8 +1,8 @@
 use Rattle.std.proofs.Common.{ℕ, true, refl, sym, ap, ◌∙◌, subst}
+use Rattle.std.proofs.lemmas.Result.{on_ok_weaker}
 use Rattle.replica.specs.State.{JoinedData}
 use Rattle.replica.specs.JoinedView.{joined_data}
 use Rattle.replica.specs.Saying.{AllAgain, PostsAll, SaysLastAlso}
-use Rattle.replica.proofs.Results.{on_ok}
 use Rattle.replica.proofs.Again.{all_again, change_only}
 use Rattle.replica.proofs.joined.Joined.say_all_again.Goals as goal
 
@@ -12,7 +12,7 @@ returns-then-not-is_active-clause-ok c =
     let before = c.args.outputs.now.items in
     let after = c.say_change_again.new.outputs.items in
     let new : JoinedData = joined_data (record c.self.inside { orderer = o }) in
-    on_ok c.say_change_again.result
+    on_ok_weaker c.say_change_again.result
     (λ says. subst (λ (r : JoinedData). AllAgain r before new after) c.self.view_is
     (change_only (joined_data c.self.inside) new o before after
     (ap (λ r. r.orderer.log.active) (sym c.self-inside.view_is) ∙ sym c.if-not-is_active.ensures) says refl))
@@ -24,7 +24,7 @@ returns-clause-ok c =
     let before = c.args.outputs.now.items in
     let after = c.say_again.new.outputs.items in
     let new : JoinedData = joined_data (record c.self.inside { orderer = o }) in
-    on_ok c.say_again.result
+    on_ok_weaker c.say_again.result
     (λ says. subst (λ (r : JoinedData). AllAgain r before new after) c.self.view_is
     (all_again (joined_data c.self.inside) new o before after
     (ap (λ r. r.orderer.log.active) (sym c.self-inside.view_is) ∙ sym c.if-not-is_active.ensures)

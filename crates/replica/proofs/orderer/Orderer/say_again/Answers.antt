@@ -1,6 +1,6 @@
 use Rattle.std.proofs.Common.{rules, ◌<◌, ◌+◌, arith}
+use Rattle.std.proofs.lemmas.Result.{on_ok_weaker}
 use Rattle.replica.specs.Saying.{row_place}
-use Rattle.replica.proofs.Results.{on_ok}
 use Rattle.replica.proofs.Again.{rows_begin, one_row, all_said}
 use Rattle.replica.proofs.orderer.Orderer.say_again.Goals as goal
 
@@ -13,6 +13,6 @@ loop-number-preserved c = one_row (c.args.executed.0 + 1) c.loop-number.number _
 pub returns-clause-ok : goal.returns-clause-ok
 returns-clause-ok c =
     let whole : c.args.self.now.log.low + c.args.self.now.log.span < c.loop-number.number = search rules in
-    on_ok c.say_checkpoint_again.result
+    on_ok_weaker c.say_checkpoint_again.result
     (λ k. all_said c.args.executed.0 c.loop-number.number c.args.self.now _ _ _ _ _ whole c.loop-number.invariant (k (row_place c.loop-number.number)))
     c.say_checkpoint_again.ensures.ok

@@ -1,9 +1,9 @@
 use Rattle.std.proofs.Common.{rules, ◌≡◌, ◌<◌, true, Some, sym, ◌∙◌, ap, eqb-true}
 use Rattle.std.proofs.lemmas.Bool.{eq-eqb}
+use Rattle.std.proofs.lemmas.Result.{on_ok_weaker}
 use Rattle.ordering.specs.Log as logs
 use Rattle.ordering.specs.RowView.{batch_lent}
 use Rattle.replica.specs.State.{OrdererData}
-use Rattle.replica.proofs.Results.{on_ok}
 use Rattle.replica.proofs.Again.{batch_again, no_batch_again, other_batch_again}
 use Rattle.replica.proofs.orderer.Orderer.say_batch_again.Goals as goal
 
@@ -23,7 +23,7 @@ pub returns-clause-ok : goal.returns-clause-ok
 returns-clause-ok c =
     let primary : c.is_primary.result ≡ true = search rules in
     let above : c.args.self.now.begun < c.args.number.0 = search rules in
-    on_ok c.say_pre_prepare.result
+    on_ok_weaker c.say_pre_prepare.result
     (λ k. batch_again c.args.number.0 c.text.result.now c.args.self.now c.say_pre_prepare.new.self c.args.outputs.now.items c.say_pre_prepare.new.outputs.items c.keeps.ensures.own
     (eqb-true c.args.self.now.log.me (logs.primary c.args.self.now.log c.args.self.now.log.view) (sym c.is_primary.ensures ∙ primary))
     above

@@ -1,7 +1,7 @@
 use Rattle.std.proofs.Common.{Bor, ℕ, List, option_map, sym, ap, ◌∙◌, subst}
+use Rattle.std.proofs.lemmas.Result.{on_ok_weaker}
 use Rattle.view_change.specs.ReceivedData.{HeldData, held_of}
 use Rattle.replica.specs.State.{OrdererData, IsOrderer}
-use Rattle.replica.proofs.Results.{on_ok}
 use Rattle.replica.proofs.ChangingViews.{change_again, no_change_again}
 use Rattle.replica.proofs.orderer.Orderer.say_change_again.Goals as goal
 
@@ -14,7 +14,7 @@ returns-in-None-clause-ok c =
 
 pub returns-in-Some-clause-ok : goal.returns-in-Some-clause-ok
 returns-in-Some-clause-ok c =
-    on_ok c.say_frame.result
+    on_ok_weaker c.say_frame.result
     (λ says. change_again c.args.self.now c.in-Some.frame.now c.args.outputs.now.items c.say_frame.new.outputs.items (subst IsOrderer c.this.view_is c.this.invariant)
     (ap (λ (o : OrdererData). option_map (λ (h : HeldData). h.frame) (held_of o.received.held o.log.me)) (sym c.this.view_is)
     ∙ ap (λ (m : ℕ). option_map (λ (h : HeldData). h.frame) (held_of c.this.inside.received.held m)) (sym c.me.ensures)

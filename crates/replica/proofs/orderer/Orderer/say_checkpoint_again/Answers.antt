@@ -1,7 +1,7 @@
 use Rattle.std.proofs.Common.{sym, ap, ◌∙◌, option_map}
+use Rattle.std.proofs.lemmas.Result.{on_ok_weaker}
 use Rattle.wire.specs.Views.{checkpoint_entry_data}
 use Rattle.replica.specs.State.{OrdererData}
-use Rattle.replica.proofs.Results.{on_ok}
 use Rattle.replica.proofs.Again.{checkpoint_again, no_checkpoint_again}
 use Rattle.replica.proofs.orderer.Orderer.say_checkpoint_again.Goals as goal
 
@@ -11,7 +11,7 @@ returns-in-None-clause-ok c =
 
 pub returns-in-Some-clause-ok : goal.returns-in-Some-clause-ok
 returns-in-Some-clause-ok c =
-    on_ok c.post_checkpoint.result
+    on_ok_weaker c.post_checkpoint.result
     (λ k. checkpoint_again (checkpoint_entry_data c.in-Some.entry) c.args.self.now c.post_checkpoint.new.self c.args.outputs.now.items c.post_checkpoint.new.outputs.items
     (ap (λ (o : OrdererData). o.last_checkpoint) (sym c.self.view_is) ∙ ap (option_map checkpoint_entry_data) c.in-Some.is) k c.post_checkpoint.ensures.same)
     c.post_checkpoint.ensures.said

@@ -1,14 +1,13 @@
 use Rattle.std.proofs.Common.{◌∙◌, ◌∷◌, [], ◌++◌, ap, sym, length, length-append, map, arith}
-use Rattle.std.proofs.lemmas.List.{take_all}
+use Rattle.std.proofs.lemmas.List.{take_all, map_push}
 use Rattle.wire.specs.Views.{mac_data}
-use Rattle.wire.proofs.Steps.{map_last}
 use Rattle.wire.proofs.Entries.{take_more}
 use Rattle.wire.proofs.mac_bytes.MacBytes.copied.Goals as goal
 
 pub loop-i-preserved : goal.loop-i-preserved
 loop-i-preserved c = record {
   read =
-      ap (map mac_data) c.push.ensures.items ∙ map_last mac_data c.loop-i.macs.items c.get.result ∙ ap (λ xs. xs ++ mac_data c.get.result ∷ []) c.loop-i.invariant.read
+      ap (map mac_data) c.push.ensures.items ∙ map_push mac_data c.loop-i.macs.items c.get.result ∙ ap (λ xs. xs ++ mac_data c.get.result ∷ []) c.loop-i.invariant.read
       ∙ sym (take_more c.args.self.now c.loop-i.i (mac_data c.get.result) c.get.ensures);
   number = omega (arith, ap length c.push.ensures.items, length-append c.loop-i.macs.items (c.get.result ∷ []), c.loop-i.invariant.number);
 }
