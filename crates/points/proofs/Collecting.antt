@@ -1,5 +1,5 @@
 -- The batches that a scan collects.
-use Rattle.std.proofs.Common.{◌≡◌, ℕ, suc, ◌+◌, ◌≤◌, ◌<◌, ◌⊎◌, inl, inr, Bool, true, false, cond, List, [], ◌∷◌, refl, sym, ap, ◌∙◌, subst, arith, Some, None, Bor, eq-eqb}
+use Rattle.std.proofs.Common.{◌≡◌, ℕ, suc, ◌+◌, ◌≤◌, ◌<◌, ◌⊎◌, inl, inr, true, cond, List, [], ◌∷◌, refl, sym, ap, ◌∙◌, subst, arith, Some, None, Bor, eq-eqb}
 use Rattle.std.specs.Prelude.{is_some}
 use Rattle.std.specs.Bool.{then_some}
 use Rattle.std.specs.Option.{option_map_or}
@@ -12,7 +12,7 @@ use Rattle.space.proofs.Filing.{at_same, at_other}
 use Rattle.quorum.specs.Votes.{or_else}
 use Rattle.wire.specs.Lists.{Each}
 use Rattle.protocol.specs.System.Trace.{Entry, Has}
-use Rattle.protocol.specs.System.Trace.Entry.{Invoke, Got, Tick, Executed, Installed, Sent, Accepted}
+use Rattle.protocol.specs.System.Trace.Entry.{Executed}
 use Rattle.protocol.specs.Replica.Selection.{null_batch}
 use Rattle.protocol.specs.Space.Linear.{batch_at, batch_of, last_executed}
 use Rattle.points.specs.Numbering.{Numbered, AscendsFrom}
@@ -175,23 +175,6 @@ pub noted_new : (r n : ℕ) (batch : List ℕ) (e : Entry) (v : Bor (List ℕ)) 
     → fs ≡ insert_entry nat_cmp es n v → Notes e es fs
 noted_new r n batch e v es fs is text l a put =
     subst (λ (x : Entry). Notes x es fs) (ap (Executed r n) text ∙ is) (notes_new r n v es fs l a put)
-
--- an entry that is no execution
-abbrev pub is_execution : Entry → Bool
-is_execution (Executed r n batch) = true
-is_execution _ = false
-
-pub notes_other : (e : Entry) (es : Entries) → is_execution e ≡ false → Notes e es es
-notes_other e es h past = goes_on e past (numbered_of es) (λ j l. inr (none j e h))
-  where
-    none : (j : ℕ) (e : Entry) → is_execution e ≡ false → batch_at j e ≡ None
-    none j (Executed r n batch) h = absurd cc
-    none j (Invoke k t op) h = refl
-    none j (Got q bytes) h = refl
-    none j (Tick q) h = refl
-    none j (Installed q n root) h = refl
-    none j (Sent q bytes) h = refl
-    none j (Accepted k t answer) h = refl
 
 -- ---- all numbers
 

@@ -1,6 +1,5 @@
 pub mod Holding
 pub mod Collecting
-pub mod Counting
 pub mod Ending
 pub mod Finding
 pub mod Going

@@ -9,7 +9,7 @@ use Rattle.tuple_codec.specs.OperationView.{outcome_of}
 use Rattle.wire.specs.declared.messages.Message.{Message}
 use Rattle.wire.specs.declared.messages.Message.TheVariants as messages
 use Rattle.wire.specs.declared.messages.Reply.{Reply}
-use Rattle.wire.specs.Messages.{AuthenticatorData, BodyData, MessageData, request, pre_prepare, prepare, commit, checkpoint, view_change, new_view, reply, fetch, meta, page}
+use Rattle.wire.specs.Messages.{AuthenticatorData, BodyData, MessageData, reply}
 use Rattle.wire.specs.Spelling.{frame_spelling}
 use Rattle.wire.specs.Views.{message_data}
 use Rattle.protocol.specs.System.Frames.{same_mode}
@@ -61,16 +61,7 @@ number_said client t s m r b o e f is =
 -- a message that is no reply has none
 pub none_said : (p t s : ℕ) (m : Message) → ((r : Reply) → m ≡ messages.Reply r → ⊥) → None ≡ number_in p t (said_by s m)
 none_said p t s (messages.Reply r) n = absurd (n r refl)
-none_said p t s (messages.Request r) n = refl
-none_said p t s (messages.PrePrepare r) n = refl
-none_said p t s (messages.Prepare r) n = refl
-none_said p t s (messages.Commit r) n = refl
-none_said p t s (messages.Checkpoint r) n = refl
-none_said p t s (messages.ViewChange r) n = refl
-none_said p t s (messages.NewView r) n = refl
-none_said p t s (messages.Fetch r) n = refl
-none_said p t s (messages.Meta r) n = refl
-none_said p t s (messages.Page r) n = refl
+none_said p t s _ n = refl
 
 -- ---- the byte of the kind
 
@@ -86,16 +77,7 @@ kinded p t s (reply client timestamp modes.Ordered number outcome) a e = go _
     go : (b : Bool) → None ≡ option_and_then (λ (w : Vote). then_some (same_mode w.mode modes.ReadOnly) w.number) (then_some b v)
     go true = refl
     go false = refl
-kinded p t s (request timestamp mode operation) a e = refl
-kinded p t s (pre_prepare view number batch) a e = refl
-kinded p t s (prepare view number digest) a e = refl
-kinded p t s (commit view number digest) a e = refl
-kinded p t s (checkpoint number root) a e = refl
-kinded p t s (view_change v) a e = refl
-kinded p t s (new_view n) a e = refl
-kinded p t s (fetch number level index) a e = refl
-kinded p t s (meta number level index digests) a e = refl
-kinded p t s (page number index text) a e = refl
+kinded p t s _ a e = refl
 
 pub none_kinded : (m : Membership) (p t : ℕ) (bytes : List ℕ) → (slice_index bytes 17 == 1) ≡ false → None ≡ read_number m p t bytes
 none_kinded m p t bytes kind = go (heard m p bytes) refl

@@ -192,9 +192,6 @@ module _ (c : Configuration) (setting : IsConfiguration c) where
           let same : level c (e ∷ past) ≡ level c past = omega arith in
           ap (λ b. or_else (first_position c past k) (then_some b (length past))) (level_test (e ∷ past) k) ∙ stays (nat_le k (level c (e ∷ past))) refl same below
 
-pub levels_are : (c : Configuration) → IsConfiguration c → (past : List Entry) (k : ℕ) → is_level c past k ≡ nat_le k (level c past)
-levels_are c setting past k = level_test c setting past k
-
 pub places_are : (c : Configuration) → IsConfiguration c → (trace : List Entry) (k : ℕ) → 1 ≤ k → first_position c trace k ≡ place_in (rises c trace) k
 places_are c setting trace k l = places c setting trace k l
 

@@ -119,9 +119,4 @@ reads_are c trace at same [] = refl
 reads_are c trace at same (Accepted k t answer ∷ past) =
     ap₂ (λ (o : Option Placing) (rest : List Placing). option_map_or (λ point. point ∷ []) o [] ++ rest) (read_is c trace at same past (256 + k) t answer) (reads_are c trace at same past)
     ∙ joined (seat_read (members c) at (256 + k) t answer (seat_of (256 + k) past)) (seat_reads (members c) at past)
-reads_are c trace at same (Invoke k t op ∷ past) = reads_are c trace at same past
-reads_are c trace at same (Got q bytes ∷ past) = reads_are c trace at same past
-reads_are c trace at same (Tick q ∷ past) = reads_are c trace at same past
-reads_are c trace at same (Executed q n batch ∷ past) = reads_are c trace at same past
-reads_are c trace at same (Installed q n root ∷ past) = reads_are c trace at same past
-reads_are c trace at same (Sent q bytes ∷ past) = reads_are c trace at same past
+reads_are c trace at same (_ ∷ past) = reads_are c trace at same past
