@@ -1,6 +1,6 @@
 -- The entries of the journal and the histories of the shares after an append, the oldest first.
-use Rattle.std.proofs.Common.{◌≡◌, ℕ, ◌+◌, ◌≤◌, ◌==◌, true, List, [], ◌++◌, length, Option, Some, None, ap, sym, ◌∙◌, subst, arith, length-append}
-use Rattle.std.specs.Prelude.{reverse, IfSome}
+use Rattle.std.proofs.Common.{◌≡◌, ℕ, ◌+◌, ◌≤◌, ◌==◌, true, List, [], ◌++◌, length, Option, ap, sym, ◌∙◌, subst, arith, length-append}
+use Rattle.std.specs.Prelude.{reverse}
 use Rattle.std.proofs.lemmas.List.{length-reverse}
 use Rattle.protocol.specs.System.Configuration.{Configuration, is_correct}
 use Rattle.protocol.specs.System.Trace.{Entry, party_of, history_of}
@@ -12,7 +12,7 @@ use Rattle.journal.specs.Comparing.{ordering_of, IsKept}
 use Rattle.journal.specs.Histories.{IsRight, IsEventOf}
 use Rattle.journal.specs.Parts.{Journaled, Part, longer, longer_part}
 use Rattle.protocol.specs.System.Reads.{orders, without_reads}
-use Rattle.journal.specs.Ties.{entries_in, Knot, Ties, Marks, KeepsTies}
+use Rattle.journal.specs.Ties.{Knot, Ties, Marks, KeepsTies}
 use Rattle.journal.proofs.Turned.{turned_longer, filtered_back}
 use Rattle.journal.proofs.Running.{run_empty, run_longer}
 use Rattle.journal.proofs.Carriers.{carried_empty, carried_longer}
@@ -37,10 +37,6 @@ pub part_longer : (s : Part) (p : ℕ) (h new es : List Entry) → record { part
 part_longer s p h new es is more =
     ap (λ (xs : List Entry). part_from (p, reverse xs)) more
     ∙ (ap (λ (xs : List Entry). part_from (p, xs)) (turned_longer h es) ∙ ap (λ (x : Part). longer_part x es) is)
-
-pub marks_new : (of : ℕ → List Entry → List Entry) (seen : Option (List (List Entry))) (p : ℕ) (history : List Entry) → of p [] ≡ [] → history ≡ [] → IfSome seen (λ events. events ≡ []) → Marks of seen p history
-marks_new of None p history empty none new = tt
-marks_new of (Some events) p history empty none new = ap (λ (es : List (List Entry)). of p (entries_in es)) new ∙ (empty ∙ sym none)
 
 module _ (c : Configuration) (p : ℕ) (t h es : List Entry) (agrees : history_of p (reverse t) ≡ reverse h) (event : IsEventOf p es) where
   plainly : history_of p t ≡ h

@@ -12,7 +12,7 @@ use Rattle.wire.specs.Words.{said, frame_of}
 use Rattle.wire.proofs.Saying.{reads_frames}
 use Rattle.protocol.specs.System.Configuration.{Configuration}
 use Rattle.protocol.specs.System.Trace.{Entry, is_output, Has, Always}
-use Rattle.protocol.specs.System.Trace.Entry.{Invoke, Got, Tick, Executed, Installed, Sent, Accepted}
+use Rattle.protocol.specs.System.Trace.Entry.{Got}
 use Rattle.events.specs.Outputs.{after_entries}
 use Rattle.journal.specs.Carrying.{is_faulty, is_exempt, Sends, IsCarriedAt, Carried, IsSentAt, IsSentFrom, ComesFrom, IsCarriedFrom}
 use Rattle.journal.specs.Histories.{IsOutputOf, IsEventOf}
@@ -55,21 +55,11 @@ sent_before past (Some k) bytes h = sent_there past k bytes h
 input_carried : (c : Configuration) (past : List Entry) (from : Option ℕ) (e : Entry) → ComesFrom c (reverse past) from e → IsCarriedAt c past e
 input_carried c past from (Got p bytes) (inl h) = inl (sent_before past from bytes h)
 input_carried c past from (Got p bytes) (inr h) = inr h
-input_carried c past from (Invoke k t op) h = tt
-input_carried c past from (Tick p) h = tt
-input_carried c past from (Executed r i batch) h = tt
-input_carried c past from (Installed r i root) h = tt
-input_carried c past from (Sent p bytes) h = tt
-input_carried c past from (Accepted k t answer) h = tt
+input_carried c past from _ h = tt
 
 output_carried : (c : Configuration) (past : List Entry) (e : Entry) → is_output e ≡ true → IsCarriedAt c past e
 output_carried c past (Got p bytes) is = absurd cc
-output_carried c past (Invoke k t op) is = tt
-output_carried c past (Tick p) is = tt
-output_carried c past (Executed r i batch) is = tt
-output_carried c past (Installed r i root) is = tt
-output_carried c past (Sent p bytes) is = tt
-output_carried c past (Accepted k t answer) is = tt
+output_carried c past _ is = tt
 
 outputs_carried : (c : Configuration) (p : ℕ) (es past : List Entry) → Each (IsOutputOf p) es → Always (IsCarriedAt c) past → Always (IsCarriedAt c) (after_entries es past)
 outputs_carried c p [] past are h = h

@@ -1,8 +1,8 @@
 -- An event of one party, in its own history and in those of others. The order of entries plays no part in most of
 -- these lemmas.
-use Rattle.std.proofs.Common.{◌≡◌, ℕ, Bool, true, false, cond, ◌==◌, ◌||◌, List, [], ◌∷◌, ◌++◌, refl, ap, sym, ◌∙◌}
+use Rattle.std.proofs.Common.{◌≡◌, ℕ, Bool, true, false, cond, ◌==◌, List, [], ◌∷◌, ◌++◌, refl, ap, sym, ◌∙◌}
 use Rattle.std.specs.List.{list_any}
-use Rattle.std.proofs.lemmas.Bool.{eq-eqb, eqb-true, false_from_ne_true}
+use Rattle.std.proofs.lemmas.Bool.{eq-eqb, eqb-true, false_from_ne_true, or_parts}
 use Rattle.std.proofs.lemmas.List.Elements.{filter-append}
 use Rattle.wire.specs.Lists.{Each}
 use Rattle.protocol.specs.System.Trace.{Entry, party_of, history_of}
@@ -48,14 +48,10 @@ other_ordering p q es apart event = ap without_reads (other_event p q es apart e
 pub own_ordering : (p : ℕ) (es : List Entry) → IsEventOf p es → ordering_of p es ≡ without_reads es
 own_ordering p es event = ap without_reads (own_event p es event)
 
-none_first : (a b : Bool) → (a || b) ≡ false → (a ≡ false) × (b ≡ false)
-none_first false b e = (refl, e)
-none_first true b e = absurd cc
-
 pub no_ordering : (es : List Entry) → list_any orders es ≡ false → without_reads es ≡ []
 no_ordering [] e = refl
 no_ordering (x ∷ es) e =
-    let both = none_first (orders x) (list_any orders es) e in
+    let both = or_parts (orders x) (list_any orders es) e in
     ap (λ b. cond b (x ∷ without_reads es) (without_reads es)) both.0 ∙ no_ordering es both.1
 
 -- ---- entries after others

@@ -1,9 +1,10 @@
 -- The shares of a new journal, one after another, and the marks of faulty parties.
-use Rattle.std.proofs.Common.{◌≡◌, ℕ, zero, suc, ◌+◌, ◌-◌, ◌<◌, ◌≤◌, ◌⊎◌, ⊎_elim, Bool, true, false, cond, ◌||◌, ◌&&◌, not, List, [], ◌∷◌, ◌++◌, length, map, slice_get, Option, Some, None, refl, sym, ap, ◌∙◌, arith, append_assoc, length-append}
+use Rattle.std.proofs.Common.{◌≡◌, ℕ, zero, suc, ◌+◌, ◌-◌, ◌<◌, ◌≤◌, ◌⊎◌, ⊎_elim, Bool, true, false, cond, ◌||◌, ◌&&◌, not, List, [], ◌∷◌, ◌++◌, length, map, slice_get, Option, Some, refl, sym, ap, ◌∙◌, arith, append_assoc, length-append}
 use Rattle.std.specs.Prelude.{unwrap_or, nat_le, nat_lt}
 use Rattle.std.specs.List.{range_with_len}
 use Rattle.std.proofs.lemmas.Bool.{le-ltb}
 use Rattle.std.proofs.lemmas.Bool.Decides.{nat_tests}
+use Rattle.std.proofs.lemmas.Option.{slice_get_past}
 use Rattle.quorum.specs.Quorum.{member}
 use Rattle.protocol.specs.System.Configuration.{Configuration, IsConfiguration, replicas, is_replica, is_client, is_correct, is_correct_replica, is_correct_client}
 use Rattle.journal.specs.Carrying.{is_faulty}
@@ -57,11 +58,6 @@ get_last [] y k is = ap (slice_get (y ∷ [])) is
 get_last (x ∷ xs) y zero is = absurd (omega arith)
 get_last (x ∷ xs) y (suc k) is = get_last xs y k (omega arith)
 
-get_past : {A : Type 0} (xs : List A) (k : ℕ) → length xs ≤ k → slice_get xs k ≡ None
-get_past [] k h = refl
-get_past (x ∷ xs) zero h = absurd (omega arith)
-get_past (x ∷ xs) (suc k) h = get_past xs k (omega arith)
-
 -- the marks of the first parties
 pub record AreMarked (c : Configuration) (n : ℕ) (marks : List Bool) : Type 0 where
   pub count : length marks ≡ n
@@ -96,7 +92,7 @@ pub all_marked : (c : Configuration) (n : ℕ) (marks : List Bool) → IsConfigu
 all_marked c n marks valid whole marked p =
     ⊎_elim
     (λ (low : p < n). ap (λ (o : Option Bool). unwrap_or o false) (marked.each p low))
-    (λ (high : n ≤ p). ap (λ (o : Option Bool). unwrap_or o false) (get_past marks p (omega (arith, marked.count))) ∙ sym (not_party c p valid (omega arith)))
+    (λ (high : n ≤ p). ap (λ (o : Option Bool). unwrap_or o false) (slice_get_past marks p (omega (arith, marked.count))) ∙ sym (not_party c p valid (omega arith)))
     (order p n)
   where
     order : (k n : ℕ) → (k < n) ⊎ (n ≤ k)

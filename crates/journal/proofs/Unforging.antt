@@ -1,6 +1,7 @@
 -- If no party is faulty and received frames were sent, each frame that was seen, alone or carried, is from its
 -- sender.
 use Rattle.std.proofs.Common.{◌≡◌, ℕ, ◌-◌, ◌⊎◌, inl, inr, Bool, true, false, cond, ◌==◌, ◌||◌, ◌&&◌, not, Option, Some, None, List, [], ◌∷◌, refl, ap, sym, ◌∙◌, subst}
+use Rattle.std.proofs.lemmas.Bool.{or_cases}
 use Rattle.std.specs.Option.{option_map_or}
 use Rattle.wire.specs.Lists.{Each}
 use Rattle.terms.specs.declared.order.Mode.{Mode}
@@ -9,7 +10,7 @@ use Rattle.wire.specs.Words.{said, carried}
 use Rattle.quorum.specs.Quorum.{member}
 use Rattle.protocol.specs.System.Configuration.{Configuration, is_replica, is_client, is_correct, is_correct_replica, is_correct_client}
 use Rattle.protocol.specs.System.Trace.{Entry, party_of, history_of, Once, Always, Has, frames_in, SendsBody, IsFromSender, IsUnforgedAt, Unforged}
-use Rattle.protocol.specs.System.Trace.Entry.{Invoke, Got, Tick, Executed, Installed, Sent, Accepted}
+use Rattle.protocol.specs.System.Trace.Entry.{Got, Sent}
 use Rattle.protocol.specs.Replica.RightReplica.{Point, HasSeen, SafeReplica, MaySend}
 use Rattle.protocol.specs.Client.RightClient.{OpenCall, SafeClient}
 use Rattle.protocol.proofs.Words.Elements.{each_has}
@@ -21,10 +22,6 @@ use Rattle.journal.specs.Laws.{CarriedIsUnforged}
 use Rattle.journal.proofs.Events.{own_entry}
 
 -- ---- exempt bytes are no frame
-
-either_true : (a b : Bool) → (a || b) ≡ true → (a ≡ true) ⊎ (b ≡ true)
-either_true true b e = inl refl
-either_true false b e = inr e
 
 none_faulty : (c : Configuration) (p : ℕ) → c.faulty_replicas ≡ [] → c.faulty_clients ≡ [] → is_faulty c p ≡ false
 none_faulty c p replicas clients =
@@ -62,12 +59,7 @@ seen_of_sent : (past : List Entry) (bytes frame : List ℕ) → Has (Sends bytes
 seen_of_sent [] bytes frame h there = absurd h
 seen_of_sent (e ∷ past) bytes frame (inr h) there = inr (seen_of_sent past bytes frame h there)
 seen_of_sent (Sent p text ∷ past) bytes frame (inl is) there = inl (subst (λ (x : List ℕ). Has (λ y. y ≡ frame) (frames_in x)) (sym is) there)
-seen_of_sent (Invoke a b d ∷ past) bytes frame (inl is) there = absurd is
-seen_of_sent (Got a b ∷ past) bytes frame (inl is) there = absurd is
-seen_of_sent (Tick a ∷ past) bytes frame (inl is) there = absurd is
-seen_of_sent (Executed a b d ∷ past) bytes frame (inl is) there = absurd is
-seen_of_sent (Installed a b d ∷ past) bytes frame (inl is) there = absurd is
-seen_of_sent (Accepted a b d ∷ past) bytes frame (inl is) there = absurd is
+seen_of_sent (_ ∷ past) bytes frame (inl is) there = absurd is
 
 -- a frame in bytes that say nothing says nothing
 nothing_said : (bytes frame : List ℕ) → said bytes ≡ None → Has (λ x. x ≡ frame) (frames_in bytes) → (body : Body) → said frame ≡ Some body → ⊥
@@ -126,11 +118,7 @@ module _ (c : Configuration) (replicas : c.faulty_replicas ≡ []) (clients : c.
           same_anywhere : (earlier past : List Entry) (e : Entry) → HasSeen frame earlier e → HasSeen frame past e
           same_anywhere earlier past (Got q text) h = h
           same_anywhere earlier past (Sent q text) h = h
-          same_anywhere earlier past (Invoke a b d) h = absurd h
-          same_anywhere earlier past (Tick a) h = absurd h
-          same_anywhere earlier past (Executed a b d) h = absurd h
-          same_anywhere earlier past (Installed a b d) h = absurd h
-          same_anywhere earlier past (Accepted a b d) h = absurd h
+          same_anywhere earlier past _ h = absurd h
 
           in_trace : Once (HasSeen frame) (history_of p past) → Once (HasSeen frame) past
           in_trace h =
@@ -153,7 +141,7 @@ module _ (c : Configuration) (replicas : c.faulty_replicas ≡ []) (clients : c.
 
   -- frames in bytes that a correct party sends
   party_sent : (past : List Entry) (p : ℕ) (bytes frame : List ℕ) → AllSent past → Stands (Sent p bytes ∷ past) → Has (λ x. x ≡ frame) (frames_in bytes) → IsSent (Sent p bytes ∷ past) frame
-  party_sent past p bytes frame all s there = go (either_true (is_correct_replica c p) (is_correct_client c p) s.parties.0)
+  party_sent past p bytes frame all s there = go (or_cases (is_correct_replica c p) (is_correct_client c p) s.parties.0)
     where
       go : (is_correct_replica c p ≡ true) ⊎ (is_correct_client c p ≡ true) → IsSent (Sent p bytes ∷ past) frame
       go (inl at) = replica_sent past p bytes frame all (s.safe p at) there
@@ -164,11 +152,7 @@ module _ (c : Configuration) (replicas : c.faulty_replicas ≡ []) (clients : c.
   all_sent (e ∷ past) s frame (inr seen) body says = inr (all_sent past (before e past s) frame seen body says)
   all_sent (Got p bytes ∷ past) s frame (inl there) body says = inr (got_sent past p bytes frame (all_sent past (before (Got p bytes) past s)) s.carried.0 there body says)
   all_sent (Sent p bytes ∷ past) s frame (inl there) body says = party_sent past p bytes frame (all_sent past (before (Sent p bytes) past s)) s there body says
-  all_sent (Invoke a b d ∷ past) s frame (inl there) body says = absurd there
-  all_sent (Tick a ∷ past) s frame (inl there) body says = absurd there
-  all_sent (Executed a b d ∷ past) s frame (inl there) body says = absurd there
-  all_sent (Installed a b d ∷ past) s frame (inl there) body says = absurd there
-  all_sent (Accepted a b d ∷ past) s frame (inl there) body says = absurd there
+  all_sent (_ ∷ past) s frame (inl there) body says = absurd there
 
   -- ---- so nothing is forged
 
@@ -185,12 +169,7 @@ module _ (c : Configuration) (replicas : c.faulty_replicas ≡ []) (clients : c.
   unforged_at : (past : List Entry) (e : Entry) → AllSent past → IsCarriedAt c past e → IsUnforgedAt c past e
   unforged_at past (Got me bytes) all by =
       λ correct. each_of (IsFromSender c me past) (frames_in bytes) (λ frame there. from_sender me past frame (got_sent past me bytes frame all by there))
-  unforged_at past (Sent a b) all by = tt
-  unforged_at past (Invoke a b d) all by = tt
-  unforged_at past (Tick a) all by = tt
-  unforged_at past (Executed a b d) all by = tt
-  unforged_at past (Installed a b d) all by = tt
-  unforged_at past (Accepted a b d) all by = tt
+  unforged_at past _ all by = tt
 
   pub all_unforged : (trace : List Entry) → Stands trace → Unforged c trace
   all_unforged [] s = tt
