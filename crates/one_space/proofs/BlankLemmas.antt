@@ -157,10 +157,6 @@ pub record Drops (xs : List ℕ) (left : Option (List ℕ)) (before after : List
   pub some : 0 < length after
   pub left_is : left ≡ Some rest
 
-pub drops_nothing : (start : Option (List ℕ)) (before : List ℕ) → 0 < length before → IfSome start (λ xs. Drops xs start before before)
-drops_nothing None before some = tt
-drops_nothing (Some xs) before some = record { blanks = []; rest = xs; are = tt; whole = refl; clean = λ h. h; some = some; left_is = refl }
-
 -- a full piece, of which all but the last byte is dropped
 drops_part : (xs before mid full after : List ℕ) (known left : Option (List ℕ)) (limit : ℕ) → Drops xs known before mid → IfSome known (λ ys. TakesPiece (Some Full) limit ys left mid full)
     → AreBlanks (take (length full - 1) full) → after ≡ drop (length full - 1) full → Drops xs left before after

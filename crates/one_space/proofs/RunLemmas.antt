@@ -26,10 +26,6 @@ use Rattle.tuple_codec.specs.declared.operations.Op.{Op}
 use Rattle.space.proofs.Batches.{next_after}
 use Rattle.space.proofs.Keeping.{tuples_of-state_after}
 
-pub starts_out : (initial : Contents) (known old : Option (List ℕ)) → IfSome known (λ bytes. Along initial bytes known old old 1 initial [])
-starts_out initial None old = tt
-starts_out initial (Some bytes) old = record { rest = bytes; done = []; known_is = refl; wrote = Appends-nil old; leads = λ more ending r. r }
-
 module _ (initial : Contents) (bytes : List ℕ) (known old new : Option (List ℕ)) (n : ℕ) (ts : Contents) (pending : List ℕ) (along : Along initial bytes known old new n ts pending) where
   -- nothing more is written
   adds : (ending : Ending) → Runs n ts (lines along.rest) [] ending → AddsResults initial bytes ending old new pending
@@ -84,17 +80,6 @@ moved initial bytes known old new written n ts pending still along moves = recor
   wrote = Appends-trans old new written along.done moves.gone along.wrote moves.wrote;
   leads = λ more ending r.
       subst (λ l. Runs 1 initial (lines bytes) (l ++ more) ending) (ap (λ l. along.done ++ l) (sym moves.split) ∙ sym (append_assoc along.done moves.gone still)) (along.leads more ending r);
-}
-
--- Nothing went to the writer, or all.
-pub moves_none : (known : Option (List ℕ)) (held : List ℕ) → MovesOn known known held held
-moves_none known held = record { gone = []; wrote = Appends-nil known; split = refl }
-
-pub moves_all : (old new : Option (List ℕ)) (held still : List ℕ) → Appends old new held → still ≡ [] → MovesOn old new held still
-moves_all old new held still appended none = record {
-  gone = held;
-  wrote = appended;
-  split = ap (λ l. held ++ l) none ∙ append-nil held;
 }
 
 -- a property of the bytes left, if these are known
@@ -206,10 +191,8 @@ module _ (initial : Contents) (start old new written : Option (List ℕ)) (pendi
 -- nothing is promised if the writer failed
 pub write_stops : (initial : Contents) (bytes : List ℕ) (old written : Option (List ℕ)) (left : List ℕ) (fault : LocalFault)
     → IsWriteFault fault → StopsBy fault initial bytes old written left
-write_stops initial bytes old written left (local.Refused line fault) h = absurd h
-write_stops initial bytes old written left local.NoMemory h = absurd h
-write_stops initial bytes old written left (local.Read error) h = absurd h
 write_stops initial bytes old written left (local.Write error) h = tt
+write_stops initial bytes old written left _ h = absurd h
 
 pub write_fault : (initial : Contents) (start old written : Option (List ℕ)) (left : List ℕ) (fault : LocalFault)
     → IsWriteFault fault → IfSome start (λ bytes. StopsBy fault initial bytes old written left)

@@ -9,7 +9,7 @@ use Rattle.tuple_codec.specs.declared.operations.Op.{Op}
 use Rattle.tuple_text.specs.declared.faults.LineFault.TheVariants.{TooLong}
 use Rattle.one_space.specs.Run.{Ending, complete, refused_at}
 use Rattle.one_space.specs.NextLines.{GivesLine, Fails, BeginsWith}
-use Rattle.one_space.specs.Endings.{fault_at, read_fault_of}
+use Rattle.one_space.specs.Endings.{fault_at}
 use Rattle.one_space.specs.Scripts.{Says, at_end, skips, calls, refuses, is_late, SaysSome, EndsBy, ReadSoFar, KeptSoFar, KeepsFirst, AreFirst}
 use Rattle.one_space.specs.declared.pieces.ReadFault.{ReadFault}
 use Rattle.one_space.specs.declared.pieces.ReadFault.TheVariants as pieces
@@ -144,14 +144,6 @@ module _ (most : ℕ) (bytes : List ℕ) (known : Option (List ℕ)) (n : ℕ) (
         said = says_so complete (subst (λ ls. Says n ls [] complete) (sym (left_behind field false e f)) at_end);
         first = before.first;
       })
-
-pub not_read : (bytes : List ℕ) (fault : ReadFault) → EndsBy (read_fault_of fault) bytes
-not_read bytes pieces.NoMemory = tt
-not_read bytes (pieces.Read error) = tt
-
-pub at_number : (most : ℕ) (start known : Option (List ℕ)) (n m : ℕ) (ops : Vec (Op Global) Global) → n ≡ m
-    → IfSome start (λ bytes. KeptSoFar most bytes known n ops) → IfSome start (λ bytes. KeptSoFar most bytes known m ops)
-at_number most start known n m ops e h = subst (λ k. IfSome start (λ bytes. KeptSoFar most bytes known k ops)) e h
 
 -- The line that was read is one of a script whose bytes are known.
 pub goes_on : (P Q R : List ℕ → Type 0) (start : Option (List ℕ)) (b : Bool) → b ≡ true
