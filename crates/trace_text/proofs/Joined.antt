@@ -51,10 +51,6 @@ module _ {X : Type 0} (gap : List ℕ) (text : X → List ℕ) where
   some_listed none [] h = absurd (h refl)
   some_listed none (x ∷ xs) h = refl
 
-  pub none_listed : (none : List ℕ) (xs : List X) → length xs ≡ 0 → listed gap none text xs ≡ none
-  none_listed none [] h = refl
-  none_listed none (x ∷ xs) h = absurd (let g : ⊥ = cc in g)
-
   -- the texts of views are texts
   flat_view : {Y : Type 0} (view : Y → X) (ys : List Y) → flat_map (λ x. gap ++ text x) (map view ys) ≡ flat_map (λ y. gap ++ text (view y)) ys
   flat_view view [] = refl
