@@ -4,10 +4,11 @@ use Rattle.std.specs.Prelude.{Contains, Some, slice_get}
 use Rattle.std.specs.Option.{option_map}
 use Rattle.std.specs.declared.alloc.Global.{Global}
 use Rattle.std.specs.declared.vec.Vec.{Vec}
-use Rattle.std.proofs.lemmas.List.{length_push, length-map}
+use Rattle.std.proofs.lemmas.List.{length_push, length-map, map_push}
 use Rattle.std.proofs.lemmas.List.Elements.{All-contains, All-contains_itself, All-filter, All-get_or, Contains-append_right}
 use Rattle.std.proofs.lemmas.Nat.{div-add-mod', mod_below}
 use Rattle.std.proofs.lemmas.Option.{get_or_from_slice_get, none-some, same_Some, slice_get-map, slice_get_within}
+use Rattle.std.proofs.lemmas.Bool.{cases_eq}
 use Rattle.tuple_codec.specs.Operations.{Operation, Outcome}
 use Rattle.tuple_codec.specs.OperationView.{operation_of, outcome_of}
 use Rattle.tuple_codec.specs.declared.operations.Answer.{Answer}
@@ -21,7 +22,7 @@ use Rattle.space_node.specs.Seats.{Seated}
 use Rattle.space_node.proofs.Calling.{last_quiet}
 use Rattle.cluster_run.specs.Answers.{AnswersRun, AreAnswered, IsAnswered}
 use Rattle.cluster_run.specs.Hands.{AreDealt, AreGathered, Hands, HandsAreCalled, HasCalled, HasTrace, dealt_at}
-use Rattle.cluster_run.proofs.Turns.{dealt_in, get_before, get_pushed, same_or}
+use Rattle.cluster_run.proofs.Turns.{dealt_in, get_before, get_pushed}
 
 -- ---- a call more
 
@@ -44,7 +45,7 @@ just_answered between old k t op answer = record {
 last_or : {X Y : Type 0} (xs : List X) (ys : List Y) (x : X) (y : Y) (P : ℕ → X → Y → Type 0) → length ys ≡ length xs → P (length xs) x y
     → ((j : ℕ) (a : X) (b : Y) → slice_get xs j ≡ Some a → slice_get ys j ≡ Some b → P j a b)
     → (j : ℕ) (a : X) (b : Y) → slice_get (xs ++ x ∷ []) j ≡ Some a → slice_get (ys ++ y ∷ []) j ≡ Some b → P j a b
-last_or xs ys x y P count last each j a b at bt = elim (same_or j (length xs)) [
+last_or xs ys x y P count last each j a b at bt = elim (cases_eq j (length xs)) [
   | inl e ↦ (let there : slice_get (xs ++ x ∷ []) j ≡ Some x = ap (slice_get (xs ++ x ∷ [])) e ∙ get_pushed xs x in
       let here : slice_get (ys ++ y ∷ []) j ≡ Some y = ap (slice_get (ys ++ y ∷ [])) (e ∙ sym count) ∙ get_pushed ys y in
       subst (λ k. P k a b) (sym e) (subst (λ u. P (length xs) u b) (same_Some x a (sym there ∙ at)) (subst (λ v. P (length xs) x v) (same_Some y b (sym here ∙ bt)) last)))
@@ -72,14 +73,6 @@ one_call start old new ops answers op answer so_far call =
           (still_answered (Accepted k t answer ∷ call.between) (invoke ∷ old.history) (start.party - 256) (suc j) o a
           (still_answered (invoke ∷ []) old.history (start.party - 256) (suc j) o a (so_far.each j o a at bt))));
     }
-
-pub no_call : (start : Seated) → start.history ≡ [] → HasCalled start [] [] start
-no_call start new = record {
-  party = refl;
-  calls = ap last_call new;
-  count = refl;
-  each = λ j op answer at bt. absurd (none-some op at);
-}
 
 -- ---- all of them
 
@@ -124,11 +117,6 @@ module _ (c : Configuration) (ops : List (Op Global)) (answers : List (Answer Gl
 
   pub answers_run : AnswersRun c (map operation_of ops) (map outcome_of answers)
   answers_run = record { trace = done.trace; proper = done.proper; answered = answered }
-
--- the same of a loop over operations
-map_push : {X Y : Type 0} (f : X → Y) (xs : List X) (x : X) → map f (xs ++ x ∷ []) ≡ map f xs ++ f x ∷ []
-map_push f [] x = refl
-map_push f (y ∷ xs) x = ap (λ ys. f y ∷ ys) (map_push f xs x)
 
 pub call_more : (start old new : Seated) (ops : List (Op Global)) (answers : List (Answer Global)) (op : Op Global) (answer : Answer Global)
     → HasCalled start (map operation_of ops) (map outcome_of answers) old → Called old (operation_of op) (outcome_of answer) new

@@ -6,7 +6,8 @@ use Rattle.std.specs.declared.alloc.Global.{Global}
 use Rattle.std.specs.declared.thread.PromisedHandle.{PromisedHandle}
 use Rattle.std.specs.declared.vec.Vec.{Vec}
 use Rattle.std.proofs.lemmas.List.{length_push}
-use Rattle.std.proofs.lemmas.Option.{none-some, same_Some, slice_get_within}
+use Rattle.std.proofs.lemmas.Option.{same_Some, slice_get_within}
+use Rattle.std.proofs.lemmas.Bool.{cases_eq}
 use Rattle.tuple_codec.specs.declared.operations.Answer.{Answer}
 use Rattle.tuple_codec.specs.declared.operations.Op.{Op}
 use Rattle.space_node.specs.Seats.{Seated}
@@ -15,12 +16,12 @@ use Rattle.cluster_run.specs.Threads.{AddsCalled, AreJoined, AreStarted, Starts,
 use Rattle.cluster_run.specs.declared.calling.AllCalled.{AllCalled}
 use Rattle.cluster_run.specs.declared.calling.Called.{Called}
 use Rattle.cluster_run.specs.declared.calling.CallsHand.{CallsHand}
-use Rattle.cluster_run.proofs.Turns.{get_before, get_pushed, got, same_or}
+use Rattle.cluster_run.proofs.Turns.{get_before, get_pushed, got}
 
 pub started_more : (hands : Hands (Op Global)) (hand : Vec (Op Global) Global) (old new : List CallsHand) (n : ℕ) → AreStarted hands old → Starts old n hand new → n ≡ length old
     → slice_get hands n ≡ Some hand → AreStarted hands new × (length new ≡ length old + 1)
 started_more hands hand old new n so_far starts at is = (
-  (λ h p e. elim (same_or h (length old)) [
+  (λ h p e. elim (cases_eq h (length old)) [
     | inl here ↦ (let same : starts.promise ≡ p =
         same_Some starts.promise p (sym (get_pushed old starts.promise) ∙ (sym (ap (slice_get (old ++ starts.promise ∷ [])) here) ∙ (sym (ap (λ ps. slice_get ps h) starts.new_is) ∙ e))) in
         subst (λ q. (q.number ≡ h) × (slice_get hands h ≡ Some q.ops.value)) same
@@ -30,22 +31,12 @@ started_more hands hand old new n so_far starts at is = (
   ap length starts.new_is ∙ length_push old starts.promise,
 )
 
-pub none_started : (hands : Hands (Op Global)) (promises : List CallsHand) → promises ≡ [] → AreStarted hands promises
-none_started hands promises none h p e = absurd (none-some p (sym (ap (λ ps. slice_get ps h) none) ∙ e))
-
-pub none_joined : (clients : List Seated) (answers : Hands (Answer Global)) → clients ≡ [] → answers ≡ [] → AreJoined [] clients answers
-none_joined clients answers none no_answers = record {
-  clients_count = ap length none;
-  answers_count = ap length no_answers;
-  each = λ h p s v e f g. absurd (none-some p e);
-}
-
 pub joined_more : (ps : List CallsHand) (clients : List Seated) (answers : Hands (Answer Global)) (p : CallsHand) (s : Seated) (v : Vec (Answer Global) Global)
     → AreJoined ps clients answers → HasCalledHand p.ops.value p.number v s → AreJoined (ps ++ p ∷ []) (clients ++ s ∷ []) (answers ++ v ∷ [])
 joined_more ps clients answers p s v so_far called = record {
   clients_count = length_push clients s ∙ (ap (λ n. n + 1) so_far.clients_count ∙ sym (length_push ps p));
   answers_count = length_push answers v ∙ (ap (λ n. n + 1) so_far.answers_count ∙ sym (length_push ps p));
-  each = λ h q t w e f g. elim (same_or h (length ps)) [
+  each = λ h q t w e f g. elim (cases_eq h (length ps)) [
     | inl here ↦ (let one : p ≡ q = same_Some p q (sym (get_pushed ps p) ∙ (sym (ap (slice_get (ps ++ p ∷ [])) here) ∙ e)) in
         let two : s ≡ t = same_Some s t (sym (get_pushed clients s) ∙ (sym (ap (slice_get (clients ++ s ∷ [])) (here ∙ sym so_far.clients_count)) ∙ f)) in
         let three : v ≡ w = same_Some v w (sym (get_pushed answers v) ∙ (sym (ap (slice_get (answers ++ v ∷ [])) (here ∙ sym so_far.answers_count)) ∙ g)) in

@@ -1,5 +1,5 @@
 -- How items are dealt to hands, and taken back.
-use Rattle.std.proofs.Common.{◌≡◌, ℕ, zero, suc, ◌+◌, ◌*◌, ◌/◌, ◌%◌, ◌<◌, ◌≤◌, ◌⊎◌, inl, inr, List, [], ◌∷◌, ◌++◌, length, map, get_or, ◌-◌, refl, sym, ap, ◌∙◌, subst, arith}
+use Rattle.std.proofs.Common.{◌≡◌, ℕ, zero, suc, ◌+◌, ◌*◌, ◌/◌, ◌%◌, ◌<◌, ◌≤◌, inl, inr, List, [], ◌∷◌, ◌++◌, length, map, get_or, ◌-◌, refl, sym, ap, ◌∙◌, subst, arith}
 use Rattle.std.specs.Prelude.{Some, None, slice_get, slice_set}
 use Rattle.std.specs.Option.{option_and_then}
 use Rattle.std.specs.List.{enumerate_from}
@@ -10,27 +10,10 @@ use Rattle.std.proofs.lemmas.Nat.{div-add-mod', mod_below}
 use lib.ListN.{length-set}
 use Rattle.std.proofs.lemmas.List.{length_push}
 use Rattle.std.proofs.lemmas.Option.{slice_get_past, slice_get_within, none-some}
+use Rattle.std.proofs.lemmas.Bool.{cases_eq, cases_lt}
 use Rattle.cluster_run.specs.Hands.{AreDealt, AreGathered, Hands, Takes, dealt_at}
 
 -- ---- numbers
-
-pub same_or : (a b : ℕ) → (a ≡ b) ⊎ (a ≡ b → ⊥)
-same_or zero zero = inl refl
-same_or zero (suc b) = inr (λ e. omega (arith, e))
-same_or (suc a) zero = inr (λ e. omega (arith, e))
-same_or (suc a) (suc b) = elim (same_or a b) [
-  | inl e ↦ inl (ap suc e)
-  | inr off ↦ inr (λ e. off (omega (arith, e)))
-]
-
-less_or : (a b : ℕ) → (a < b) ⊎ (b ≤ a)
-less_or zero zero = inr (omega arith)
-less_or zero (suc b) = inl (omega arith)
-less_or (suc a) zero = inr (omega arith)
-less_or (suc a) (suc b) = elim (less_or a b) [
-  | inl l ↦ inl (omega (arith, l))
-  | inr l ↦ inr (omega (arith, l))
-]
 
 -- ---- elements by their places
 
@@ -105,7 +88,7 @@ dealt_in hands h j hand is = ap (option_and_then (λ v. slice_get v.items j)) is
 -- the hand whose turn it is has as many as there were turns
 module _ {X : Type 0} (xs ys : List X) (r q n : ℕ) (some : 0 < n) (lies : r + q * n ≡ length xs) (at : (j : ℕ) → slice_get ys j ≡ slice_get xs (r + j * n)) where
   no_more : length ys ≤ q
-  no_more = elim (less_or q (length ys)) [
+  no_more = elim (cases_lt q (length ys)) [
     | inl l ↦ (let h = got ys q l in absurd (none-some h.0 (sym (at q ∙ (ap (slice_get xs) lies ∙ slice_get_past xs (length xs) (omega arith))) ∙ h.1)))
     | inr l ↦ l
   ]
@@ -118,14 +101,14 @@ module _ {X : Type 0} (xs ys : List X) (r q n : ℕ) (some : 0 < n) (lies : r + 
       omega (arith, l)
 
   as_many : length ys ≡ q
-  as_many = elim (same_or q 0) [
+  as_many = elim (cases_eq q 0) [
     | inl e ↦ (let l = no_more in omega (arith, l, e))
     | inr off ↦ (let l = no_more in let m = no_fewer (q - 1) (omega (arith, off)) in omega (arith, l, m, off))
   ]
 
   -- with one more
   pub turn_more : (x : X) (j : ℕ) → slice_get (ys ++ x ∷ []) j ≡ slice_get (xs ++ x ∷ []) (r + j * n)
-  turn_more x j = elim (same_or j q) [
+  turn_more x j = elim (cases_eq j q) [
     | inl e ↦ (let here : j ≡ length ys = e ∙ sym as_many in
         let there : r + j * n ≡ length xs = ap (λ (k : ℕ). r + k * n) e ∙ lies in
         ap (slice_get (ys ++ x ∷ [])) here ∙ (get_pushed ys x ∙ sym (ap (slice_get (xs ++ x ∷ [])) there ∙ get_pushed xs x)))
@@ -146,7 +129,7 @@ dealt_more xs n i hands more hand later x some dealt at was is set =
     let lies : r + (i / n) * n ≡ length xs = omega (arith, whole, at) in
     record {
       count_is = ap length set ∙ (length-set hands r later ∙ dealt.count_is);
-      each = λ h j l. ap (λ hs. dealt_at hs h j) set ∙ elim (same_or h r) [
+      each = λ h j l. ap (λ hs. dealt_at hs h j) set ∙ elim (cases_eq h r) [
         | inl e ↦ ap (λ k. dealt_at (slice_set hands r later) k j) e
             ∙ (dealt_in (slice_set hands r later) r j later (get_set hands r later (subst (λ k. r < k) (sym dealt.count_is) low))
             ∙ (ap (λ ys. slice_get ys j) is
@@ -166,14 +149,14 @@ gathered_more all hands more n i xs ys x so_far left takes is =
     let whole = div-add-mod' i n in (
       record {
         count_is = ap length is ∙ (length_push xs x ∙ ap (λ k. k + 1) so_far.count_is);
-        each = λ k l. ap (λ zs. slice_get zs k) is ∙ elim (same_or k i) [
+        each = λ k l. ap (λ zs. slice_get zs k) is ∙ elim (cases_eq k i) [
           | inl e ↦ ap (slice_get (xs ++ x ∷ [])) (e ∙ sym so_far.count_is) ∙ (get_pushed xs x
               ∙ (sym takes.taken ∙ (left (i % n) (i / n) (omega (arith, whole)) ∙ ap (λ m. dealt_at all (m % n) (m / n)) (sym e))))
           | inr off ↦ get_before xs x k (λ e. off (e ∙ so_far.count_is)) ∙ so_far.each k (omega (arith, l, off))
         ];
       },
-      (λ h j l. takes.others h j (elim (same_or h (i % n)) [
-        | inl e ↦ elim (same_or j (i / n)) [
+      (λ h j l. takes.others h j (elim (cases_eq h (i % n)) [
+        | inl e ↦ elim (cases_eq j (i / n)) [
           | inl f ↦ absurd (let g : h + j * n ≡ i = ap (λ k. k + j * n) e ∙ (ap (λ k. i % n + k * n) f ∙ omega (arith, whole)) in omega (arith, g, l))
           | inr off ↦ inr off
         ]

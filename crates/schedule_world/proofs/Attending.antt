@@ -2,7 +2,7 @@
 use Rattle.std.proofs.Common.{◌≡◌, ◌≢◌, ℕ, suc, ◌+◌, ◌<◌, ◌≤◌, Bool, true, false, not, ◌==◌, List, [], ◌∷◌, length, get_or, set, Option, Some, None, refl, sym, ap, ◌∙◌, subst, arith, eqb-true}
 use Rattle.std.specs.Prelude.{map, is_some}
 use Rattle.std.proofs.lemmas.List.{get_or-set_same, get_or-set_other}
-use Rattle.std.proofs.lemmas.Bool.{and_parts, ltb-true, eq-eqb}
+use Rattle.std.proofs.lemmas.Bool.{and_parts, ltb-true, eq-eqb, both_ways}
 use Rattle.tuple_codec.specs.Operations.{Operation}
 use Rattle.protocol.specs.System.Configuration.{Configuration, IsConfiguration, replicas, is_replica, is_faulty_replica, is_correct_replica, is_correct_client}
 use Rattle.protocol.specs.System.Trace.{Entry, party_of, is_output, history_of}
@@ -27,12 +27,8 @@ use Rattle.schedule_world.specs.Stages.{Attend, FitsReplica, FitsSeat}
 use Rattle.schedule_world.specs.Moving.{AreOf, Moves, MovesClient, Calls}
 use Rattle.schedule_world.proofs.Projecting.{own_entry, other_entry, own_entries, other_entries}
 
-pub differ : (b : Bool) → b ≡ false → b ≡ true → ⊥
-differ true f t = cc
-differ false f t = cc
-
 pub apart_from : (p q : ℕ) → (q == p) ≡ false → q ≢ p
-apart_from p q e same = differ (q == p) e (eq-eqb q p same)
+apart_from p q e same = both_ways (q == p) e (eq-eqb q p same)
 
 -- ---- replicas
 

@@ -1,13 +1,14 @@
 -- The stage before the first step.
 use Rattle.std.proofs.Common.{◌≡◌, ℕ, ◌+◌, ◌<◌, Bool, true, false, ◌==◌, List, [], ◌∷◌, ◌++◌, length, get_or, refl, sym, ap, ◌∙◌, subst, arith, eqb-true}
 use Rattle.std.proofs.lemmas.List.{length-append, get_or_push, get_or_append_left}
+use Rattle.std.proofs.lemmas.Bool.{both_ways}
 use Rattle.protocol.specs.System.Configuration.{Configuration, IsConfiguration}
 use Rattle.protocol.specs.System.Schedule.{new_world}
 use Rattle.schedule_world.specs.declared.stage.Stage.{Stage}
 use Rattle.schedule_world.specs.Opening.{AreNewReplicas, AreNewSeats}
 use Rattle.schedule_world.specs.Stages.{IsSeated, At}
 use Rattle.replica.specs.State.{has_stopped}
-use Rattle.schedule_world.proofs.Attending.{differ, replica_below, apart_from}
+use Rattle.schedule_world.proofs.Attending.{replica_below, apart_from}
 use Rattle.schedule_world.proofs.Pools.{pool_new}
 use Rattle.schedule_world.proofs.Reached.{reaches_first}
 use Rattle.schedule_world.proofs.Standing.{client_below}
@@ -58,7 +59,7 @@ at_first c s rs seats pool trace accepted = record {
       replicas = λ p d h.
           let below = replica_below c p h in
           let new = rs.each p d (omega (arith, below, rs.count)) in
-          (new.fits, λ stopped. absurd (differ (has_stopped (get_or s.replicas.items p d)) new.runs stopped));
+          (new.fits, λ stopped. absurd (both_ways (has_stopped (get_or s.replicas.items p d)) new.runs stopped));
       clients = λ k d h. let below = client_below c k h in (seats.each k d (omega (arith, below, seats.count))).fits;
     };
     orderly = record { parties = tt; events = tt };

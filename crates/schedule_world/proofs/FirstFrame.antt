@@ -37,29 +37,19 @@ sends : (c : Configuration) (me k : ℕ) (op : Operation) (outputs history : Lis
 sends c me k op outputs [] r h = absurd h
 sends c me k op outputs (Invoke client t o ∷ past) r (inl h) = let request = r.1.1 in inl (subst (Has IsSent) (sym request.1) (inl refl))
 sends c me k op outputs (Invoke client t o ∷ past) r (inr h) = earlier (Invoke client t o) outputs past (sends c me k op [] past r.1.2 h)
-sends c me k op outputs (Got p bytes ∷ past) r (inl h) = absurd h
 sends c me k op outputs (Got p bytes ∷ past) r (inr h) = earlier (Got p bytes) outputs past (sends c me k op [] past r.1.2 h)
-sends c me k op outputs (Tick p ∷ past) r (inl h) = absurd h
 sends c me k op outputs (Tick p ∷ past) r (inr h) = earlier (Tick p) outputs past (sends c me k op [] past r.1.2 h)
-sends c me k op outputs (Executed p n batch ∷ past) r (inl h) = absurd h
 sends c me k op outputs (Executed p n batch ∷ past) r (inr h) = given (Executed p n batch) outputs past (sends c me k op (Executed p n batch ∷ outputs) past r.1 h)
-sends c me k op outputs (Installed p n root ∷ past) r (inl h) = absurd h
 sends c me k op outputs (Installed p n root ∷ past) r (inr h) = given (Installed p n root) outputs past (sends c me k op (Installed p n root ∷ outputs) past r.1 h)
-sends c me k op outputs (Sent p bytes ∷ past) r (inl h) = absurd h
 sends c me k op outputs (Sent p bytes ∷ past) r (inr h) = inr (inl refl)
-sends c me k op outputs (Accepted p t answer ∷ past) r (inl h) = absurd h
 sends c me k op outputs (Accepted p t answer ∷ past) r (inr h) = given (Accepted p t answer) outputs past (sends c me k op (Accepted p t answer ∷ outputs) past r.1 h)
+sends c me k op outputs (_ ∷ past) r (inl h) = absurd h
 
 -- ---- so it is in the trace
 
 calls_own : (k : ℕ) (op : Operation) (e : Entry) → IsInputOf (calls k op) e → (party_of e == (256 + k)) ≡ true
 calls_own k op (Invoke client t o) h = eq-eqb (256 + client) (256 + k) (ap (λ n. 256 + n) h.0)
-calls_own k op (Got p bytes) h = absurd h
-calls_own k op (Tick p) h = absurd h
-calls_own k op (Executed p n batch) h = absurd h
-calls_own k op (Installed p n root) h = absurd h
-calls_own k op (Sent p bytes) h = absurd h
-calls_own k op (Accepted p t answer) h = absurd h
+calls_own k op _ h = absurd h
 
 counted : (trace : List Entry) → Has IsSent trace → 1 ≤ length (filter is_sent trace)
 counted [] h = absurd h

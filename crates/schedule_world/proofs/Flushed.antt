@@ -15,7 +15,7 @@ use Rattle.schedule_world.specs.Stages.{Stands, IsStanding, At, with_entries, ac
 use Rattle.schedule_world.specs.Moving.{Behind, Comes, Delivers, LeadsBy}
 use Rattle.schedule_world.specs.Reaching.{Within}
 use Rattle.schedule_world.proofs.Pools.{pool_bytes, pool_forgets, pool_next, pool_served}
-use Rattle.schedule_world.proofs.Reached.{within_output, reaches_within, reaches_flush, within_flush, reaches_flushed}
+use Rattle.schedule_world.proofs.Reached.{within_output, reaches_within, within_flush, reaches_flushed}
 
 -- the frame was delivered to the party in mid
 pub delivers : (c : Configuration) (old mid new : Stage) (frame p : ℕ) (bytes : List ℕ) → HasBytes old.pool frame bytes → mid.pool ≡ noted old.pool frame p
@@ -61,9 +61,6 @@ at_behind c done left w s within behind = record {
 -- in the midst of a flush: any steps that lead to the old stage lead to this one, with the flush done in part
 abbrev pub Flushes : Configuration → Stage → Stage → Type 0
 Flushes c old s = (done : List Step) → At c done [] old → At c done (flush ∷ []) s
-
-pub flush_first : (c : Configuration) (s : Stage) → Flushes c s s
-flush_first c s done at = record { world = at.world; stands = at.stands; reaches = reaches_flush c done at.world at.reaches }
 
 -- what a flush delivers next is for a correct party
 receiver_is_correct : (c : Configuration) (delivered : List (ℕ × ℕ)) (frame : ℕ) (receivers : List ℕ) (x : ℕ × ℕ) → next_receiver c delivered frame receivers ≡ Some x → is_correct c x.1 ≡ true

@@ -54,12 +54,6 @@ are_receivers c ps some few parties ascend =
       parties = AllPass-from_list_all (is_party c) (map party_number ps) (sym (all_numbers (is_party c) ps) ∙ parties);
     }
 
-pub receivers_some : (c : Configuration) (ps : List Party) → AreReceivers c (map party_number ps) → 1 ≤ length ps
-receivers_some c ps h = let same : length (map party_number ps) ≡ length ps = length-map ps party_number in let s = h.some in omega (arith, s, same)
-
-pub receivers_few : (c : Configuration) (ps : List Party) → AreReceivers c (map party_number ps) → length ps ≤ 10
-receivers_few c ps h = let same : length (map party_number ps) ≡ length ps = length-map ps party_number in let s = h.few in omega (arith, s, same)
-
 pub receivers_parties : (c : Configuration) (ps : List Party) → AreReceivers c (map party_number ps) → list_all (λ p. is_party c (party_number p)) ps ≡ true
 receivers_parties c ps h = all_numbers (is_party c) ps ∙ list_all-from_AllPass (is_party c) (map party_number ps) h.parties
 

@@ -1,10 +1,11 @@
 -- A pool stays that of the world as frames are made and delivered, and says what a flush delivers next.
 use Rattle.std.proofs.Common.{length-append, append-nil, ◌≡◌, ℕ, zero, suc, ◌+◌, ◌<◌, Bool, true, false, not, ◌&&◌, ◌||◌, ◌==◌, cond, List, [], ◌∷◌, ◌++◌, length, filter, get_or, refl, sym, ap, ◌∙◌, subst, arith, Some, None, slice_get, eqb-true, eq-eqb}
+use Rattle.std.proofs.lemmas.List.Elements.{filter_agree}
 use Rattle.std.specs.Prelude.{All}
 use Rattle.quorum.specs.Votes.{or_else}
 use Rattle.protocol.specs.System.Configuration.{Configuration, is_correct}
 use Rattle.protocol.specs.System.Trace.{Entry}
-use Rattle.protocol.specs.System.Trace.Entry.{Got, Sent}
+use Rattle.protocol.specs.System.Trace.Entry.{Sent}
 use Rattle.protocol.specs.System.Schedule.{Made, World, made_by, new_world, with_entry, with_frame, is_delivered, next_receiver, next_pair, pending}
 use Rattle.schedule_world.specs.Pooled.{Frame, added, others, noted, IsServed, IsNext, HasBytes}
 use Rattle.schedule_world.specs.Pooling.{is_due, pooled, pooled_from, IsPool}
@@ -12,9 +13,6 @@ use Rattle.events.specs.Outputs.{receivers_in}
 use Rattle.schedule_world.specs.Receiving.{correct_in}
 
 -- ---- filters
-
-filter_like : {X : Type 0} (f g : X → Bool) → ((x : X) → f x ≡ g x) → (xs : List X) → filter f xs ≡ filter g xs
-filter_like f g h xs = λ t. filter (λ x. h x t) xs
 
 twice_case : {X : Type 0} (f g : X → Bool) (x : X) (xs : List X) (b : Bool) → filter f (filter g xs) ≡ filter (λ y. g y && f y) xs
     → filter f (cond b (x ∷ filter g xs) (filter g xs)) ≡ cond (b && f x) (x ∷ filter (λ y. g y && f y) xs) (filter (λ y. g y && f y) xs)
@@ -65,7 +63,7 @@ module _ (c : Configuration) (delivered : List (ℕ × ℕ)) (n p : ℕ) where
   other_frame : (k : ℕ) (m : Made) → (n ≡ k → ⊥) → pooled c ((n, p) ∷ delivered) k m ≡ pooled c delivered k m
   other_frame k m h =
       ap (λ ws. record { bytes = m.bytes; waiting = ws })
-      (filter_like (is_due c ((n, p) ∷ delivered) k) (is_due c delivered k) (λ q. other_due k q h) m.receivers)
+      (filter_agree (is_due c ((n, p) ∷ delivered) k) (is_due c delivered k) (λ q. other_due k q h) m.receivers)
 
   -- of this one
   own_due : (k q : ℕ) → n ≡ k → is_due c ((n, p) ∷ delivered) k q ≡ (is_due c delivered k q && not (q == p))
@@ -76,7 +74,7 @@ module _ (c : Configuration) (delivered : List (ℕ × ℕ)) (n p : ℕ) where
 
   own_waiting : (k : ℕ) (rs : List ℕ) → n ≡ k → filter (is_due c ((n, p) ∷ delivered) k) rs ≡ others p (filter (is_due c delivered k) rs)
   own_waiting k rs e =
-      filter_like (is_due c ((n, p) ∷ delivered) k) (λ q. is_due c delivered k q && not (q == p)) (λ q. own_due k q e) rs
+      filter_agree (is_due c ((n, p) ∷ delivered) k) (λ q. is_due c delivered k q && not (q == p)) (λ q. own_due k q e) rs
       ∙ sym (filter_twice (λ q. not (q == p)) (is_due c delivered k) rs)
 
   later_frames : (k : ℕ) (ms : List Made) → n < k → pooled_from c ((n, p) ∷ delivered) k ms ≡ pooled_from c delivered k ms
@@ -114,7 +112,7 @@ new_frame : (c : Configuration) (delivered : List (ℕ × ℕ)) (n : ℕ) (m : M
     → pooled c delivered n m ≡ record { bytes = m.bytes; waiting = correct_in c m.receivers }
 new_frame c delivered n m h =
     ap (λ ws. record { bytes = m.bytes; waiting = ws })
-    (filter_like (is_due c delivered n) (is_correct c)
+    (filter_agree (is_due c delivered n) (is_correct c)
     (λ q. ap (λ b. is_correct c q && not b) (not_delivered delivered n q h) ∙ and_nothing (is_correct c q)) m.receivers)
 
 -- ---- the laws
@@ -166,13 +164,6 @@ pool_delivered c w pool n p within h =
     made : All (λ (x : ℕ × ℕ). x.0 < length w.frames) ((n, p) ∷ w.delivered)
     made zero d b = within
     made (suc k) d b = h.made k d (omega (arith, b))
-
--- a correct party got a frame
-pub pool_got : (c : Configuration) (w : World) (pool : List Frame) (n p : ℕ) (bytes : List ℕ) → n < length w.frames → IsPool c w pool
-    → IsPool c (record (with_entry c w (Got p bytes)) { delivered = (n, p) ∷ w.delivered }) (noted pool n p)
-pool_got c w pool n p bytes within h =
-    let same = ap length (append-nil w.frames) in
-    pool_delivered c (with_entry c w (Got p bytes)) pool n p (omega (arith, within, same)) (pool_kept c w pool (Got p bytes) refl h)
 
 -- as many frames
 pub pool_length : (c : Configuration) (w : World) (pool : List Frame) → IsPool c w pool → length pool ≡ length w.frames

@@ -24,10 +24,6 @@ pub onto_reverse : (past entries : List Entry) → onto past entries ≡ reverse
 onto_reverse [] entries = refl
 onto_reverse (e ∷ past) entries = onto_reverse past (e ∷ entries) ∙ associates (reverse past) e entries ∙ ap (λ (xs : List Entry). xs ++ entries) (sym (reverse_onto past e []))
 
--- the world after a delivery
-delivered_to : Configuration → World → ℕ → ℕ → List ℕ → World
-delivered_to c w frame party bytes = record (with_entry c w (Got party bytes)) { delivered = (frame, party) ∷ w.delivered }
-
 module _ (c : Configuration) (done : List Step) where
   pub reaches_first : Reaches c [] [] new_world
   reaches_first rest entries v i g = g
@@ -68,11 +64,6 @@ module _ (c : Configuration) (done : List Step) where
     pub reaches_signed : (replica leaf : ℕ) (receivers body : List ℕ) → IsAllowed c w (sign replica leaf receivers body)
         → Reaches c (done ++ sign replica leaf receivers body ∷ []) [] (with_frame w (signed_bytes c replica leaf body) receivers)
     reaches_signed replica leaf receivers body a rest entries v i g = moved (sign replica leaf receivers body) rest _ v (h (sign replica leaf receivers body ∷ rest) entries v i (signs a i g))
-
-    -- ---- a flush begins
-
-    pub reaches_flush : Reaches c done (flush ∷ []) w
-    reaches_flush rest entries v i g = h (flush ∷ rest) entries v i g
 
     -- ---- the end
 

@@ -5,7 +5,7 @@ use Rattle.std.proofs.lemmas.List.{reverse-append, length-reverse, map-append}
 use Rattle.tuple_codec.specs.Operations.{Outcome}
 use Rattle.protocol.specs.System.Configuration.{Configuration, is_correct}
 use Rattle.protocol.specs.System.Trace.{Entry}
-use Rattle.protocol.specs.System.Trace.Entry.{Invoke, Got, Tick, Executed, Installed, Sent, Accepted}
+use Rattle.protocol.specs.System.Trace.Entry.{Sent, Accepted}
 use Rattle.protocol.specs.System.Schedule as schedules
 use Rattle.protocol.specs.System.Schedule.{World, with_entry, made_by, acceptances}
 use Rattle.events.specs.declared.output.Output.{Output}
@@ -29,20 +29,12 @@ reverse_first xs x = reverse-append (x ∷ []) xs
 plain_makes : (c : Configuration) (e : Entry) → IsPlain e → made_by c e ≡ []
 plain_makes c (Sent p bytes) h = absurd h
 plain_makes c (Accepted k t a) h = absurd h
-plain_makes c (Invoke k t op) h = refl
-plain_makes c (Got p bytes) h = refl
-plain_makes c (Tick p) h = refl
-plain_makes c (Executed r n b) h = refl
-plain_makes c (Installed r n b) h = refl
+plain_makes c _ h = refl
 
 plain_accepts : (e : Entry) (past : List Entry) → IsPlain e → acceptances (e ∷ past) ≡ acceptances past
 plain_accepts (Sent p bytes) past h = absurd h
 plain_accepts (Accepted k t a) past h = absurd h
-plain_accepts (Invoke k t op) past h = refl
-plain_accepts (Got p bytes) past h = refl
-plain_accepts (Tick p) past h = refl
-plain_accepts (Executed r n b) past h = refl
-plain_accepts (Installed r n b) past h = refl
+plain_accepts _ past h = refl
 
 past_more : (c : Configuration) (w : World) (old new : Stage) (e : Entry) → Shows c w old → new.trace.items ≡ old.trace.items ++ e ∷ [] → reverse new.trace.items ≡ e ∷ w.past
 past_more c w old new e shows trace = ap reverse trace ∙ reverse_more old.trace.items e ∙ ap (λ (xs : List Entry). e ∷ xs) shows.past
@@ -87,9 +79,6 @@ pub entries_more : (c : Configuration) (me : ℕ) (w : World) (outs : List Outpu
     → with_entries c w (map (entry_of me) (outs ++ output ∷ [])) ≡ with_entry c (with_entries c w (map (entry_of me) outs)) (entry_of me output)
 entries_more c me w [] output = refl
 entries_more c me w (o ∷ outs) output = entries_more c me (with_entry c w (entry_of me o)) outs output
-
-pub adds_none : (c : Configuration) (s : Stage) → AddsAll c [] s s
-adds_none c s w shows = shows
 
 pub adds_more : (c : Configuration) (me : ℕ) (outs : List Output) (output : Output) (old mid new : Stage) → AddsAll c (map (entry_of me) outs) old mid → Adds c (entry_of me output) mid new
     → AddsAll c (map (entry_of me) (outs ++ output ∷ [])) old new

@@ -1,8 +1,7 @@
 -- After an event the stage still stands at a world.
-use Rattle.std.proofs.Common.{◌≡◌, ℕ, ◌+◌, ◌<◌, ◌≤◌, ◌-◌, ◌⊎◌, inl, inr, Bool, true, false, not, List, [], ◌∷◌, length, get_or, set, refl, sym, ap, ◌∙◌, subst, arith, eqb-true}
-use Rattle.std.specs.Prelude.{map, filter, reverse, ◌==◌, ◌||◌, nat_le, nat_lt}
-use Rattle.std.proofs.lemmas.List.{length-set, get_or-set_same, get_or-set_other}
-use Rattle.std.proofs.lemmas.Bool.{and_parts, or_cases, ltb-true, leb-true}
+use Rattle.std.proofs.Common.{◌≡◌, ℕ, ◌+◌, ◌<◌, ◌≤◌, ◌-◌, ◌⊎◌, inl, inr, true, false, not, List, [], ◌∷◌, length, refl, sym, ap, ◌∙◌, subst, arith}
+use Rattle.std.specs.Prelude.{map, filter, reverse, nat_le, nat_lt}
+use Rattle.std.proofs.lemmas.Bool.{and_parts, or_cases, ltb-true, leb-true, or_right}
 use Rattle.tuple_codec.specs.Operations.{Operation}
 use Rattle.quorum.specs.Quorum.{member}
 use Rattle.protocol.specs.System.Configuration.{Configuration, IsConfiguration, is_client, is_correct_replica, is_correct_client, is_correct}
@@ -27,7 +26,7 @@ use Rattle.schedule_world.specs.Moving.{Adds, AddsAll, AddsAllIfMeant, AreOf, Ke
 use Rattle.schedule_world.proofs.Projecting.{follow, input_follows, parties}
 use Rattle.schedule_world.proofs.Showing.{shows_same}
 use Rattle.schedule_world.proofs.Pools.{pool_with_frame}
-use Rattle.schedule_world.proofs.Attending.{AreNumbered, replica_below, replica_input, client_input, attend_replica, attend_client, attend_call, replica_meant, client_meant, apart_from}
+use Rattle.schedule_world.proofs.Attending.{AreNumbered, replica_below, replica_input, client_input, attend_replica, attend_client, attend_call, replica_meant, client_meant}
 
 -- ---- which parties are correct
 
@@ -57,14 +56,6 @@ client_below c k h =
     let w = and_parts (is_client c (256 + k)) (not (member c.faulty_clients (256 + k - 256))) h in
     let l : 256 + k < 256 + c.clients = ltb-true (256 + k) (256 + c.clients) (and_parts (nat_le 256 (256 + k)) (nat_lt (256 + k) (256 + c.clients)) w.0).1 in
     omega (arith, l)
-
-pub or_true : (x y : Bool) → x ≡ true → (x || y) ≡ true
-or_true true y h = refl
-or_true false y h = absurd cc
-
-pub or_other : (x y : Bool) → y ≡ true → (x || y) ≡ true
-or_other true y h = refl
-or_other false y h = h
 
 -- ---- the world after entries
 
@@ -113,9 +104,6 @@ behind_event c w old mid late new p input entries st correct at in_first records
 numbered : (c : Configuration) (s : Stage) → IsSeated c s → AreNumbered c s.replicas.items
 numbered c s seated = (seated.replicas, seated.numbers)
 
-pub replica_within : (c : Configuration) (s : Stage) (p : ℕ) → IsSeated c s → p < 256 → is_correct c p ≡ true → p < length s.replicas.items
-replica_within c s p seated low h = let below = replica_below c p (replica_is_correct c p low h) in let count = seated.replicas in omega (arith, below, count)
-
 pub client_within : (c : Configuration) (s : Stage) (k : ℕ) → IsSeated c s → is_correct_client c (256 + k) ≡ true → k < length s.seats.items
 client_within c s k seated h = let below = client_below c k h in let count = seated.clients in omega (arith, below, count)
 
@@ -137,7 +125,7 @@ pub comes_client : (c : Configuration) (old mid late new : Stage) (k : ℕ) (eve
 comes_client c old mid late new k event outs seated correct m kept records adds first all of last w st =
     let is = client_input (256 + k) event in
     let within = client_within c old k seated correct in
-    behind_event c w old mid late new (256 + k) (client_steps.input_of (256 + k) event) (map (entry_of (256 + k)) outs) st (or_other (is_correct_replica c (256 + k)) (is_correct_client c (256 + k)) correct) is.0 is.1 records adds first
+    behind_event c w old mid late new (256 + k) (client_steps.input_of (256 + k) event) (map (entry_of (256 + k)) outs) st (or_right (is_correct_replica c (256 + k)) (is_correct_client c (256 + k)) correct) is.0 is.1 records adds first
     (all (client_meant c w.past old.replicas.items old.seats.items k m.before outs st.attend (λ d. seated.client_numbers k d within) correct m.was m.meant)) of last
     (subst (λ (xs : List ReplicaData). Attend c (after_entries (map (entry_of (256 + k)) outs) (client_steps.input_of (256 + k) event ∷ w.past)) xs mid.seats.items) (ap (λ x. x.items) (sym kept))
     (attend_client c w.past old.replicas.items old.seats.items mid.seats.items k event outs seated.valid st.attend within (λ d. seated.client_numbers k d within) correct m of))
@@ -149,7 +137,7 @@ pub comes_call : (c : Configuration) (old mid late new : Stage) (k : ℕ) (op : 
 comes_call c old mid late new k op timestamp outs seated correct m kept records adds first all of last w st allowed =
     let within = client_within c old k seated correct in (
       timestamp,
-      behind_event c w old mid late new (256 + k) (Invoke k timestamp op) (map (entry_of (256 + k)) outs) st (or_other (is_correct_replica c (256 + k)) (is_correct_client c (256 + k)) correct) refl refl records adds first
+      behind_event c w old mid late new (256 + k) (Invoke k timestamp op) (map (entry_of (256 + k)) outs) st (or_right (is_correct_replica c (256 + k)) (is_correct_client c (256 + k)) correct) refl refl records adds first
           (all (client_meant c w.past old.replicas.items old.seats.items k m.before outs st.attend (λ d. seated.client_numbers k d within) correct m.was m.meant)) of last
           (subst (λ (xs : List ReplicaData). Attend c (after_entries (map (entry_of (256 + k)) outs) (Invoke k timestamp op ∷ w.past)) xs mid.seats.items) (ap (λ x. x.items) (sym kept))
           (attend_call c w.past old.replicas.items old.seats.items mid.seats.items k op timestamp outs seated.valid st.attend within (λ d. seated.client_numbers k d within) correct allowed.1 m of)),
@@ -184,63 +172,6 @@ from_client c old mid step late new p k event outs given input seated same corre
     subst (λ e. Comes c e old new) (sym is)
     (comes_client c old mid late new k event outs seated (client_is_correct c k seated.valid (subst (λ n. is_correct c n ≡ true) same correct)) m still kept (subst (λ e. Adds c e mid late) is adds) first
     (subst (λ n. AddsAllIfMeant c n outs late new) same all) (subst (λ n. AreOf n (map (entry_of n) outs)) same of) last)
-
--- ---- places
-
-pub seated_replica : (c : Configuration) (old mid : Stage) (p : ℕ) (event : ReplicaEvent) (outs : List Output) → IsSeated c old → p < length old.replicas.items
-    → Moves old.replicas.items p event outs mid.replicas.items → mid.seats ≡ old.seats → IsSeated c mid
-seated_replica c old mid p event outs seated within m seats = record {
-  valid = seated.valid;
-  replicas = long ∙ seated.replicas;
-  clients = ap (λ x. length x.items) seats ∙ seated.clients;
-  numbers = λ q d lt. number q d lt (q == p) refl;
-  client_numbers = λ k d lt. ap (λ (x : _). (get_or x.items k d).client.number) seats ∙ seated.client_numbers k d (subst (λ x. k < length x.items) seats lt);
-}
-  where
-    long : length mid.replicas.items ≡ length old.replicas.items
-    long = ap length m.becomes ∙ length-set old.replicas.items p m.after
-
-    number : (q : ℕ) (d : ReplicaData) → q < length mid.replicas.items → (b : Bool) → (q == p) ≡ b → replica_fits.me_of (get_or mid.replicas.items q d) ≡ q
-    number q d lt true same =
-        let qp : q ≡ p = eqb-true q p same in
-        let got : get_or mid.replicas.items p d ≡ m.after = ap (λ xs. get_or xs p d) m.becomes ∙ get_or-set_same old.replicas.items p m.after d within in
-        subst (λ n. replica_fits.me_of (get_or mid.replicas.items n d) ≡ n) (sym qp)
-        (ap replica_fits.me_of got ∙ m.number ∙ ap replica_fits.me_of (sym (m.was m.before)) ∙ seated.numbers p m.before within)
-    number q d lt false same =
-        let kept : get_or mid.replicas.items q d ≡ get_or old.replicas.items q d = ap (λ xs. get_or xs q d) m.becomes ∙ get_or-set_other old.replicas.items p q m.after d (apart_from p q same) in
-        ap replica_fits.me_of kept ∙ seated.numbers q d (omega (arith, lt, long))
-
-pub seated_client : (c : Configuration) (old mid : Stage) (k : ℕ) (before after : Seat) → IsSeated c old → k < length old.seats.items
-    → ((d : Seat) → get_or old.seats.items k d ≡ before) → mid.seats.items ≡ set old.seats.items k after → after.client.number ≡ before.client.number → mid.replicas ≡ old.replicas → IsSeated c mid
-seated_client c old mid k before after seated within was becomes same kept = record {
-  valid = seated.valid;
-  replicas = ap (λ x. length x.items) kept ∙ seated.replicas;
-  clients = long ∙ seated.clients;
-  numbers = λ p d lt. ap (λ (x : _). replica_fits.me_of (get_or x.items p d)) kept ∙ seated.numbers p d (subst (λ x. p < length x.items) kept lt);
-  client_numbers = λ j d lt. number j d lt (j == k) refl;
-}
-  where
-    long : length mid.seats.items ≡ length old.seats.items
-    long = ap length becomes ∙ length-set old.seats.items k after
-
-    number : (j : ℕ) (d : Seat) → j < length mid.seats.items → (b : Bool) → (j == k) ≡ b → (get_or mid.seats.items j d).client.number ≡ j
-    number j d lt true e =
-        let jk : j ≡ k = eqb-true j k e in
-        let got : get_or mid.seats.items k d ≡ after = ap (λ xs. get_or xs k d) becomes ∙ get_or-set_same old.seats.items k after d within in
-        subst (λ n. (get_or mid.seats.items n d).client.number ≡ n) (sym jk)
-        (ap (λ (s : Seat). s.client.number) got ∙ same ∙ ap (λ (s : Seat). s.client.number) (sym (was before)) ∙ seated.client_numbers k before within)
-    number j d lt false e =
-        let kept_one : get_or mid.seats.items j d ≡ get_or old.seats.items j d = ap (λ xs. get_or xs j d) becomes ∙ get_or-set_other old.seats.items k j after d (apart_from k j e) in
-        ap (λ (s : Seat). s.client.number) kept_one ∙ seated.client_numbers j d (omega (arith, lt, long))
-
-pub seated_kept : (c : Configuration) (old new : Stage) → KeepsParties old new → IsSeated c old → IsSeated c new
-seated_kept c old new kept seated = record {
-  valid = seated.valid;
-  replicas = ap (λ x. length x.items) kept.replicas ∙ seated.replicas;
-  clients = ap (λ x. length x.items) kept.seats ∙ seated.clients;
-  numbers = λ p d lt. ap (λ (x : _). replica_fits.me_of (get_or x.items p d)) kept.replicas ∙ seated.numbers p d (subst (λ x. p < length x.items) kept.replicas lt);
-  client_numbers = λ k d lt. ap (λ (x : _). (get_or x.items k d).client.number) kept.seats ∙ seated.client_numbers k d (subst (λ x. k < length x.items) kept.seats lt);
-}
 
 -- ---- a frame of a faulty party
 

@@ -3,8 +3,8 @@ use Rattle.std.proofs.Common.{◌≡◌, ℕ, zero, suc, ◌+◌, ◌-◌, ◌<�
 use Rattle.std.specs.Prelude.{filter, slice_get, ◌==◌, nat_lt, AllPairs}
 use Rattle.std.specs.List.{range_with_len}
 use Rattle.std.specs.Option.{option_map_or}
-use Rattle.std.proofs.lemmas.Bool.{and_from, and_parts, cases_lt}
-use Rattle.std.proofs.lemmas.List.{append-nil, get_or_default}
+use Rattle.std.proofs.lemmas.Bool.{and_from, and_parts, cases_lt, or_left, or_right}
+use Rattle.std.proofs.lemmas.List.{get_or_default}
 use Rattle.std.proofs.lemmas.Option.{slice_get_read, get_or_from_slice_get}
 use Rattle.quorum.specs.Quorum.{member}
 use Rattle.wire.specs.Lists.{Each, ascends, leads}
@@ -23,7 +23,7 @@ use Rattle.schedule_world.specs.Stages.{IsSeated, Stands}
 use Rattle.schedule_world.specs.Stopped.{is_stopped_replica, is_stopped_client, stopped_replicas, stopped_clients, stopped_parties}
 use Rattle.schedule_world.proofs.Attending.{replica_below}
 use Rattle.schedule_world.proofs.Meant.{pairs_from}
-use Rattle.schedule_world.proofs.Standing.{client_within, client_below, client_of, or_true, or_other}
+use Rattle.schedule_world.proofs.Standing.{client_within, client_below, client_of}
 use Rattle.schedule_world.proofs.Taking.{one_of_them}
 
 -- ---- one after another
@@ -60,15 +60,10 @@ number_first t a end old =
     let f : end - 0 ≡ end = omega arith in
     ap (λ x. old ++ filter t (range_with_len x (end - 0))) e ∙ ap (λ x. old ++ filter t (range_with_len a x)) f
 
-pub number_last : (t : ℕ → Bool) (a n end : ℕ) (old whole : List ℕ) → end ≤ n → old ++ filter t (range_with_len (a + n) (end - n)) ≡ whole → old ≡ whole
-number_last t a n end old whole over e =
-    let none : end - n ≡ 0 = omega (arith, over) in
-    sym (append-nil old) ∙ ap (λ x. old ++ filter t (range_with_len (a + n) x)) (sym none) ∙ e
-
 -- ---- members
 
 member_case : (b : Bool) (y : ℕ) (ys : List ℕ) (x : ℕ) → member ys x ≡ true → member (cond b (y ∷ ys) ys) x ≡ true
-member_case true y ys x h = or_other (y == x) (member ys x) h
+member_case true y ys x h = or_right (y == x) (member ys x) h
 member_case false y ys x h = h
 
 member_here : (b : Bool) (y : ℕ) (ys : List ℕ) → b ≡ true → member (cond b (y ∷ ys) ys) y ≡ true
@@ -96,7 +91,7 @@ member_left (y ∷ xs) ys x h = go (y == x) h (member_left xs ys x)
 
 member_right : (xs ys : List ℕ) (x : ℕ) → member ys x ≡ true → member (xs ++ ys) x ≡ true
 member_right [] ys x h = h
-member_right (y ∷ xs) ys x h = or_other (y == x) (member (xs ++ ys) x) (member_right xs ys x h)
+member_right (y ∷ xs) ys x h = or_right (y == x) (member (xs ++ ys) x) (member_right xs ys x h)
 
 each_passes : (t : ℕ → Bool) (P : ℕ → Type 0) → ((x : ℕ) → t x ≡ true → P x) → (xs : List ℕ) → Each P (filter t xs)
 each_passes t P f [] = tt
@@ -199,7 +194,7 @@ module _ (c : Configuration) (s : Stage) (seated : IsSeated c s) (w : World) (st
   replica_silent p h =
       let parts = and_parts (is_correct_replica c p) (option_map_or has_stopped (slice_get rs p) false) h in
       let r = read_place has_stopped rs p parts.1 in (
-        or_true (is_correct_replica c p) (is_correct_client c p) parts.0,
+        or_left (is_correct_replica c p) (is_correct_client c p) parts.0,
         (st.attend.replicas p r.0 parts.0).1 (ap has_stopped (get_or_from_slice_get rs p r.0 r.0 r.1) ∙ r.2),
       )
 
@@ -234,7 +229,7 @@ module _ (c : Configuration) (s : Stage) (seated : IsSeated c s) (w : World) (st
       let k = client_of c p parts.0 in
       let at : p - 256 ≡ k.0 = ap (λ q. q - 256) k.1 ∙ less k.0 in
       let seat = read_place client_stopped seats k.0 (ap (λ i. option_map_or client_stopped (slice_get seats i) false) (sym at) ∙ parts.1) in (
-        or_other (is_correct_replica c p) (is_correct_client c p) parts.0,
+        or_right (is_correct_replica c p) (is_correct_client c p) parts.0,
         subst (λ q. GaveNothingLast (history_of q w.past)) (sym k.1)
             ((st.attend.clients k.0 seat.0 k.2).2 (ap client_stopped (get_or_from_slice_get seats k.0 seat.0 seat.0 seat.1) ∙ seat.2)),
       )

@@ -2,6 +2,7 @@
 use Rattle.std.proofs.Common.{◌≡◌, ℕ, ◌+◌, ◌<◌, Bool, true, false, List, [], ◌∷◌, ◌++◌, length, get_or, Option, Some, None, refl, sym, ◌∙◌, subst, arith}
 use Rattle.std.specs.Prelude.{is_some}
 use Rattle.std.proofs.lemmas.Option.{slice_get_within}
+use Rattle.std.proofs.lemmas.Bool.{both_ways}
 use Rattle.tuple_codec.specs.Operations.{Operation, IsOperation}
 use Rattle.protocol.specs.System.Configuration.{Configuration, is_correct, is_correct_client}
 use Rattle.protocol.specs.System.Trace.{history_of}
@@ -84,15 +85,11 @@ leads_call c old new k op allowed comes done at =
 
 -- ---- steps that are not allowed
 
-pub differ : (b : Bool) → b ≡ false → b ≡ true → ⊥
-differ true f t = cc
-differ false f t = cc
-
 pub client_may_not : (c : Configuration) (k : ℕ) (op : Operation) → is_correct_client c (256 + k) ≡ false → (w : World) → IsAllowed c w (calls k op) → ⊥
-client_may_not c k op wrong w may = differ (is_correct_client c (256 + k)) wrong may.0
+client_may_not c k op wrong w may = both_ways (is_correct_client c (256 + k)) wrong may.0
 
 pub party_may_not : (c : Configuration) (p : ℕ) → is_correct c p ≡ false → is_correct c p ≡ true → ⊥
-party_may_not c p wrong right = differ (is_correct c p) wrong right
+party_may_not c p wrong right = both_ways (is_correct c p) wrong right
 
 pub frame_may_not : (c : Configuration) (s : Stage) (w : World) (frame : ℕ) → (frame < length s.pool → ⊥) → Stands c w s → frame < length w.frames → ⊥
 frame_may_not c s w frame none st there = let long = pool_length c w s.pool st.shows.frames in none (omega (arith, long, there))

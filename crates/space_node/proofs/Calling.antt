@@ -3,19 +3,16 @@ use Rattle.std.proofs.Common.{◌≡◌, ℕ, suc, ◌-◌, false, List, [], ◌
 use Rattle.tuple_codec.specs.Operations.{Operation, Outcome}
 use Rattle.wire.specs.Lists.{Each}
 use Rattle.protocol.specs.System.Trace.{Entry}
-use Rattle.protocol.specs.System.Trace.Entry.{Invoke, Got, Tick, Executed, Installed, Sent, Accepted}
+use Rattle.protocol.specs.System.Trace.Entry.{Invoke, Accepted}
 use Rattle.protocol.specs.Client.RightClient.{last_call}
+use Rattle.protocol.proofs.Words.Elements.{each_append}
 use Rattle.events.specs.Outputs.{after_entries, entry_of}
 use Rattle.events.specs.declared.output.Output.{Output}
 use Rattle.events.specs.declared.output.Output.TheVariants as outputs
 use Rattle.space_node.specs.Calls.{AcceptNothing, Accepts, Begins, Called, Ends, GoesOn, IsQuiet, IsUnanswered, Refused}
-use Rattle.space_node.specs.Seats.{Seated, stopped_at}
+use Rattle.space_node.specs.Seats.{Seated}
 
 -- ---- quiet entries
-
-each_append : {A : Type 0} (P : A → Type 0) (xs ys : List A) → Each P xs → Each P ys → Each P (xs ++ ys)
-each_append P [] ys h k = k
-each_append P (x ∷ xs) ys h k = (h.0, each_append P xs ys h.1 k)
 
 each_behind : (P : Entry → Type 0) (es past : List Entry) → Each P es → Each P past → Each P (after_entries es past)
 each_behind P [] past h k = k
@@ -26,10 +23,8 @@ behind_append [] xs past = refl
 behind_append (e ∷ es) xs past = behind_append es (e ∷ xs) past
 
 quiet_output : (p : ℕ) (output : Output) → ¬ Accepts output → IsQuiet (entry_of p output)
-quiet_output p (outputs.Executed number batch) none = tt
-quiet_output p (outputs.Installed number root) none = tt
-quiet_output p (outputs.Send receivers frame) none = tt
 quiet_output p (outputs.Accepted timestamp answer) none = absurd (none tt)
+quiet_output p _ none = tt
 
 quiet_outputs : (p : ℕ) (outs : List Output) → AcceptNothing outs → Each IsQuiet (map (entry_of p) outs)
 quiet_outputs p [] none = tt
@@ -38,22 +33,14 @@ quiet_outputs p (output ∷ outs) none = (quiet_output p output none.0, quiet_ou
 pub last_quiet : (more past : List Entry) → Each IsQuiet more → last_call (more ++ past) ≡ last_call past
 last_quiet [] past quiet = refl
 last_quiet (Invoke client timestamp op ∷ more) past quiet = absurd quiet.0
-last_quiet (Got p bytes ∷ more) past quiet = last_quiet more past quiet.1
-last_quiet (Tick p ∷ more) past quiet = last_quiet more past quiet.1
-last_quiet (Executed r i batch ∷ more) past quiet = last_quiet more past quiet.1
-last_quiet (Installed r i root ∷ more) past quiet = last_quiet more past quiet.1
-last_quiet (Sent p bytes ∷ more) past quiet = last_quiet more past quiet.1
 last_quiet (Accepted client timestamp answer ∷ more) past quiet = absurd quiet.0
+last_quiet (_ ∷ more) past quiet = last_quiet more past quiet.1
 
 unanswered : (more : List Entry) → Each IsQuiet more → Each IsUnanswered more
 unanswered [] quiet = tt
 unanswered (Invoke client timestamp op ∷ more) quiet = absurd quiet.0
-unanswered (Got p bytes ∷ more) quiet = (tt, unanswered more quiet.1)
-unanswered (Tick p ∷ more) quiet = (tt, unanswered more quiet.1)
-unanswered (Executed r i batch ∷ more) quiet = (tt, unanswered more quiet.1)
-unanswered (Installed r i root ∷ more) quiet = (tt, unanswered more quiet.1)
-unanswered (Sent p bytes ∷ more) quiet = (tt, unanswered more quiet.1)
 unanswered (Accepted client timestamp answer ∷ more) quiet = absurd quiet.0
+unanswered (_ ∷ more) quiet = (tt, unanswered more quiet.1)
 
 -- ---- how a call begins, goes on and ends
 
@@ -96,18 +83,6 @@ ends old new input timestamp answer es quiet when are is = record {
   running = ap (λ (s : Seated). s.stopped) is;
 }
 
-pub goes_nowhere : (s : Seated) → s.stopped ≡ false → GoesOn s s
-goes_nowhere s running = record { more = []; quiet = tt; history = refl; party = refl; running = running }
-
-pub goes_further : (a b c : Seated) → GoesOn a b → GoesOn b c → GoesOn a c
-goes_further a b c first next = record {
-  more = next.more ++ first.more;
-  quiet = each_append IsQuiet next.more first.more next.quiet first.quiet;
-  history = next.history ∙ (ap (λ (h : List Entry). next.more ++ h) first.history ∙ sym (append_assoc next.more first.more a.history));
-  party = next.party ∙ first.party;
-  running = next.running;
-}
-
 pub ends_later : (a b c : Seated) (answer : Outcome) → GoesOn a b → Ends b answer c → Ends a answer c
 ends_later a b c answer first next = record {
   more = next.more ++ first.more;
@@ -136,24 +111,6 @@ called a b c op answer first next =
     }
 
 -- ---- how it is refused
-
-pub refused_at_once : (a b : Seated) → b ≡ stopped_at a → Refused a b
-refused_at_once a b is = record {
-  more = [];
-  unanswered = tt;
-  history = ap (λ (s : Seated). s.history) is;
-  party = ap (λ (s : Seated). s.party) is;
-  stopped = ap (λ (s : Seated). s.stopped) is;
-}
-
-pub refused_later : (a b c : Seated) → GoesOn a b → c ≡ stopped_at b → Refused a c
-refused_later a b c first is = record {
-  more = first.more;
-  unanswered = unanswered first.more first.quiet;
-  history = ap (λ (s : Seated). s.history) is ∙ first.history;
-  party = ap (λ (s : Seated). s.party) is ∙ first.party;
-  stopped = ap (λ (s : Seated). s.stopped) is;
-}
 
 pub refused_call : (a b c : Seated) (op : Operation) → Begins a op b → Refused b c → Refused a c
 refused_call a b c op first next =

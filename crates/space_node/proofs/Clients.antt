@@ -42,9 +42,7 @@ last_input p inputs.Tick past = refl
 
 last_output : (p : ℕ) (output : Output) (past : List Entry) → last_call (entry_of p output ∷ past) ≡ last_call past
 last_output p (outputs.Executed number batch) past = refl
-last_output p (outputs.Installed number root) past = refl
-last_output p (outputs.Send receivers frame) past = refl
-last_output p (outputs.Accepted timestamp answer) past = refl
+last_output p _ past = refl
 
 last_outputs : (p : ℕ) (outs : List Output) (past : List Entry) → last_call (after_entries (map (entry_of p) outs) past) ≡ last_call past
 last_outputs p [] past = refl

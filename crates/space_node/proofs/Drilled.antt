@@ -1,12 +1,13 @@
 -- Drills and the faulty replicas that they are of.
-use Rattle.std.proofs.Common.{◌≡◌, ◌≢◌, ℕ, zero, suc, ◌<◌, ◌≤◌, Bool, true, false, ◌||◌, ◌&&◌, not, ◌==◌, List, [], ◌∷◌, length, get_or, refl, sym, ap, ◌∙◌, subst, arith}
+use Rattle.std.proofs.Common.{◌≡◌, ◌≢◌, ℕ, suc, ◌<◌, ◌≤◌, Bool, true, false, ◌||◌, ◌&&◌, not, ◌==◌, List, [], ◌∷◌, refl, sym, ap, ◌∙◌, subst, arith}
 use Rattle.std.specs.Prelude.{◌↔◌, All, IsTrue}
 use Rattle.std.specs.List.{list_any}
-use Rattle.std.proofs.lemmas.Bool.{and_parts, and_from, not-true, eq-eqb, eqb-false, eqb-true, ne_eqb, lt-ltb}
+use Rattle.std.proofs.lemmas.Bool.{and_parts, and_from, not-true, eqb-true}
 use Rattle.std.proofs.lemmas.List.Elements.{All-cons, All-head, All-nil, All-tail}
 use Rattle.std.proofs.lemmas.List.Kept.{AllPairs-cons}
 use Rattle.quorum.specs.Quorum.{member}
-use Rattle.protocol.specs.System.Configuration.{Configuration, IsConfiguration, replicas, is_replica, is_correct_replica, is_faulty_replica}
+use Rattle.protocol.specs.System.Configuration.{Configuration, IsConfiguration, replicas, is_faulty_replica}
+use Rattle.events.proofs.Checked.{not_there, absent}
 use Rattle.space_node.specs.declared.drill.Drill.{Drill}
 use Rattle.space_node.specs.Drills.{AreOfFaulty, IsDrilled, MayStart, each_once, replicas_of}
 use Rattle.space_node.specs.Runs.{IsFaultless}
@@ -16,20 +17,6 @@ use Rattle.space_node.specs.Runs.{IsFaultless}
 pub any_member : (drills : List (ℕ × Drill)) (n : ℕ) → list_any (λ d. d.0 == n) drills ≡ member (replicas_of drills) n
 any_member [] n = refl
 any_member (d ∷ drills) n = ap (λ b. (d.0 == n) || b) (any_member drills n)
-
-either_false : (a b : Bool) → (a || b) ≡ false → (a ≡ false) × (b ≡ false)
-either_false false b e = (refl, e)
-either_false true b e = absurd cc
-
-not_there : (xs : List ℕ) (x : ℕ) → member xs x ≡ false → All (λ y. x ≢ y) xs
-not_there [] x e = λ k d l. absurd (omega arith)
-not_there (y ∷ ys) x e =
-    let both = either_false (y == x) (member ys x) e in
-    All-cons (λ z. x ≢ z) y ys (λ same. eqb-false y x both.0 (sym same)) (not_there ys x both.1)
-
-absent : (xs : List ℕ) (x : ℕ) → All (λ y. x ≢ y) xs → member xs x ≡ false
-absent [] x h = refl
-absent (y ∷ ys) x h = ap (λ b. b || member ys x) (ne_eqb y x (λ e. h 0 y (omega arith) (sym e))) ∙ absent ys x (All-tail (λ z. x ≢ z) y ys h)
 
 above : (xs : List ℕ) (n x : ℕ) → All (λ y. y < n) xs → n ≤ x → member xs x ≡ false
 above xs n x below high = absent xs x (λ k d l. λ same. let low = below k d l in omega (arith, same, low, high))
@@ -56,25 +43,9 @@ once_of c (r ∷ rs) are =
 
 -- ---- and of each of them
 
-or_true : (a b : Bool) → b ≡ true → (a || b) ≡ true
-or_true true b e = refl
-or_true false b e = e
-
-first_member : (x : ℕ) (xs : List ℕ) → member (x ∷ xs) x ≡ true
-first_member x xs = ap (λ (b : Bool). b || member xs x) (eq-eqb x x refl)
-
-member_at : (xs : List ℕ) (k d : ℕ) → k < length xs → member xs (get_or xs k d) ≡ true
-member_at [] k d l = absurd (omega arith)
-member_at (x ∷ xs) zero d l = first_member x xs
-member_at (x ∷ xs) (suc k) d l = or_true (x == get_or xs k d) (member xs (get_or xs k d)) (member_at xs k d (omega arith))
-
 -- each of these below n that is a member of the first is one of the second
 abbrev pub AreDrilled : List ℕ → List ℕ → ℕ → Type 0
 AreDrilled named rs n = (k : ℕ) → k < n → member named k ≡ true → member rs k ≡ true
-
-pub all_drilled : (c : Configuration) (rs : List ℕ) → IsConfiguration c → AreDrilled c.faulty_replicas rs (replicas c) → IsDrilled c rs
-all_drilled c rs valid are = λ k d l.
-    are (get_or c.faulty_replicas k d) (valid.replicas_are k d l) (member_at c.faulty_replicas k d l)
 
 pub one_drilled : (named rs : List ℕ) (n : ℕ) → All (λ r. member rs r ≡ true) named → member named n ≡ true → member rs n ≡ true
 one_drilled [] rs n all e = absurd cc
@@ -89,15 +60,6 @@ pub not_drilled : (c : Configuration) (rs : List ℕ) (n : ℕ) → is_faulty_re
 not_drilled c rs n is none all = let there : member rs n ≡ true = one_drilled c.faulty_replicas rs n all is in cc
 
 -- ---- whether a replica is faulty
-
-not_not : (b : Bool) → not (not b) ≡ b
-not_not true = refl
-not_not false = refl
-
-pub faulty_is : (c : Configuration) (n : ℕ) → n < replicas c → not (is_correct_replica c n) ≡ is_faulty_replica c n
-faulty_is c n low =
-    let r : is_replica c n ≡ true = lt-ltb n (replicas c) low in
-    ap (λ (b : Bool). not (b && not (is_faulty_replica c n))) r ∙ not_not (is_faulty_replica c n)
 
 pub none_faulty : (c : Configuration) (n : ℕ) → IsConfiguration c → replicas c ≤ n → is_faulty_replica c n ≡ false
 none_faulty c n valid high = above c.faulty_replicas (replicas c) n valid.replicas_are high

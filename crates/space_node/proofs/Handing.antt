@@ -1,14 +1,11 @@
 -- Handles that a cluster hands out.
-use Rattle.std.proofs.Common.{◌≡◌, ℕ, zero, suc, List, [], ◌∷◌, drop, take, refl, sym, ap, ◌∙◌, subst}
+use Rattle.std.proofs.Common.{◌≡◌, ℕ, zero, suc, List, [], ◌∷◌, refl, sym, ap, ◌∙◌, subst}
 use Rattle.std.specs.Prelude.{All, Contains, Some, slice_get}
 use Rattle.std.specs.List.{remove}
-use Rattle.std.proofs.lemmas.List.Elements.{All-append, All-contains, All-drop, All-get_or, All-map, All-take}
+use Rattle.std.proofs.lemmas.List.Elements.{All-contains, All-get_or, All-map}
 use Rattle.std.proofs.lemmas.Option.{get_or_from_slice_get, none-some, same_Some, slice_get_within}
 use Rattle.space_node.specs.Places.{HandleAt, HandsOut, Takes, parties_of}
 use Rattle.space_node.specs.Seats.{IsNew, Seated, new_seat}
-
-pub all_but : {X : Type 0} (P : X → Type 0) (xs : List X) (at : ℕ) → All P xs → All P (remove xs at)
-all_but P xs at all = All-append P (take at xs) (drop (suc at) xs) (All-take P at xs all) (All-drop P (suc at) xs all)
 
 takes : (handles : List Seated) (at : ℕ) (s : Seated) → slice_get handles at ≡ Some s → Takes (parties_of handles) s.party (parties_of (remove handles at))
 takes [] at s e = absurd (none-some s e)

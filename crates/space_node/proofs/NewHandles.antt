@@ -1,10 +1,11 @@
 -- The handles of a new cluster: one of each client.
-use Rattle.std.proofs.Common.{◌≡◌, ℕ, zero, suc, ◌+◌, ◌<◌, ◌≤◌, Bool, true, false, cond, ◌||◌, List, [], ◌∷◌, ◌++◌, map, refl, sym, ap, ◌∙◌, arith}
+use Rattle.std.proofs.Common.{◌≡◌, ℕ, zero, suc, ◌+◌, ◌<◌, ◌≤◌, Bool, true, false, cond, List, [], ◌∷◌, ◌++◌, map, refl, sym, ap, ◌∙◌, arith}
 use Rattle.std.specs.Prelude.{filter, nat_le, nat_lt}
 use Rattle.std.specs.List.{range_with_len}
 use Rattle.std.proofs.lemmas.Bool.Decides.{nat_tests}
 use Rattle.std.proofs.lemmas.List.{append-nil, map-append}
 use Rattle.std.proofs.lemmas.List.Elements.{filter-append}
+use Rattle.std.proofs.lemmas.Bool.{or_right}
 use Rattle.protocol.specs.System.Configuration.{Configuration, IsConfiguration, replicas as replicas_of, is_correct, is_correct_replica, is_correct_client}
 use Rattle.journal.specs.Histories.{correct_of, correct_parties, correct_replicas}
 use Rattle.journal.specs.Parts.{Part, fresh}
@@ -34,11 +35,6 @@ a_replica p low =
     let no : nat_le 256 p ≡ false = grind (arith, nat_tests) in
     ap (λ b. step b p []) no
 
-pub a_client : (p : ℕ) → 256 ≤ p → clients_among (p ∷ []) ≡ p ∷ []
-a_client p high =
-    let yes : nat_le 256 p ≡ true = grind (arith, nat_tests) in
-    ap (λ b. step b p []) yes
-
 -- no low number is a client's, whatever its test says
 low_ones : (t : ℕ → Bool) (a n : ℕ) → a + n ≤ 256 → clients_among (filter t (range_with_len a n)) ≡ []
 low_ones t a zero low = refl
@@ -47,10 +43,6 @@ low_ones t a (suc n) low = one (t a) (low_ones t (a + 1) n (omega arith))
     one : (b : Bool) → clients_among (filter t (range_with_len (a + 1) n)) ≡ [] → clients_among (step b a (filter t (range_with_len (a + 1) n))) ≡ []
     one true none = among_first a (filter t (range_with_len (a + 1) n)) ∙ ap (λ ps. ps ++ clients_among (filter t (range_with_len (a + 1) n))) (a_replica a (omega (arith, low))) ∙ none
     one false none = none
-
-or_right : (a b : Bool) → b ≡ true → (a || b) ≡ true
-or_right true b e = refl
-or_right false b e = e
 
 -- if no client is faulty, the clients among the correct parties are all of the configuration's
 pub all_clients : (c : Configuration) → IsConfiguration c → c.faulty_clients ≡ [] → clients_among (correct_parties c) ≡ clients_of c

@@ -1,6 +1,6 @@
 -- The parties of a configuration, and their first seats.
-use Rattle.std.proofs.Common.{◌≡◌, ℕ, zero, suc, ◌+◌, ◌-◌, ◌*◌, ◌<◌, ◌≤◌, ◌⊎◌, ⊎_elim, Bool, true, false, cond, ◌&&◌, ◌||◌, ◌==◌, not, List, [], ◌∷◌, ◌++◌, length, get_or, map, refl, sym, ap, ◌∙◌, subst, arith}
-use Rattle.std.specs.Prelude.{All, nat_lt}
+use Rattle.std.proofs.Common.{◌≡◌, ℕ, zero, suc, ◌+◌, ◌-◌, ◌<◌, ◌≤◌, ◌⊎◌, ⊎_elim, Bool, true, false, cond, ◌&&◌, ◌||◌, ◌==◌, not, List, [], ◌∷◌, ◌++◌, length, get_or, map, refl, sym, ap, ◌∙◌, subst, arith}
+use Rattle.std.specs.Prelude.{All}
 use Rattle.std.specs.List.{range_with_len, remove}
 use Rattle.std.proofs.lemmas.Bool.{le-ltb}
 use Rattle.std.proofs.lemmas.List.{append-nil, get_or-map, length-map, map-append}
@@ -22,18 +22,9 @@ no_replica c p valid high =
     let r : is_replica c p ≡ false = le-ltb p (replicas_of c) (omega arith) in
     ap (λ (b : Bool). b && not (member c.faulty_replicas p)) r
 
-left_true : (a b : Bool) → (a && b) ≡ true → a ≡ true
-left_true true b e = refl
-left_true false b e = absurd cc
-
 right_true : (a b : Bool) → (a && b) ≡ true → b ≡ true
 right_true true b e = e
 right_true false b e = absurd cc
-
-pub is_below : (c : Configuration) (p : ℕ) → is_correct_replica c p ≡ true → p < 3 * c.faults + 1
-is_below c p correct =
-    let t : nat_lt p (replicas_of c) ≡ true = left_true (is_replica c p) (not (member c.faulty_replicas p)) correct in
-    grind (arith, nat_tests)
 
 -- ---- faultless configurations
 
@@ -48,11 +39,6 @@ pub none_named : (n : ℕ) (test : ℕ → Bool) (named : List ℕ) → All (λ 
 none_named n test [] below each = refl
 none_named n test (x ∷ named) below each =
     absurd (not_it (x == x) (member named x) (same x) (right_true (test x) (not (member (x ∷ named) x)) (each x (All-head (λ r. r < n) x named below))))
-
-pub correct_replica : (c : Configuration) (p : ℕ) → c.faulty_replicas ≡ [] → p < replicas_of c → is_correct_replica c p ≡ true
-correct_replica c p none low =
-    let r : is_replica c p ≡ true = grind (arith, nat_tests) in
-    ap (λ (named : List ℕ). is_replica c p && not (member named p)) none ∙ ap (λ (b : Bool). b && true) r
 
 pub correct_client : (c : Configuration) (p : ℕ) → c.faulty_clients ≡ [] → 256 ≤ p → p < 256 + c.clients → is_correct_client c p ≡ true
 correct_client c p none high low =
@@ -129,10 +115,6 @@ order k n h = grind arith
 pub replicas_more : (c : Configuration) (n : ℕ) → AreReplicas c n → is_correct_replica c n ≡ true → AreReplicas c (n + 1)
 replicas_more c n are is k low =
     ⊎_elim (λ (a : k < n). are k a) (λ (a : k ≡ n). subst (λ (j : ℕ). is_correct_replica c j ≡ true) (sym a) is) (order k n low)
-
-pub clients_more : (c : Configuration) (n : ℕ) → AreClients c n → is_correct_client c n ≡ true → AreClients c (n + 1)
-clients_more c n are is k low =
-    ⊎_elim (λ (a : 256 + k < n). are k a) (λ (a : 256 + k ≡ n). subst (λ (j : ℕ). is_correct_client c j ≡ true) (sym a) is) (order (256 + k) n low)
 
 pub no_faulty_replica : (c : Configuration) → IsConfiguration c → AreReplicas c (replicas_of c) → c.faulty_replicas ≡ []
 no_faulty_replica c valid are = none_named (replicas_of c) (is_replica c) c.faulty_replicas valid.replicas_are are

@@ -9,7 +9,6 @@ use Rattle.protocol.specs.Replica.Owed.{IsPromptReplica}
 use Rattle.protocol.specs.Replica.RightReplica.{first_point}
 use Rattle.events.specs.Outputs.{after_entries, entry_of, after_event}
 use Rattle.events.specs.declared.output.Output.{Output}
-use Rattle.journal.specs.Histories.{IsRight}
 use Rattle.journal.specs.Parts.{Part, AreAlike, fresh, longer_part}
 use Rattle.replica.specs.Parted.{DeskStops, FitBoth, FitsDesk, FitsOrderer, ReadLeads}
 use Rattle.replica.specs.State.{DeskPart, OrdererPart}
@@ -17,7 +16,7 @@ use Rattle.desk.specs.State.{DeskData}
 use Rattle.replica.proofs.Prompt.{desks_are_prompt}
 use Rattle.space_node.specs.declared.input.Input.{Input}
 use Rattle.space_node.specs.Seats.{InputLeads, SeatsDesk, input_of}
-use Rattle.space_node.proofs.Events.{ordering_behind, right_replica}
+use Rattle.space_node.proofs.Events.{ordering_behind}
 
 -- ---- an event of ordering, of entries that stand for it
 
@@ -32,9 +31,6 @@ module _ (c : Configuration) (o later_o : OrdererPart) (d later_d : DeskPart) (s
 
   after : after_entries es share.history ≡ after_event share.party (input_of share.party input) outs share.history
   after = ap (λ (xs : List Entry). after_entries xs share.history) are
-
-  pub order_right : IsRight c share.party (after_entries es share.history)
-  order_right = subst (IsRight c share.party) (sym after) (right_replica c share.party _ seats.replica both.0.right)
 
   pub desk_after : is_none later_d.holds ≡ false → SeatsDesk c later_d (longer_part share es)
   desk_after on = record {
@@ -56,9 +52,6 @@ module _ (c : Configuration) (d later : DeskPart) (share : Part) (bytes : List �
     (are : es ≡ Got share.party bytes ∷ map (entry_of share.party) outs) where
   read_fits : FitsDesk c share.party later (after_entries es share.history)
   read_fits = subst (λ (xs : List Entry). FitsDesk c share.party later (after_entries xs share.history)) (sym are) (leads c share.party share.history seats.fits).0
-
-  pub read_right : IsRight c share.party (after_entries es share.history)
-  read_right = right_replica c share.party _ seats.replica read_fits.right
 
   pub desk_after_read : is_none later.holds ≡ false → SeatsDesk c later (longer_part share es)
   desk_after_read on = record {

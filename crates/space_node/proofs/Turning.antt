@@ -8,7 +8,7 @@ use Rattle.tuple_codec.specs.declared.operations.Answer.{Answer}
 use Rattle.terms.specs.declared.order.Mode.TheVariants as modes
 use Rattle.protocol.specs.System.Configuration.{Configuration}
 use Rattle.protocol.specs.System.Trace.{Entry, either, is_output}
-use Rattle.protocol.specs.System.Trace.Entry.{Invoke, Got, Tick, Executed, Installed, Sent, Accepted}
+use Rattle.protocol.specs.System.Trace.Entry.{Invoke, Got, Tick, Executed, Sent, Accepted}
 use Rattle.protocol.specs.Client.RightClient.{IsReaction, MayInput, OpenCall, Reacts, Reaction, Vote, fallback, is_answered, is_complete, last_call, newest_vote, on_got, on_reply, open_call, reaction, went_ordered}
 use Rattle.protocol.specs.Client.RightClient.Reaction.{nothing, asks, accepts}
 use Rattle.events.specs.Outputs.{after_entries, entry_of}
@@ -29,9 +29,7 @@ when_false false A B is x = x
 
 gives_output : (p : ℕ) (output : Output) → is_output (entry_of p output) ≡ true
 gives_output p (outputs.Executed number batch) = refl
-gives_output p (outputs.Installed number root) = refl
-gives_output p (outputs.Send receivers frame) = refl
-gives_output p (outputs.Accepted timestamp answer) = refl
+gives_output p _ = refl
 
 module _ (c : Configuration) (me : ℕ) (react : List Entry → Reaction) where
   gathered : (outs : List Output) (given past : List Entry) → Reacts c me react given (after_entries (map (entry_of me) outs) past) → Reacts c me react (map (entry_of me) outs ++ given) past
@@ -58,12 +56,8 @@ call_timestamp (Invoke client timestamp op ∷ past) call is = go is
   where
     go : Some (record { timestamp = timestamp; op = op }) ≡ Some call → call.timestamp ≡ timestamp
     go same = cc
-call_timestamp (Got p bytes ∷ past) call is = call_timestamp past call is
-call_timestamp (Tick p ∷ past) call is = call_timestamp past call is
-call_timestamp (Executed r i batch ∷ past) call is = call_timestamp past call is
-call_timestamp (Installed r i root ∷ past) call is = call_timestamp past call is
-call_timestamp (Sent p bytes ∷ past) call is = call_timestamp past call is
 call_timestamp (Accepted client timestamp answer ∷ past) call is = absurd cc
+call_timestamp (_ ∷ past) call is = call_timestamp past call is
 
 asks_or_not : (b : Bool) (call : OpenCall) (t : ℕ) (a : Outcome) → cond b (asks modes.Ordered call) nothing ≡ accepts t a → ⊥
 asks_or_not true call t a h = cc
@@ -95,29 +89,19 @@ accepts_last c me (Tick p ∷ past) t a h = absurd (go (open_call past) h)
     go None k = cc
     go (Some call) k = cc
 accepts_last c me (Executed r i batch ∷ past) t a h = absurd cc
-accepts_last c me (Installed r i root ∷ past) t a h = absurd cc
-accepts_last c me (Sent p bytes ∷ past) t a h = absurd cc
-accepts_last c me (Accepted client timestamp answer ∷ past) t a h = absurd cc
+accepts_last c me (_ ∷ past) t a h = absurd cc
 
 -- ---- a reaction makes a turn
 
 sends_nothing : (me : ℕ) (bytes : List ℕ) (outs : List Output) → map (entry_of me) outs ≡ Sent me bytes ∷ [] → AcceptNothing outs
-sends_nothing me bytes [] is = absurd cc
-sends_nothing me bytes (outputs.Executed number batch ∷ outs) is = absurd cc
-sends_nothing me bytes (outputs.Installed number root ∷ outs) is = absurd cc
 sends_nothing me bytes (outputs.Send receivers frame ∷ []) is = ((λ accepted. accepted), tt)
-sends_nothing me bytes (outputs.Send receivers frame ∷ output ∷ outs) is = absurd cc
-sends_nothing me bytes (outputs.Accepted timestamp answer ∷ outs) is = absurd cc
+sends_nothing me bytes _ is = absurd cc
 
 accepts_one : (me k t : ℕ) (a : Outcome) (outs : List Output) → map (entry_of me) outs ≡ Accepted k t a ∷ [] → MakesTurn t outs
-accepts_one me k t a [] is = absurd cc
-accepts_one me k t a (outputs.Executed number batch ∷ outs) is = absurd cc
-accepts_one me k t a (outputs.Installed number root ∷ outs) is = absurd cc
-accepts_one me k t a (outputs.Send receivers frame ∷ outs) is = absurd cc
 accepts_one me k t a (outputs.Accepted timestamp answer ∷ []) is =
     let when : timestamp.0 ≡ t = cc in
     inr (answer, ap (λ (n : ℕ). outputs.Accepted (record { 0 = n }) answer ∷ []) when)
-accepts_one me k t a (outputs.Accepted timestamp answer ∷ output ∷ outs) is = absurd cc
+accepts_one me k t a _ is = absurd cc
 
 makes_turn : (c : Configuration) (me t : ℕ) (r : Reaction) (outs : List Output) → ((k : ℕ) (a : Outcome) → r ≡ accepts k a → k ≡ t) → IsReaction c me r (map (entry_of me) outs) → MakesTurn t outs
 makes_turn c me t nothing [] last is = inl tt

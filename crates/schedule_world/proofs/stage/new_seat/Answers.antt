@@ -1,5 +1,5 @@
 use Rattle.std.proofs.Common.{refl}
-use Rattle.schedule_world.proofs.Attending.{differ}
+use Rattle.std.proofs.lemmas.Bool.{both_ways}
 use Rattle.schedule_world.proofs.stage.new_seat.Goals as goal
 
 pub returns : goal.returns
@@ -8,6 +8,6 @@ returns c = record {
   fits = (
     c.new-client.ensures.fits c.args.config.now (rw (c.new-ring.ensures, c.seed.ensures.value, c.faults.ensures.value, c.clients.ensures.value) refl),
     refl,
-    λ stopped. absurd (differ c.new-client.result.stopped c.new-client.ensures.runs stopped),
+    λ stopped. absurd (both_ways c.new-client.result.stopped c.new-client.ensures.runs stopped),
   );
 }

@@ -1,8 +1,8 @@
 use Rattle.std.proofs.Common.{sym, subst}
+use Rattle.std.proofs.lemmas.Bool.{both_ways}
 use Rattle.replica.specs.State.{has_stopped}
 use Rattle.events.specs.Outputs.{AreSentAsMeant}
 use Rattle.replica.specs.Fits.{EventLeads, me_of}
-use Rattle.schedule_world.proofs.Attending.{differ}
 use Rattle.schedule_world.proofs.Moved.{moves}
 use Rattle.schedule_world.proofs.stage.Stage.step_replica.Goals as goal
 
@@ -10,7 +10,7 @@ pub returns-in-Ok-clause-moves : goal.returns-in-Ok-clause-moves
 returns-in-Ok-clause-moves c =
     moves c.args.self.now.replicas.items c.from.result c.args.replica.0 c.index_mut.result.now c.step.new.self c.args.event c.in-Ok.outputs.items c.from.ensures c.requires.known
     c.index_mut.ensures.value c.step.ensures.number c.in-Ok.ensures.leads c.in-Ok.ensures.meant
-    (λ stopped. absurd (differ (has_stopped c.step.new.self) c.in-Ok.ensures.runs stopped))
+    (λ stopped. absurd (both_ways (has_stopped c.step.new.self) c.in-Ok.ensures.runs stopped))
 
 pub returns-in-Err-clause-moves : goal.returns-in-Err-clause-moves
 returns-in-Err-clause-moves c =
