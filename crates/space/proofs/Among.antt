@@ -37,14 +37,6 @@ open_candidates p es e =
 -- ---- an entry or none
 
 module _ (m : Entry → Bool) where
-  find_before : (xs ys : List Entry) (e : Entry) → find m xs ≡ Some e → find m (xs ++ ys) ≡ Some e
-  find_before [] ys e h = absurd (let g : ⊥ = cc in g)
-  find_before (x ∷ xs) ys e h = go (m x) h (find_before xs ys e)
-    where
-      go : (b : Bool) → cond b (Some x) (find m xs) ≡ Some e → (find m xs ≡ Some e → find m (xs ++ ys) ≡ Some e) → cond b (Some x) (find m (xs ++ ys)) ≡ Some e
-      go true k rest = k
-      go false k rest = rest k
-
   find_behind : (xs ys : List Entry) → find m xs ≡ None → find m (xs ++ ys) ≡ find m ys
   find_behind [] ys h = refl
   find_behind (x ∷ xs) ys h = go (m x) h (find_behind xs ys)
@@ -82,9 +74,6 @@ module _ (es : List Entry) (births : List ℕ) (i b : ℕ) (within : i < length 
   next_entries =
       at_drop_more (entries_at es) births i b within ∙ flat_map-cons (found_at es) (get_or births i b) (drop (i + 1) births)
       ∙ ap (λ x. found_at es x ++ entries_at es (drop (i + 1) births)) (sym is)
-
-  pub find_here : (m : Entry → Bool) (e : Entry) → Some e ≡ find m (found_at es b) → find m (entries_at es (drop i births)) ≡ Some e
-  find_here m e h = ap (find m) next_entries ∙ find_before m (found_at es b) (entries_at es (drop (i + 1) births)) e (sym h)
 
   pub find_next : (m : Entry → Bool) → None ≡ find m (found_at es b) → find m (entries_at es (drop i births)) ≡ find m (entries_at es (drop (i + 1) births))
   find_next m h = ap (find m) next_entries ∙ find_behind m (found_at es b) (entries_at es (drop (i + 1) births)) (sym h)
@@ -147,25 +136,3 @@ module _ (es : List Entry) (births : List ℕ) (i b : ℕ) (within : i < length 
 pub copied_some : (n : ℕ) (xs ys zs : List TupleTree) (t : TupleTree) → (ys ++ t ∷ []) ++ zs ≡ take n xs → xs ≢ []
 copied_some n xs ys zs t e none =
     omega (arith, ap length e, ap length none, length-append (ys ++ t ∷ []) zs, length_push ys t, length-take n xs)
-
--- ---- all entries, one by one
-
-module _ (p : TemplateTree) (t u : List Entry) (x : Entry) (next : t ≡ x ∷ u) where
-  pub found_first : is_match p x.1 ≡ true → find (λ e. is_match p e.1) t ≡ Some x
-  found_first h = ap (find (λ (e : Entry). is_match p e.1)) next ∙ ap (λ (b : Bool). cond b (Some x) (find (λ (e : Entry). is_match p e.1) u)) h
-
-  pub found_later : is_match p x.1 ≡ false → find (λ e. is_match p e.1) t ≡ find (λ e. is_match p e.1) u
-  found_later h = ap (find (λ (e : Entry). is_match p e.1)) next ∙ ap (λ (b : Bool). cond b (Some x) (find (λ (e : Entry). is_match p e.1) u)) h
-
-module _ (p : TemplateTree) (t u : List TupleTree) (x : TupleTree) (next : t ≡ x ∷ u) where
-  pub copied_first : (n : ℕ) (ys : List TupleTree) → is_match p x ≡ true → length ys < n
-      → ys ++ take (n - length ys) (filter (is_match p) t) ≡ (ys ++ x ∷ []) ++ take (n - length (ys ++ x ∷ [])) (filter (is_match p) u)
-  copied_first n ys h l =
-      let rest : List TupleTree = filter (is_match p) u in
-      let left : ℕ = n - length (ys ++ x ∷ []) in
-      let k : n - length ys ≡ suc left = omega (arith, length_push ys x) in
-      ap (λ xs. ys ++ take (n - length ys) (filter (is_match p) xs)) next
-      ∙ ap (λ b. ys ++ take (n - length ys) (cond b (x ∷ rest) rest)) h ∙ ap (λ j. ys ++ take j (x ∷ rest)) k ∙ sym (append_assoc ys (x ∷ []) (take left rest))
-
-  pub copied_later : is_match p x ≡ false → filter (is_match p) t ≡ filter (is_match p) u
-  copied_later h = ap (filter (is_match p)) next ∙ ap (λ b. cond b (x ∷ filter (is_match p) u) (filter (is_match p) u)) h

@@ -9,7 +9,7 @@ use Rattle.std.specs.BTreeMap.{is_at}
 use Rattle.std.proofs.lemmas.Bool.{ne_eqb, le-ltb}
 use Rattle.std.proofs.lemmas.List.{length-map, map-append, get_or-map}
 use Rattle.std.proofs.lemmas.List.Concat.{flat_map-cons}
-use Rattle.std.proofs.lemmas.List.Elements.{All-head, All-tail, All-cons, All-nil, All-map, All-filter, filter-append}
+use Rattle.std.proofs.lemmas.List.Elements.{All-head, All-tail, All-cons, All-nil, filter-append}
 use Rattle.std.proofs.lemmas.List.Kept.{AllPairs-filter}
 use Rattle.tuple_tree.specs.Items.{none}
 use Rattle.tuple_tree.specs.Values.{TupleTree}
@@ -35,9 +35,6 @@ module _ (test : Entry → Bool) where
       ap (map (λ (x : Entry). x.0)) (filter-append test es (e ∷ []))
       ∙ map-append (λ (x : Entry). x.0) (filter test es) (filter test (e ∷ []))
       ∙ ap (λ xs. births_by test es ++ xs) (births_by-cons e [])
-
-  pub All-births : (P : ℕ → Type 0) (es : List Entry) → All (λ e. P e.0) es → All P (births_by test es)
-  All-births P es h = All-map P (λ e. e.0) (filter test es) (All-filter test (λ e. P e.0) es h)
 
   pub rising_births : (es : List Entry) → AllPairs (λ e f. e.0 < f.0) es → AllPairs (λ a b. a < b) (births_by test es)
   rising_births es h i j d l m =
@@ -109,9 +106,6 @@ module _ (key_of : Entry → List ℕ) (old : Lists) (es : List Entry) (filed : 
       h q ∙ ap (λ xs. xs ++ cond (bytes_eq key q) (e.0 ∷ []) []) (filed q)
       ∙ ap (λ k. births_by (λ x. bytes_eq (key_of x) q) es ++ cond (bytes_eq k q) (e.0 ∷ []) []) is
       ∙ sym (births_by_push (λ x. bytes_eq (key_of x) q) es e)
-
-  pub IsFiled-same : (new : Lists) → ((q : List ℕ) → births_at new q ≡ births_at old q) → IsFiled key_of new es
-  IsFiled-same new h q = h q ∙ filed q
 
   pub filed_rising : (q : List ℕ) → AllPairs (λ e f. e.0 < f.0) es → AllPairs (λ a b. a < b) (births_at old q)
   filed_rising q h = subst (AllPairs (λ a b. a < b)) (sym (filed q)) (rising_births (λ e. bytes_eq (key_of e) q) es h)

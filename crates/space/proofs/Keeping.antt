@@ -190,9 +190,6 @@ read_same ts client o h = go (refuses ts.version client o)
 
 -- The table of how many tuples lie on each page.
 module _ (version : Version) (es : List Entry) (next : ℕ) (counts : List ℕ) (h : IsCounted version es next counts) where
-  pub few_on_page : (birth : ℕ) → get_or counts (birth % 256) 0 ≤ 64
-  few_on_page birth = let most = h.state.pages (birth % 256) in let e = h.counted (birth % 256) (omega arith) in omega arith
-
   pub birth_by_counts : (s : SpaceState) → s ≡ record { version = version; entries = es; next = next } → first_passing (λ birth. nat_lt (get_or counts (birth % 256) 0) 64) 256 next ≡ birth_of s
   birth_by_counts s e =
       first_passing-agree (λ birth. nat_lt (get_or counts (birth % 256) 0) 64) (has_page_room es) (λ birth. ap (λ n. nat_lt n 64) (h.counted (birth % 256) (omega arith))) 256 next

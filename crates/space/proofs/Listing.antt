@@ -6,9 +6,6 @@ use Rattle.std.proofs.lemmas.Bool.{ltb-true, ltb-false}
 use Rattle.space.specs.Applying.{without_first}
 
 module _ {X : Type 0} (p : X → Bool) where
-  find_passing : (x : X) (xs : List X) → p x ≡ true → find p (x ∷ xs) ≡ Some x
-  find_passing x xs t = ap (λ b. cond b (Some x) (find p xs)) t
-
   pub position-first : (xs : List X) (i : ℕ) → position p xs ≡ Some i → (i ≡ position_or_len p xs) × (i < length xs)
   position-first xs i e = go (nat_lt (position_or_len p xs) (length xs)) refl e
     where

@@ -1,14 +1,14 @@
 -- A page is read entry by entry.
 use Rattle.std.proofs.Common.{◌≡◌, ◌≢◌, ℕ, ◌+◌, ◌%◌, ◌^◌, ◌≤◌, ◌<◌, Bool, true, false, cond, List, [], ◌∷◌, ◌++◌, length, get_or, refl, sym, ap, subst, ◌∙◌, arith, eq-eqb, append_assoc, length-append}
-use Rattle.std.specs.Prelude.{◌==◌, All, AllPairs, filter}
+use Rattle.std.specs.Prelude.{◌==◌, All, filter}
 use Rattle.std.proofs.lemmas.Bool.{ne_eqb}
 use Rattle.std.proofs.lemmas.List.{append-nil, length_push, get_or_push, get_or_append_left, get_or_at, get_or_default}
-use Rattle.std.proofs.lemmas.List.Elements.{All-nil, All-head, All-tail, All-cons, All-push, All-weaker}
+use Rattle.std.proofs.lemmas.List.Elements.{All-head, All-tail, All-cons, All-push, All-weaker}
 use Rattle.std.proofs.lemmas.List.Quantifiers.{all_pairs_push}
 use Rattle.tuple_tree.specs.Values.{IsTuple}
 use Rattle.space.specs.Births.{Entry}
 use Rattle.space.specs.Pages.{entry_text, entries_text, on_page}
-use Rattle.space.specs.Reading.{IsEntry, IsEntryOf, IsPage, IsAdded, IsPageRead, IsFrontRead}
+use Rattle.space.specs.Reading.{IsEntry, IsEntryOf, IsPage, IsAdded, IsFrontRead}
 use Rattle.space.specs.declared.version.Version.{Version}
 use Rattle.space.proofs.Determining.{entry_split, entries_none}
 use Rattle.space.proofs.Texts.{entries_text_push}
@@ -31,24 +31,8 @@ none_here : (page : ℕ) (e : Entry) → e.0 % 256 ≢ page → on_page page (e 
 unfolding on_page
 none_here page e h = ap (λ b. cond b (e ∷ []) []) (ne_eqb (e.0 % 256) page h)
 
-pub entry_fits : (page least next : ℕ) (e : Entry) → next < 2 ^ 64 → IsEntryOf page least next e → IsEntry e
-entry_fits page least next e l h = let b = h.below in record { fits = omega arith; tuple = h.tuple }
-
 pub IsPage-fits : (page next : ℕ) (es : List Entry) → next < 2 ^ 64 → IsPage page next es → All IsEntry es
 IsPage-fits page next es l h k d m = let b = h.below_next k d m in record { fits = omega arith; tuple = h.tuples k d m }
-
-pub IsFrontRead-none : (v : Version) (page next : ℕ) (text : List ℕ) (old : List Entry) → AllPairs (λ e f. e.0 < f.0) old → on_page page old ≡ [] → IsFrontRead v page next text old old text 0 0
-IsFrontRead-none v page next text old rises empty =
-    let none : IsPage page next [] = record { rising = λ i j d l m. absurd (omega arith); below_next = All-nil _; here = All-nil _; few = omega arith; tuples = All-nil _ } in
-    record {
-      rising = rises;
-      valid = subst (IsPage page next) (sym empty) none;
-      spelled = ap (λ es. entries_text v es ++ text) (sym empty);
-      others = λ p other. refl;
-      counted = ap length (sym empty);
-      above = subst (All (λ e. e.0 < 0)) (sym empty) (All-nil _);
-      tight = λ n a. omega arith;
-    }
 
 module _ (v : Version) (page next : ℕ) (text : List ℕ) (old es : List Entry) (rest : List ℕ) (count least : ℕ) (h : IsFrontRead v page next text old es rest count least) where
   -- what is on the page already comes before what may follow
@@ -83,9 +67,6 @@ module _ (v : Version) (page next : ℕ) (text : List ℕ) (old es : List Entry)
             let d : e.0 < n = subst (λ x. x.0 < n) (get_or_push xs e e (length xs) refl) c in
             omega arith;
       }
-
-  pub IsPageRead-all : rest ≡ [] → IsPageRead v page next text old es
-  IsPageRead-all none = record { rising = h.rising; valid = h.valid; spelled = h.spelled ∙ ap (λ bs. entries_text v (on_page page es) ++ bs) none ∙ append-nil _; others = h.others }
 
 -- Texts where one goes on as the other: so do the entries.
 prefix : (w : Version) (es fs : List Entry) (rest : List ℕ) → All IsEntry es → All IsEntry fs → entries_text w es ≡ entries_text w fs ++ rest → (more : List Entry) × (es ≡ fs ++ more) × (rest ≡ entries_text w more)

@@ -129,12 +129,6 @@ passed (x ∷ xs) (suc i) b e l is other =
     let n : suc i + 1 ≡ suc (i + 1) = omega arith in
     passed xs i b e (omega arith) is other ∙ ap (λ (k : ℕ). lookup (λ k. b == k) (drop k (x ∷ xs))) (sym n)
 
-pub lies_there : (es : List Entry) (i b : ℕ) (e : Entry) → i < length es → e ≡ get_or es i e → e.0 ≡ b → LiesAt es b i
-lies_there es i b e l is at = record {
-  within = l;
-  birth_there = ap (λ x. x.0) (get_or_default es i (b, none) e l ∙ sym is) ∙ at;
-}
-
 -- the entry at the place of a birth
 pub there : (es : List Entry) (i b : ℕ) (e : Entry) → LiesAt es b i → e ≡ get_or es i e → e.0 ≡ b
 there es i b e h is = ap (λ x. x.0) (is ∙ get_or_default es i e (b, none) h.within) ∙ h.birth_there

@@ -126,6 +126,3 @@ pub ArePages-one : (texts : List (List ℕ)) (header : List ℕ) (s t : SpaceSta
 ArePages-one texts header s t m n h k =
     let d = pages_determine s t m n h.state k.state (sym h.heading ∙ k.heading) (λ page l. sym (h.each page l) ∙ k.each page l) in
     (d.1, d.0)
-
-pub IsHeader-of : (texts : List (List ℕ)) (header : List ℕ) (s : SpaceState) (number : ℕ) → ArePages texts header s number → IsHeader header s.version number s.next
-IsHeader-of texts header s number h = record { spelled = h.heading; births = h.state.births; few = h.state.few }

@@ -16,7 +16,7 @@ use Rattle.space.specs.Applying.{most_tuples, without_first}
 use Rattle.space.specs.Births.{Entry, SpaceState, IsState, page_count, tuples_of, first_passing, birth_of, oldest_births, with_birth}
 use Rattle.space.specs.Candidates.{is_candidate, candidates_of}
 use Rattle.space.specs.Counted.{IsIndexed}
-use Rattle.space.specs.Filing.{births_by, births_on, IsIndexOf}
+use Rattle.space.specs.Filing.{births_on, IsIndexOf}
 use Rattle.space.specs.Found.{entries_at}
 use Rattle.space.specs.Pages.{on_page, entries_text, page_text, text_of_oldest}
 use Rattle.space.specs.declared.index.Index.{Index}
@@ -75,11 +75,6 @@ module _ (s : SpaceState) (h : IsState s) where
       passing (e ∷ es) =
           go e (filter (λ (x : Entry). is_candidate p x.1) es) (is_candidate p e.1) (match_is_candidate p e.1)
           ∙ ap (λ (xs : List Entry). cond (is_match p e.1) (e ∷ xs) xs) (passing es)
-
-  -- the births of a page lead to its tuples
-  pub page_among : (page : ℕ) → entries_text s.version (entries_at s.entries (births_by (λ e. e.0 % 256 == page) s.entries)) ≡ page_text s page
-  unfolding on_page
-  page_among page = ap (entries_text s.version) (entries_of_births (λ e. e.0 % 256 == page) s.entries h.rising)
 
   -- so do those from any of them on
   page_from : (page count : ℕ) → entries_at s.entries (drop count (births_on page s.entries)) ≡ drop count (on_page page s.entries)

@@ -1,22 +1,17 @@
 -- The bytes after a value, without the value itself.
 use Rattle.std.proofs.Common.{◌≡◌, ◌↔◌, ℕ, ◌-◌, ◌≤◌, List, [], ◌∷◌, ◌++◌, length, take, drop, Some, None, IsTrue, Bool, true, false, ap, sym, refl, ◌∙◌, arith}
-use Rattle.std.proofs.lemmas.Bool.{le-ltb, eqb-true}
-use lib.Dec.{ltb, eqb}
+use Rattle.std.proofs.lemmas.Bool.{eqb-true}
+use lib.Dec.{eqb}
 use Rattle.tuple_tree.specs.Values.{AreBytes}
 use Rattle.tuple_codec.specs.Operations.{cas}
-use Rattle.tuple_tree.specs.Reading.{◌>>=◌, Reader, read_as, rest_of, more, byte_at, framed, tuple_at, template_at}
-use Rattle.tuple_codec.specs.Reading.{cas_at, with_tuple, tuples_at}
+use Rattle.tuple_tree.specs.Reading.{◌>>=◌, Reader, read_as, rest_of, framed, tuple_at, template_at}
+use Rattle.tuple_codec.specs.Reading.{cas_at}
 use Rattle.tuple_codec.specs.Spelling.{Spells, FrontSpells}
 use Rattle.tuple_codec.specs.declared.bad.Bad.TheVariants as bad
 use Rattle.tuple_tree.proofs.Readers.{Found}
 use Rattle.tuple_codec.proofs.Steps.{frame_read}
 use Rattle.tuple_codec.proofs.Grammar.{Reads, front, only_err, all_spelled, all_read}
 use Rattle.tuple_tree.proofs.Skipping.{rest_some, rest_none, rest_as}
-
-pub skip_whole_tuples : (bs front rest : List ℕ) (n i : ℕ) → byte_at bs ≡ Some (n, front) → n ≤ 64 → rest_of (more tuple_at with_tuple (n - i) [] rest) ≡ rest_of (more tuple_at with_tuple n [] front)
-    → rest_of (more tuple_at with_tuple (n - i) [] rest) ≡ rest_of (tuples_at bs)
-unfolding tuples_at
-skip_whole_tuples bs front rest n i e p h = let l : ltb 64 n ≡ false = le-ltb 64 n p in h ∙ sym (rw (e, l) refl)
 
 -- Within the first bytes.
 pub frame_skip : {V : Type 0} (IsValue : V → Type 0) (spelling : V → List ℕ) (limit : ℕ) (at : Reader V) (bs front rest : List ℕ) → Found IsValue spelling at → AreBytes bs → front ≡ take limit bs → rest_of (at front) ≡ Some rest

@@ -114,10 +114,6 @@ blanks_again free (b ∷ w) u h k =
     let e : (b == 32) ≡ true = ap (λ c. c == 32) h.0 in
     ap (λ s. cond s (blanks true (w ++ u)) (got free (b ∷ w ++ u))) e ∙ blanks_again true w u h.1 k ∙ ap (λ v. got v u) (freed_true w)
 
-pub word_again : (cs u : List ℕ) → word cs (cs ++ u) ≡ got true u
-word_again [] u = refl
-word_again (c ∷ cs) u = ap (λ s. cond s (word cs (cs ++ u)) (stop BadByte (c ∷ cs ++ u))) (eq-eqb c c refl) ∙ word_again cs u
-
 pub gap_again : (w u : List ℕ) → IsGap w → NoBlank u → gap (w ++ u) ≡ got true u
 gap_again [] u h k = absurd (let p : 0 < 0 = h.0 in omega arith)
 gap_again (b ∷ w) u h k = ap (λ y. y >>= λ free rest. if free then got true rest else stop BadByte rest) (blanks_again false (b ∷ w) u h.1 k)

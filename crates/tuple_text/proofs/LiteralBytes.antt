@@ -97,13 +97,6 @@ unfolding bytes_literal
 bytes_right [] = stuck_first BeginsByteString [] ([], 120 ∷ [], (refl, no_bytes))
 bytes_right (b ∷ bs) = letter_case b bs (b == 120) refl
 
--- a literal begins with this first byte
-pub bytes_starts : (c : Limits) → BeginsByteString c (120 ∷ [])
-bytes_starts c = ([], [], (refl, no_bytes))
-
-pub bytes_head : (s : List ℕ) → (t : List ℕ) × (datum_text (bytes s) ≡ 120 ∷ t)
-bytes_head s = (flat_map hex_pair s, refl)
-
 -- Again: the text of a byte string, and something that doesn't go on with a hexadecimal digit.
 pub pairs_end : (s u : List ℕ) → NoHex u → pairs s None u ≡ got s u
 pairs_end s [] h = refl

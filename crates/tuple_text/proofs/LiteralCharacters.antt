@@ -111,9 +111,6 @@ between_is low high b p q = and_from _ _ (le-leb low b p) (le-leb b high q)
 pub between_parts : (low high b : ℕ) → is_between low high b ≡ true → (low ≤ b) × (b ≤ high)
 between_parts low high b e = let p = and_parts (nat_le low b) (nat_le b high) e in (leb-true low b p.0, leb-true b high p.1)
 
-pub below_between : (low high b : ℕ) → b < low → is_between low high b ≡ false
-below_between low high b p = and_left (nat_le low b) (nat_le b high) (lt-leb low b p)
-
 pub above_between : (low high b : ℕ) → high < b → is_between low high b ≡ false
 above_between low high b p = and_right (nat_le low b) (nat_le b high) (lt-leb b high p)
 

@@ -290,13 +290,6 @@ unfolding text_literal
 text_right [] = stuck_first BeginsTextLiteral [] ([], 34 ∷ 34 ∷ [], (refl, ([], (refl, refl))))
 text_right (b ∷ bs) = quoted b bs (b == 34) refl
 
--- a literal begins with this first byte
-pub text_starts : (c : Limits) → BeginsTextLiteral c (34 ∷ [])
-text_starts c = ([], 34 ∷ [], (refl, ([], (refl, refl))))
-
-pub text_head : (s : List ℕ) → (t : List ℕ) × (datum_text (text s) ≡ 34 ∷ t)
-text_head s = (flat_map escaped s ++ 34 ∷ [], refl)
-
 -- Wherever a character is expected, the bytes w are read as t.
 abbrev Reads : List ℕ → List ℕ → Type 0
 Reads w t = (s u : List ℕ) → text_from Character s (w ++ u) ≡ text_from Character (s ++ t) u

@@ -10,10 +10,6 @@ SameHead [] (b ∷ u) = ⊥
 SameHead (a ∷ t) [] = ⊥
 SameHead (a ∷ t) (b ∷ u) = a ≡ b
 
-pub same_head : (bs : List ℕ) → SameHead bs bs
-same_head [] = tt
-same_head (b ∷ bs) = refl
-
 pub same_front : (w t u : List ℕ) → SameHead t u → SameHead (w ++ t) (w ++ u)
 same_front [] t u h = h
 same_front (a ∷ w) t u h = refl

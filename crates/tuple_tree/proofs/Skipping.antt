@@ -1,10 +1,8 @@
 -- The bytes after a value, without the value itself.
-use Rattle.std.proofs.Common.{◌≡◌, ℕ, zero, suc, ◌+◌, ◌-◌, ◌<◌, ◌≤◌, List, Option, Some, None, false, ap, sym, refl, ◌∙◌}
-use Rattle.std.proofs.lemmas.Bool.{le-ltb}
-use lib.Dec.{ltb}
-use Rattle.tuple_tree.specs.Items.{Item, leaf, inner, none, with_last}
-use Rattle.tuple_tree.specs.Reading.{◌>>=◌, Reader, rest_of, more, byte_at, items_with, item_at, items_at}
-use Rattle.tuple_tree.proofs.Steps.{step, at_leaf, at_five, inner_below}
+use Rattle.std.proofs.Common.{◌≡◌, ℕ, zero, suc, ◌+◌, ◌-◌, ◌<◌, List, Option, Some, None, ap, sym, refl, ◌∙◌}
+use Rattle.tuple_tree.specs.Items.{inner}
+use Rattle.tuple_tree.specs.Reading.{◌>>=◌, Reader, rest_of, more, byte_at, item_at, items_at}
+use Rattle.tuple_tree.proofs.Steps.{step, at_five, inner_below}
 
 pub rest_some : {A : Type 0} (o : Option (A × List ℕ)) (rest : List ℕ) → rest_of o ≡ Some rest → (x : A) × (o ≡ Some (x, rest))
 rest_some None rest e = absurd (let g : ⊥ = cc in g)
@@ -35,18 +33,6 @@ module _ {X S : Type 0} (at : Reader X) (grow : S → X → S) where
       let l : more at grow (n - i) s bs ≡ more at grow (n - (i + 1)) (grow s x.0) after = step at grow n i s bs p ∙ ap (λ o. o >>= λ x. more at grow (n - (i + 1)) (grow s x.0) x.1) x.1 in
       rest_more (n - (i + 1)) s (grow s x.0) after ∙ sym (ap rest_of l)
 
-  pub skip_fails : (n i : ℕ) (s : S) (bs : List ℕ) → i < n → rest_of (at bs) ≡ None → rest_of (more at grow (n - i) s bs) ≡ None
-  skip_fails n i s bs p e = ap rest_of (step at grow n i s bs p ∙ ap (λ o. o >>= λ x. more at grow (n - (i + 1)) (grow s x.0) x.1) (rest_none (at bs) e))
-
--- the whole list, from the turn that the loop has reached
-pub skip_whole : {L : Type 0} (at : Reader (Item L)) (bs front rest : List ℕ) (n i : ℕ) → byte_at bs ≡ Some (n, front) → n ≤ 32 → rest_of (more at with_last (n - i) none rest) ≡ rest_of (more at with_last n none front)
-    → rest_of (more at with_last (n - i) none rest) ≡ rest_of (items_with at bs)
-unfolding items_with
-skip_whole at bs front rest n i e p h = let l : ltb 32 n ≡ false = le-ltb 32 n p in h ∙ sym (rw (e, l) refl)
-
 module _ {L : Type 0} (leaf_at : ℕ → Reader L) where
-  pub skip_leaf : (levels tag : ℕ) (bs front : List ℕ) → byte_at bs ≡ Some (tag, front) → (tag ≡ 5 → ⊥) → rest_of (item_at leaf_at levels bs) ≡ rest_of (leaf_at tag front)
-  skip_leaf levels tag bs front e ne = ap rest_of (at_leaf leaf_at levels tag bs front e ne) ∙ rest_as leaf (leaf_at tag front)
-
   pub skip_five : (levels tag : ℕ) (bs front : List ℕ) → byte_at bs ≡ Some (tag, front) → tag ≡ 5 → 0 < levels → rest_of (item_at leaf_at levels bs) ≡ rest_of (items_at leaf_at (levels - 1) front)
   skip_five levels tag bs front e f p = ap rest_of (at_five leaf_at levels tag bs front e f ∙ inner_below leaf_at levels front p) ∙ rest_as inner (items_at leaf_at (levels - 1) front)

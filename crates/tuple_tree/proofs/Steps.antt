@@ -1,12 +1,11 @@
 -- Steps of reading.
-use Rattle.std.proofs.Common.{◌≡◌, ℕ, zero, suc, ◌+◌, ◌-◌, ◌<◌, ◌≤◌, List, [], ◌∷◌, length, Option, Some, None, Bool, true, false, ap, refl, sym, ◌∙◌, arith}
+use Rattle.std.proofs.Common.{◌≡◌, ℕ, zero, suc, ◌+◌, ◌-◌, ◌<◌, ◌≤◌, List, Option, Some, None, Bool, true, false, ap, refl, sym, ◌∙◌, arith}
 use Rattle.std.proofs.lemmas.Bool.{le-ltb, eqb-true}
 use Rattle.std.proofs.lemmas.Str.{is_utf8-from_IsUtf8, IsUtf8-from_is_utf8}
 use Rattle.std.specs.Str.{IsUtf8, is_utf8}
 use lib.Dec.{ltb, eqb}
 use Rattle.tuple_tree.specs.Items.{Item, leaf, inner, Items, none, with_last}
 use Rattle.tuple_tree.specs.Reading.{◌>>=◌, Reader, read_as, more, byte_at, string_at, text_at, item_with, items_with, nothing, inner_at, item_at, items_at}
-use Rattle.tuple_tree.proofs.Readers.{parts}
 
 pub text_there : (bs s rest : List ℕ) → string_at bs ≡ Some (s, rest) → IsUtf8 s → text_at bs ≡ Some (s, rest)
 unfolding text_at
@@ -20,10 +19,6 @@ is_not_utf8 s refutes =
 pub text_not_there : (bs s rest : List ℕ) → string_at bs ≡ Some (s, rest) → ¬ (IsUtf8 s) → text_at bs ≡ None
 unfolding text_at
 text_not_there bs s rest e u = rw (e, is_not_utf8 s u) refl
-
-pub byte_length : (bs front : List ℕ) (n : ℕ) → byte_at bs ≡ Some (n, front) → length bs ≡ length front + 1
-byte_length [] front n e = absurd (let g : ⊥ = cc in g)
-byte_length (b ∷ bs) front n e = omega (arith, ap length (parts e).1)
 
 -- Readers of several values in a loop, at each step of the loop.
 module _ {X S : Type 0} (at : Reader X) (grow : S → X → S) where
