@@ -13,7 +13,7 @@ use Rattle.events.specs.declared.output.Output.{Output}
 use Rattle.events.specs.Outputs.{entry_of, after_entries}
 use Rattle.client_cert.specs.State.{CallState, ClientState, me_of, called, went}
 use Rattle.client_cert.specs.Fits.{Runs, Fits}
-use Rattle.client_cert.specs.Steps.{Leads, Weighs, Becomes, Keeps, Asks}
+use Rattle.client_cert.specs.Steps.{HistoryStaysRight, Weighs, Becomes, Keeps, Asks}
 use Rattle.client_cert.proofs.Holding.{holds_begun, holds_sent}
 use Rattle.client_cert.proofs.Fitting.{gives_request, true_not}
 use Rattle.client_cert.proofs.Stepping.{fits_moved, nothing_given, request_given, answer_given, got_unasked, tick_unasked, tick_asked, stops_got, stops_tick}
@@ -22,16 +22,16 @@ use Rattle.client_cert.proofs.Stepping.{fits_moved, nothing_given, request_given
 one_output : (c : Configuration) (new : ClientState) (es : List Entry) (e : Entry) (now : List Entry) → es ≡ e ∷ [] → Fits c new (e ∷ now) → Fits c new (after_entries es now)
 one_output c new es e now is f = subst (λ (xs : List Entry). Fits c new (after_entries xs now)) (sym is) f
 
-pub got_none_leads : (old new : ClientState) (bytes : List ℕ) → old.stopped ≡ false → old.call ≡ None → Becomes old new None → Leads old (Got (me_of old) bytes) [] new
+pub got_none_leads : (old new : ClientState) (bytes : List ℕ) → old.stopped ≡ false → old.call ≡ None → Becomes old new None → HistoryStaysRight old (Got (me_of old) bytes) [] new
 got_none_leads old new bytes runs is b c history f = got_unasked c old new history f runs bytes is b
 
 pub got_nothing_leads : (old new : ClientState) (call more : CallState) (bytes : List ℕ) → old.stopped ≡ false → old.call ≡ Some call
-    → Weighs old.membership (me_of old) old.calls call bytes more nothing → Becomes old new (Some more) → Leads old (Got (me_of old) bytes) [] new
+    → Weighs old.membership (me_of old) old.calls call bytes more nothing → Becomes old new (Some more) → HistoryStaysRight old (Got (me_of old) bytes) [] new
 got_nothing_leads old new call more bytes runs is w b c history f = nothing_given c old new history f runs call more bytes is w b
 
 pub got_answer_leads : (old new : ClientState) (call more : CallState) (bytes : List ℕ) (answer : Outcome) (outs : List Output) → old.stopped ≡ false → old.call ≡ Some call
     → Weighs old.membership (me_of old) old.calls call bytes more (accepts old.calls answer) → map (entry_of (me_of old)) outs ≡ Accepted (me_of old - 256) old.calls answer ∷ []
-    → Becomes old new None → Leads old (Got (me_of old) bytes) outs new
+    → Becomes old new None → HistoryStaysRight old (Got (me_of old) bytes) outs new
 got_answer_leads old new call more bytes answer outs runs is w given b c history f =
     one_output c new (map (entry_of (me_of old)) outs) (Accepted (me_of old - 256) old.calls answer) (Got (me_of old) bytes ∷ history) given
     (answer_given c old new history f runs call more bytes is answer w b)
@@ -41,7 +41,7 @@ same_call x y e = cc
 
 pub got_asks_leads : (old mid new : ClientState) (call more : CallState) (bytes : List ℕ) (outs : List Output) → old.stopped ≡ false → old.call ≡ Some call
     → Weighs old.membership (me_of old) old.calls call bytes more (asks modes.Ordered (record { timestamp = old.calls; op = more.op }))
-    → mid ≡ record old { call = Some more } → Asks mid modes.Ordered outs new → Leads old (Got (me_of old) bytes) outs new
+    → mid ≡ record old { call = Some more } → Asks mid modes.Ordered outs new → HistoryStaysRight old (Got (me_of old) bytes) outs new
 got_asks_leads old mid new call more bytes outs runs is w e a c history f = go (subst (λ m. Asks m modes.Ordered outs new) e a)
   where
     go : Asks (record old { call = Some more }) modes.Ordered outs new → Fits c new (after_entries (map (entry_of (me_of old)) outs) (Got (me_of old) bytes ∷ history))
@@ -51,10 +51,10 @@ got_asks_leads old mid new call more bytes outs runs is w e a c history f = go (
         (request_given c old new history f runs call more bytes is x.text w (rw same x.asks)
         (record { number = x.becomes.number; membership = x.becomes.membership; calls = x.becomes.calls; call_is = rw same x.becomes.call_is }))
 
-pub retry_none_leads : (old new : ClientState) → old.stopped ≡ false → old.call ≡ None → Becomes old new None → Leads old (Tick (me_of old)) [] new
+pub retry_none_leads : (old new : ClientState) → old.stopped ≡ false → old.call ≡ None → Becomes old new None → HistoryStaysRight old (Tick (me_of old)) [] new
 retry_none_leads old new runs is b c history f = tick_unasked c old new history f runs is b
 
-pub retry_leads : (old new : ClientState) (outs : List Output) → old.stopped ≡ false → Asks old modes.Ordered outs new → Leads old (Tick (me_of old)) outs new
+pub retry_leads : (old new : ClientState) (outs : List Output) → old.stopped ≡ false → Asks old modes.Ordered outs new → HistoryStaysRight old (Tick (me_of old)) outs new
 retry_leads old new outs runs a c history f =
     one_output c new (map (entry_of (me_of old)) outs) (Sent (me_of old) a.text) (Tick (me_of old) ∷ history) a.given
     (tick_asked c old new history f runs a.call a.text a.was a.asks a.becomes)
@@ -81,7 +81,7 @@ abbrev first_call : Operation → CallState
 first_call op = record { op = op; ordered = false; ordered_ballots = []; read_ballots = [] }
 
 pub call_leads : (old mid new : ClientState) (op : Operation) (mode : Mode) (outs : List Output) → IsOperation op → is_some old.call ≡ false → old.stopped ≡ false
-    → mid ≡ called (suc old.calls) op old → mode ≡ first_mode op → Asks mid mode outs new → Leads old (Invoke old.number (suc old.calls) op) outs new
+    → mid ≡ called (suc old.calls) op old → mode ≡ first_mode op → Asks mid mode outs new → HistoryStaysRight old (Invoke old.number (suc old.calls) op) outs new
 call_leads old mid new op mode outs is none runs e kind a c history f = go (subst (λ m. Asks m mode outs new) e a)
   where
     go : Asks (called (suc old.calls) op old) mode outs new → Fits c new (after_entries (map (entry_of (me_of old)) outs) (Invoke old.number (suc old.calls) op ∷ history))
@@ -105,7 +105,7 @@ pub record Ends (old new : ClientState) : Type 0 where
   pub is_open : is_some new.call ≡ true
   pub stopped : new.stopped ≡ true
 
-call_stops : (old new : ClientState) (op : Operation) → IsOperation op → is_some old.call ≡ false → Ends old new → Leads old (Invoke old.number (suc old.calls) op) [] new
+call_stops : (old new : ClientState) (op : Operation) → IsOperation op → is_some old.call ≡ false → Ends old new → HistoryStaysRight old (Invoke old.number (suc old.calls) op) [] new
 call_stops old new op is none e c history f =
     record {
       members_are = f.members_are ∙ sym e.membership;
@@ -116,27 +116,27 @@ call_stops old new op is none e c history f =
     }
 
 pub call_ends : (old new : ClientState) (op : Operation) → IsOperation op → is_some old.call ≡ false → new ≡ called (suc old.calls) op (record old { stopped = true })
-    → Leads old (Invoke old.number (suc old.calls) op) [] new
+    → HistoryStaysRight old (Invoke old.number (suc old.calls) op) [] new
 call_ends old new op is none e =
-    let P : ClientState → Type 0 = λ s. Leads old (Invoke old.number (suc old.calls) op) [] s in
+    let P : ClientState → Type 0 = λ s. HistoryStaysRight old (Invoke old.number (suc old.calls) op) [] s in
     subst P (sym e) (call_stops old (called (suc old.calls) op (record old { stopped = true })) op is none (record { number = refl; membership = refl; calls = refl; is_open = refl; stopped = refl }))
 
 pub call_fails : (old mid last new : ClientState) (op : Operation) → IsOperation op → is_some old.call ≡ false → mid ≡ called (suc old.calls) op old → Keeps mid last → new ≡ record last { stopped = true }
-    → Leads old (Invoke old.number (suc old.calls) op) [] new
+    → HistoryStaysRight old (Invoke old.number (suc old.calls) op) [] new
 call_fails old mid last new op is none e k f =
-    let P : ClientState → Type 0 = λ s. Leads old (Invoke old.number (suc old.calls) op) [] s in
+    let P : ClientState → Type 0 = λ s. HistoryStaysRight old (Invoke old.number (suc old.calls) op) [] s in
     let g : Keeps (called (suc old.calls) op old) last = subst (λ m. Keeps m last) e k in
     subst P (sym f) (call_stops old (record last { stopped = true }) op is none (record { number = g.number; membership = g.membership; calls = g.calls; is_open = g.is_open; stopped = refl }))
 
 -- ---- events at which the client stops
 
-pub got_fails : (old mid new : ClientState) (bytes : List ℕ) → Keeps old mid → new ≡ record mid { stopped = true } → Leads old (Got (me_of old) bytes) [] new
+pub got_fails : (old mid new : ClientState) (bytes : List ℕ) → Keeps old mid → new ≡ record mid { stopped = true } → HistoryStaysRight old (Got (me_of old) bytes) [] new
 got_fails old mid new bytes k e =
     stops_got old new bytes
     (record { number = ap (λ s. s.number) e ∙ k.number; membership = ap (λ s. s.membership) e ∙ k.membership; calls = ap (λ s. s.calls) e ∙ k.calls; is_open = ap (λ s. is_some s.call) e ∙ k.is_open })
     (ap (λ s. s.stopped) e)
 
-pub tick_fails : (old mid new : ClientState) → Keeps old mid → new ≡ record mid { stopped = true } → Leads old (Tick (me_of old)) [] new
+pub tick_fails : (old mid new : ClientState) → Keeps old mid → new ≡ record mid { stopped = true } → HistoryStaysRight old (Tick (me_of old)) [] new
 tick_fails old mid new k e =
     stops_tick old new
     (record { number = ap (λ s. s.number) e ∙ k.number; membership = ap (λ s. s.membership) e ∙ k.membership; calls = ap (λ s. s.calls) e ∙ k.calls; is_open = ap (λ s. is_some s.call) e ∙ k.is_open })

@@ -28,15 +28,15 @@ input_of me (events.Got bytes) = Got me bytes.now
 input_of me events.Retry = Tick me
 
 -- if a history fits before the event, the longer one fits after it
-abbrev pub Leads : ClientState → Entry → List Output → ClientState → Type 0
-Leads old input outs new =
+abbrev pub HistoryStaysRight : ClientState → Entry → List Output → ClientState → Type 0
+HistoryStaysRight old input outs new =
     (c : Configuration) (history : List Entry) → Fits c old history
     → Fits c new (after_event (me_of old) input outs history)
 
 -- a call leads from the old state to the new one, with these outputs
 abbrev pub CallLeads : {A : Type 0} → ClientState → Op A → List Output → ClientState → Type 0
 CallLeads old op outs new =
-    Leads old (Invoke old.number (suc old.calls) (operation_of op)) outs new
+    HistoryStaysRight old (Invoke old.number (suc old.calls) (operation_of op)) outs new
 
 -- if no call was open, a call without outputs counts as made
 abbrev pub CallStops : {A : Type 0} → ClientState → Op A → ClientState → Type 0
@@ -44,7 +44,7 @@ CallStops old op new = is_some old.call ≡ false → CallLeads old op [] new
 
 -- an event leads from the old state to the new one, with these outputs
 abbrev pub EventLeads : ClientState → Event → List Output → ClientState → Type 0
-EventLeads old event outs new = Leads old (input_of (me_of old) event) outs new
+EventLeads old event outs new = HistoryStaysRight old (input_of (me_of old) event) outs new
 
 -- In each configuration of the client's members, each frame that the client sends goes exactly to its receivers: a
 -- request to all replicas.
@@ -56,11 +56,11 @@ SendsAsMeant client outs =
 
 -- bytes lead from the old state to the new one, with these outputs
 abbrev pub BytesLead : ClientState → List ℕ → List Output → ClientState → Type 0
-BytesLead old bytes outs new = Leads old (Got (me_of old) bytes) outs new
+BytesLead old bytes outs new = HistoryStaysRight old (Got (me_of old) bytes) outs new
 
 -- a retry leads from the old state to the new one, with these outputs
 abbrev pub RetryLeads : ClientState → List Output → ClientState → Type 0
-RetryLeads old outs new = Leads old (Tick (me_of old)) outs new
+RetryLeads old outs new = HistoryStaysRight old (Tick (me_of old)) outs new
 
 -- the reaction of the definitions to a reply
 abbrev pub reaction_of : ℕ → CallState → Turned → Reaction

@@ -85,7 +85,7 @@ impl Desk {
 
     /// Opens a transfer to this checkpoint's state, or moves the open one to it, if it is above the executed state and
     /// the fetched one. Returns whether. NoMemory if memory runs out.
-    pub fn aim(&mut self, alloc: Global, entry: &CheckpointEntry) -> Result<bool, NoMemory>
+    pub fn set_target(&mut self, alloc: Global, entry: &CheckpointEntry) -> Result<bool, NoMemory>
         ensures ok { IfOk result (AimsAt (checkpoint_entry_data entry.now) self.old self.new) }
         ensures me { self.new.me ≡ self.old.me }
         ensures membership { self.new.membership ≡ self.old.membership }

@@ -15,7 +15,7 @@ use Rattle.protocol.specs.Replica.Certificates.{says_checkpoint, checkpoints_of,
 use Rattle.protocol.specs.Replica.Selection.{is_quorum}
 use Rattle.protocol.specs.Replica.State.{Call, opening, kept_of, last_time, kept_by, call_in, run_frame, run_call}
 use Rattle.protocol.specs.Replica.RightReplica.{waiting_after, with_waiting, reply_of, MaySend, IsStep}
-use Rattle.protocol.specs.Replica.Owed.{SendsMessage, IsDropped, Owes, Proceeds, IsReplica}
+use Rattle.protocol.specs.Replica.Owed.{SendsMessage, IsDropped, Owes, HistoryIsPrompt, IsReplica}
 use Rattle.evidence.specs.Examples.{four}
 use Rattle.evidence.specs.FirstOperation.{FirstFrames, first_answer}
 use Rattle.evidence.specs.ExamplesOfKept.{KeptReplyGoesAgain}
@@ -173,7 +173,7 @@ module _ (o : Part) where
     sends : IsStep c me asked (done c batch) (Sent me (w.reply me)) (done c batch)
     sends = record { own = refl; may = may; moves = refl }
 
-    answers : Proceeds c me past [] (done c batch) (done c batch) → IsReplica c me now
+    answers : HistoryIsPrompt c me past [] (done c batch) (done c batch) → IsReplica c me now
     answers before = inl (done c batch, (done c batch, sends, (done c batch, gets, (owes, before))))
 
 pub kept_reply_goes_again : KeptReplyGoesAgain

@@ -6,9 +6,9 @@ use Rattle.std.proofs.lemmas.Option.{slice_get_within}
 use Rattle.protocol.specs.System.Configuration.{Configuration}
 use Rattle.protocol.specs.System.Trace.{Entry, is_output, AreOutputs}
 use Rattle.protocol.specs.System.Trace.Entry.{Invoke, Got, Tick}
-use Rattle.protocol.specs.System.Schedule.{Step, World, Goes, AtInput, new_world, with_entry, with_frame, sealed_bytes, signed_bytes, Feeds}
+use Rattle.protocol.specs.System.Schedule.{Step, World, StepsLead, AtInput, new_world, with_entry, with_frame, sealed_bytes, signed_bytes, Feeds}
 use Rattle.protocol.specs.System.Schedule.Step.{calls, deliver, feed, seal, sign, ticks}
-use Rattle.protocol.specs.System.Schedule.Goes.{ends, gives, called, delivers, gets, ticked, seals, signs, flushes, flushed}
+use Rattle.protocol.specs.System.Schedule.StepsLead.{ends, gives, called, delivers, gets, ticked, seals, signs, flushes, flushed}
 use Rattle.evidence.specs.Fed.{CallsAreFed, DeliveriesAreFed, BytesAreFed, TicksAreFed, SealedAreMade, SignedAreMade}
 use Rattle.evidence.proofs.RefusingStepsAllowed.{allows_what_may_come}
 use Rattle.protocol.proofs.Words.Elements.{each_append}
@@ -21,8 +21,8 @@ at_input : (entries later : List Entry) → AtInput entries → AtInput later �
 at_input [] later h i = i
 at_input (e ∷ entries) later h i = h
 
-pub joins : (c : Configuration) (w u v : World) (steps : List Step) (entries : List Entry) → Goes c w steps entries u
-    → (more : List Step) (later : List Entry) → AtInput later → Goes c u more later v → Goes c w (steps ++ more) (entries ++ later) v
+pub joins : (c : Configuration) (w u v : World) (steps : List Step) (entries : List Entry) → StepsLead c w steps entries u
+    → (more : List Step) (later : List Entry) → AtInput later → StepsLead c u more later v → StepsLead c w (steps ++ more) (entries ++ later) v
 joins c w u v _ _ ends more later i h = h
 joins c w u v _ _ (gives o g) more later i h = gives o (joins c _ u v _ _ g more later i h)
 joins c w u v _ _ (called a g) more later i h = called a (joins c _ u v _ _ g more later i h)
@@ -36,7 +36,7 @@ joins c w u v _ _ (flushed {entries = entries} j p g) more later i h = flushed (
 
 -- ---- an input with its outputs
 
-outputs_come : (c : Configuration) (w : World) (outputs : List Entry) → AreOutputs outputs → (v : World) × Goes c w [] outputs v
+outputs_come : (c : Configuration) (w : World) (outputs : List Entry) → AreOutputs outputs → (v : World) × StepsLead c w [] outputs v
 outputs_come c w [] h = (w, ends)
 outputs_come c w (e ∷ outputs) h = let r = outputs_come c (with_entry c w e) outputs h.1 in (r.0, gives h.0 r.1)
 
@@ -53,12 +53,12 @@ oldest_first outputs input trace = reverse-append outputs (input ∷ trace) ∙ 
 
 -- if a step takes this input in the world that the schedule makes, the step takes it after the schedule
 one_more : (c : Configuration) (steps : List Step) (step : Step) (input : Entry) (outputs trace : List Entry) (feeds : Feeds c steps trace) (next : World)
-    → ((entries : List Entry) (v : World) → Goes c next [] entries v → Goes c feeds.0 (step ∷ []) (input ∷ entries) v)
+    → ((entries : List Entry) (v : World) → StepsLead c next [] entries v → StepsLead c feeds.0 (step ∷ []) (input ∷ entries) v)
     → is_output input ≡ false → AreOutputs outputs → Feeds c (steps ++ step ∷ []) (outputs ++ input ∷ trace)
 one_more c steps step input outputs trace feeds next takes i are =
     let r = outputs_come c next (reverse outputs) (each_reverse (λ e. is_output e ≡ true) outputs are) in
     let g = joins c new_world feeds.0 r.0 steps (reverse trace) feeds.1 (step ∷ []) (input ∷ reverse outputs) i (takes (reverse outputs) r.0 r.1) in
-    (r.0, subst (λ (entries : List Entry). Goes c new_world (steps ++ step ∷ []) entries r.0) (sym (oldest_first outputs input trace)) g)
+    (r.0, subst (λ (entries : List Entry). StepsLead c new_world (steps ++ step ∷ []) entries r.0) (sym (oldest_first outputs input trace)) g)
 
 pub calls_are_fed : CallsAreFed
 calls_are_fed c steps k timestamp op outputs trace feeds correct none is are =
@@ -83,9 +83,9 @@ ticks_are_fed c steps party outputs trace feeds correct are =
 
 -- a step without an input may follow the schedule
 no_input : (c : Configuration) (steps : List Step) (step : Step) (trace : List Entry) (feeds : Feeds c steps trace) (v : World)
-    → Goes c feeds.0 (step ∷ []) [] v → Goes c new_world (steps ++ step ∷ []) (reverse trace) v
+    → StepsLead c feeds.0 (step ∷ []) [] v → StepsLead c new_world (steps ++ step ∷ []) (reverse trace) v
 no_input c steps step trace feeds v g =
-    subst (λ (entries : List Entry). Goes c new_world (steps ++ step ∷ []) entries v) (append-nil (reverse trace))
+    subst (λ (entries : List Entry). StepsLead c new_world (steps ++ step ∷ []) entries v) (append-nil (reverse trace))
     (joins c new_world feeds.0 v steps (reverse trace) feeds.1 (step ∷ []) [] tt g)
 
 pub sealed_are_made : SealedAreMade

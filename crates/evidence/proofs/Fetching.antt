@@ -17,7 +17,7 @@ use Rattle.protocol.specs.System.Trace.Entry.{Got, Sent}
 use Rattle.protocol.specs.Replica.State.{opening, all_pages, page_text}
 use Rattle.protocol.specs.Replica.Transfers.{fetching, took, in_place, DiffersFirst}
 use Rattle.protocol.specs.Replica.RightReplica.{first_point, others, HadQuorum, MayFetch}
-use Rattle.protocol.specs.Replica.Owed.{has_number, Counts, Proceeds, IsPromptReplica, IsReplica}
+use Rattle.protocol.specs.Replica.Owed.{has_number, Counts, HistoryIsPrompt, IsPromptReplica, IsReplica}
 use Rattle.protocol.specs.Client.RightClient.{IsClient}
 use Rattle.protocol.specs.System.Run.{OutputFollows, IsRun}
 use Rattle.evidence.specs.Examples.{four}
@@ -135,7 +135,7 @@ module _ (clients : ℕ) (seed : List ℕ) (page : ℕ → List ℕ) (w : FetchF
   -- The facts after the replica asks for page n.
   pub record Asks (n : ℕ) (past : List Entry) : Type 0 where
     pub stage : At past (Some (16, (levels.Page, n))) 16
-    pub proceeds : Proceeds c 0 past [] first_point first_point
+    pub proceeds : HistoryIsPrompt c 0 past [] first_point first_point
     pub quorum : HadQuorum c checkpoint past
     pub root_got : Once (Hears c 0 root_given) past
     pub inner_got : Once (Hears c 0 (inner_given (n / 32))) past
@@ -151,7 +151,7 @@ module _ (clients : ℕ) (seed : List ℕ) (page : ℕ → List ℕ) (w : FetchF
     pub asked : Option (ℕ × (Level × ℕ))
     pub stage : At (Got 0 bytes ∷ before) asked 16
     pub is_fetching : fetching before ≡ 16
-    pub proceeds : Proceeds c 0 before [] first_point first_point
+    pub proceeds : HistoryIsPrompt c 0 before [] first_point first_point
     pub quorum : HadQuorum c checkpoint before
     pub root_got : Once (Hears c 0 root_given) (Got 0 bytes ∷ before)
     pub taken : (i : ℕ) → took c 0 (Some 16) (Got 0 bytes ∷ before) i ≡ then_some (nat_lt i n) (page i)
@@ -390,12 +390,12 @@ module _ (clients : ℕ) (seed : List ℕ) (page : ℕ → List ℕ) (w : FetchF
   counts_checkpoint : Counts c 0 h2 first_point (w.checkpoint 3) 3 (Checkpoint 16 root)
   counts_checkpoint = (let was = s2.low_is in omega arith, refl, ap (has_number 16) (s2.checkpoints_are 3), ap (has_number 16) (s3.checkpoints_are 3))
 
-  to_second : Proceeds c 0 h2 [] first_point first_point
+  to_second : HistoryIsPrompt c 0 h2 [] first_point first_point
   to_second =
       goes_quiet clients seed root h1 (w.checkpoint 2) (checkpoint_of 2) p2 None 0 hears_2 tt (λ n part. part) s2 refl
       (goes_quiet clients seed root [] (w.checkpoint 1) (checkpoint_of 1) p1 None 0 hears_1 tt (λ n part. part) s1 refl (refl, refl))
 
-  to_root : Proceeds c 0 h4 [] first_point first_point
+  to_root : HistoryIsPrompt c 0 h4 [] first_point first_point
   to_root = goes_on clients seed root h2 (w.checkpoint 3) w.fetch_root (checkpoint_of 3) 0 levels.Root p3 hears_3 tt (λ n part. absurd part) f.asks_root s4 fetches_root (inr (refl, refl)) counts_checkpoint to_second
 
   none_at_3 : (i : ℕ) → took c 0 (Some 16) h3 i ≡ None

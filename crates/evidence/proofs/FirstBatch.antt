@@ -12,7 +12,7 @@ use Rattle.wire.specs.Words.{receivers_of, said}
 use Rattle.protocol.specs.System.Trace.{Entry}
 use Rattle.protocol.specs.System.Trace.Entry.{Got, Executed, Sent}
 use Rattle.protocol.specs.Replica.Certificates.{view, target, low, taken, is_active_in, counts_at, logged, prepare_of, prepare_from, commit_of, commit_from, vote_in, first_given, Prepared, Committed, is_in_marks, batch_begun, begun_proposal, entry_proposal}
-use Rattle.protocol.specs.Replica.RightReplica.{others, IsFor, IsAddressed, Point, first_point, Leaves, SafeReplica, MaySend, executed_point, waiting_after}
+use Rattle.protocol.specs.Replica.RightReplica.{others, IsFor, IsAddressed, Point, first_point, HistoryReaches, SafeReplica, MaySend, executed_point, waiting_after}
 use Rattle.evidence.specs.Examples.{four, IsFirstBatch, FirstBatchExecutes}
 use Rattle.protocol.proofs.Agreement.Voting.{logged_stays}
 use Rattle.protocol.proofs.Agreement.Commits.{prepare_stays, prepared_stays}
@@ -269,13 +269,13 @@ module _ (clients : ℕ) (seed batch a b d e f g : List ℕ) (x : IsFirstBatch (
   abbrev p6 : Point
   p6 = record p5 { ran = []; waiting = waiting_after c 1 p5 g }
 
-  leaves1 : Leaves c 1 h1 p1
+  leaves1 : HistoryReaches c 1 h1 p1
   leaves1 = (first_point, refl, record { own = refl; may = tt; moves = refl })
 
-  leaves3 : Leaves c 1 h3 p3
+  leaves3 : HistoryReaches c 1 h3 p3
   leaves3 = (p1, (p1, leaves1, record { own = refl; may = may_prepare p1; moves = refl }), record { own = refl; may = tt; moves = refl })
 
-  leaves6 : Leaves c 1 h6 p6
+  leaves6 : HistoryReaches c 1 h6 p6
   leaves6 = (p5, (p3, (p3, leaves3, record { own = refl; may = may_commit p3; moves = refl }), record { own = refl; may = tt; moves = refl }), record { own = refl; may = tt; moves = refl })
 
   pub executes : Committed c 1 h6 0 1 batch × SafeReplica c 1 (Executed 1 1 batch ∷ h6)

@@ -13,7 +13,7 @@ use Rattle.protocol.specs.System.Trace.{Entry}
 use Rattle.protocol.specs.System.Trace.Entry.{Got, Executed, Sent}
 use Rattle.protocol.specs.Replica.Certificates.{are_genuine, batch_from, Committed}
 use Rattle.protocol.specs.Replica.RightReplica.{Point, first_point, others, MaySend, IsStep}
-use Rattle.protocol.specs.Replica.Owed.{Proceeds, IsReplica}
+use Rattle.protocol.specs.Replica.Owed.{HistoryIsPrompt, IsReplica}
 use Rattle.evidence.specs.Examples.{four}
 use Rattle.evidence.specs.FirstOperation.{FirstFrames, AreFirstFrames}
 use Rattle.evidence.proofs.FirstReplicasStages.{none, and_of, Stage, first_stage, got, sent, gives, batch_given, stage_request, stage_pre_prepare, stage_prepare}
@@ -214,10 +214,10 @@ module _ (clients : ℕ) (seed : List ℕ) (op : Operation) (batch : List ℕ) (
   no_numbers : (now : List Entry) (new : Point) → events.Numbers self now new
   no_numbers now new own call waiting = absurd (not_primary own)
 
-  to_request : Proceeds c me h1 [] (waits op) (waits op)
+  to_request : HistoryIsPrompt c me h1 [] (waits op) (waits op)
   to_request = (first_point, step_request, (events.owing self [] w.request [] h1 first_point (waits op) false false none none none none s0 s1 due_request, (refl, refl)))
 
-  to_prepare : Proceeds c me h3 [] (waits op) (waits op)
+  to_prepare : HistoryIsPrompt c me h3 [] (waits op) (waits op)
   to_prepare = (
     waits op,
     record { own = refl; may = may_prepare; moves = refl },
@@ -228,7 +228,7 @@ module _ (clients : ℕ) (seed : List ℕ) (op : Operation) (batch : List ℕ) (
     ),
   )
 
-  to_commit : Proceeds c me h5 [] (waits op) (waits op)
+  to_commit : HistoryIsPrompt c me h5 [] (waits op) (waits op)
   to_commit = (
     waits op,
     events.step_commit self h4 p2 none s4 order.two_prepares (λ here. here),
@@ -243,7 +243,7 @@ module _ (clients : ℕ) (seed : List ℕ) (op : Operation) (batch : List ℕ) (
     ),
   )
 
-  to_second : Proceeds c me h6 [] (waits op) (waits op)
+  to_second : HistoryIsPrompt c me h6 [] (waits op) (waits op)
   to_second = (
     waits op,
     events.step_quiet self h5 (w.prepare b) (prepares batch b) (events.hears_prepare self b order.sender_b) refl,
@@ -254,7 +254,7 @@ module _ (clients : ℕ) (seed : List ℕ) (op : Operation) (batch : List ℕ) (
     ),
   )
 
-  to_commits : Proceeds c me h7 [] (waits op) (waits op)
+  to_commits : HistoryIsPrompt c me h7 [] (waits op) (waits op)
   to_commits = (
     waits op,
     events.step_quiet self h6 (w.commit d) (commits batch d) (events.hears_commit self d order.sender_d) refl,
@@ -265,7 +265,7 @@ module _ (clients : ℕ) (seed : List ℕ) (op : Operation) (batch : List ℕ) (
     ),
   )
 
-  to_reply : Proceeds c me h10 [] (ran c op batch) (ran c op batch)
+  to_reply : HistoryIsPrompt c me h10 [] (ran c op batch) (ran c op batch)
   to_reply = (
     ran c op batch,
     events.step_reply self (Executed me 1 batch ∷ h8) (events.behind_execution self h8 (λ here. here)),
@@ -284,7 +284,7 @@ module _ (clients : ℕ) (seed : List ℕ) (op : Operation) (batch : List ℕ) (
     ),
   )
 
-  pub proceeds : Proceeds c me backup_history [] (done c batch) (done c batch)
+  pub proceeds : HistoryIsPrompt c me backup_history [] (done c batch) (done c batch)
   proceeds = (
     ran c op batch,
     events.step_last self h10 f order.sender_f,

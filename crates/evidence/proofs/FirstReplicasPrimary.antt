@@ -15,7 +15,7 @@ use Rattle.protocol.specs.System.Trace.Entry.{Got, Executed, Sent}
 use Rattle.protocol.specs.Replica.Certificates.{are_genuine, Committed}
 use Rattle.protocol.specs.Replica.State.{Call, call_of, opening, last_time}
 use Rattle.protocol.specs.Replica.RightReplica.{first_point, others, HasSeen, IsFree, MaySend, IsStep}
-use Rattle.protocol.specs.Replica.Owed.{IsOfView, BeginsViewWith, HasRequest, IsNumbered, AreDifferent, NumbersOnce, Proceeds, IsReplica}
+use Rattle.protocol.specs.Replica.Owed.{IsOfView, BeginsViewWith, HasRequest, IsNumbered, AreDifferent, NumbersOnce, HistoryIsPrompt, IsReplica}
 use Rattle.evidence.specs.Examples.{four}
 use Rattle.evidence.specs.FirstOperation.{FirstFrames, AreFirstFrames}
 use Rattle.protocol.proofs.Words.Options.{some_injective}
@@ -220,7 +220,7 @@ module _ (clients : ℕ) (seed : List ℕ) (op : Operation) (batch : List ℕ) (
 
   -- ---- the whole, event by event
 
-  to_propose : Proceeds c 0 h2 [] (waits op) (waits op)
+  to_propose : HistoryIsPrompt c 0 h2 [] (waits op) (waits op)
   to_propose = (
     waits op,
     record { own = refl; may = may_propose; moves = refl },
@@ -231,7 +231,7 @@ module _ (clients : ℕ) (seed : List ℕ) (op : Operation) (batch : List ℕ) (
     ),
   )
 
-  to_prepare : Proceeds c 0 h3 [] (waits op) (waits op)
+  to_prepare : HistoryIsPrompt c 0 h3 [] (waits op) (waits op)
   to_prepare = (
     waits op,
     events.step_quiet self h2 (w.prepare 1) (prepares batch 1) (events.hears_prepare self 1 first_sender) refl,
@@ -242,7 +242,7 @@ module _ (clients : ℕ) (seed : List ℕ) (op : Operation) (batch : List ℕ) (
     ),
   )
 
-  to_commit : Proceeds c 0 h5 [] (waits op) (waits op)
+  to_commit : HistoryIsPrompt c 0 h5 [] (waits op) (waits op)
   to_commit = (
     waits op,
     events.step_commit self h4 p2 none s4 refl (λ here. here),
@@ -257,7 +257,7 @@ module _ (clients : ℕ) (seed : List ℕ) (op : Operation) (batch : List ℕ) (
     ),
   )
 
-  to_last_prepare : Proceeds c 0 h6 [] (waits op) (waits op)
+  to_last_prepare : HistoryIsPrompt c 0 h6 [] (waits op) (waits op)
   to_last_prepare = (
     waits op,
     events.step_quiet self h5 (w.prepare 3) (prepares batch 3) (events.hears_prepare self 3 third_sender) refl,
@@ -268,7 +268,7 @@ module _ (clients : ℕ) (seed : List ℕ) (op : Operation) (batch : List ℕ) (
     ),
   )
 
-  to_commits : Proceeds c 0 h7 [] (waits op) (waits op)
+  to_commits : HistoryIsPrompt c 0 h7 [] (waits op) (waits op)
   to_commits = (
     waits op,
     events.step_quiet self h6 (w.commit 2) (commits batch 2) (events.hears_commit self 2 second_sender) refl,
@@ -279,7 +279,7 @@ module _ (clients : ℕ) (seed : List ℕ) (op : Operation) (batch : List ℕ) (
     ),
   )
 
-  to_reply : Proceeds c 0 h10 [] (ran c op batch) (ran c op batch)
+  to_reply : HistoryIsPrompt c 0 h10 [] (ran c op batch) (ran c op batch)
   to_reply = (
     ran c op batch,
     events.step_reply self (Executed 0 1 batch ∷ h8) (events.behind_execution self h8 (λ here. here)),
@@ -301,7 +301,7 @@ module _ (clients : ℕ) (seed : List ℕ) (op : Operation) (batch : List ℕ) (
   nothing_waits : events.Numbers self primary_history (done c batch)
   nothing_waits own call has = absurd has
 
-  pub proceeds : Proceeds c 0 primary_history [] (done c batch) (done c batch)
+  pub proceeds : HistoryIsPrompt c 0 primary_history [] (done c batch) (done c batch)
   proceeds = (
     ran c op batch,
     events.step_last self h10 1 first_sender,

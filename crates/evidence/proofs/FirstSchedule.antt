@@ -13,8 +13,8 @@ use Rattle.protocol.specs.System.Configuration.{Configuration, IsConfiguration, 
 use Rattle.wire.specs.Words.{receivers_of}
 use Rattle.protocol.specs.System.Trace.{Entry}
 use Rattle.protocol.specs.System.Trace.Entry.{Invoke, Got, Executed, Sent}
-use Rattle.protocol.specs.System.Schedule.{calls, flush, Made, meant_for, made_by, World, new_world, with_entry, is_delivered, next_receiver, next_pair, pending, Goes, Feeds}
-use Rattle.protocol.specs.System.Schedule.Goes.{ends, gives, called, delivers, flushes, flushed}
+use Rattle.protocol.specs.System.Schedule.{calls, flush, Made, meant_for, made_by, World, new_world, with_entry, is_delivered, next_receiver, next_pair, pending, StepsLead, Feeds}
+use Rattle.protocol.specs.System.Schedule.StepsLead.{ends, gives, called, delivers, flushes, flushed}
 use Rattle.evidence.specs.Examples.{four}
 use Rattle.evidence.specs.FirstOperation.{FirstFrames, AreFirstFrames, IsFrom, first_trace, FirstOperationIsFed}
 use Rattle.evidence.proofs.FirstScheduleMoves.{is_known, known_correct, Row, Move, moves, row, entry_of, is_row, are_known}
@@ -127,7 +127,7 @@ module _ (clients : ℕ) (seed : List ℕ) (op : Operation) (batch : List ℕ) (
   pending_is ns delivered u f d = rw (f, d) (next_known c delivered correct 0 (map made ns) (known_frames ns))
 
   follow : (ms : List Move) (ns : List ℕ) (delivered : List (ℕ × ℕ)) → goes ns delivered ms ≡ true
-      → (u : World) → u.frames ≡ map made ns → u.delivered ≡ delivered → (v : World) × Goes c u (flush ∷ []) (map entry ms) v
+      → (u : World) → u.frames ≡ map made ns → u.delivered ≡ delivered → (v : World) × StepsLead c u (flush ∷ []) (map entry ms) v
   follow [] ns delivered h u f d = (u, flushed tt (pending_is ns delivered u f d ∙ no_more (next_of delivered 0 (map made ns)) h) ends)
   follow (sends n ∷ ms) ns delivered h u f d =
       let e : Entry = entry (sends n) in

@@ -8,9 +8,9 @@ use Rattle.quorum.specs.Votes.{or_else}
 use Rattle.protocol.specs.System.Configuration.{Configuration, is_correct}
 use Rattle.protocol.specs.System.Trace.{Entry, is_output, Has}
 use Rattle.protocol.specs.System.Trace.Entry.{Got}
-use Rattle.protocol.specs.System.Schedule.{Step, Made, World, Goes, with_entry, is_delivered, next_receiver, next_pair, pending}
+use Rattle.protocol.specs.System.Schedule.{Step, Made, World, StepsLead, with_entry, is_delivered, next_receiver, next_pair, pending}
 use Rattle.protocol.specs.System.Schedule.Step.{deliver, flush}
-use Rattle.protocol.specs.System.Schedule.Goes.{ends, gives, called, delivers, gets, flushes, flushed}
+use Rattle.protocol.specs.System.Schedule.StepsLead.{ends, gives, called, delivers, gets, flushes, flushed}
 use Rattle.evidence.specs.Fed.{IsNext, with_delivery, FlushDeliversNext, FlushDeliversNoOther, FlushEnds}
 use Rattle.protocol.proofs.Words.Options.{some_injective}
 use Rattle.protocol.proofs.Words.Elements.{some_of_has}
@@ -221,7 +221,7 @@ pub flush_delivers_next : FlushDeliversNext
 flush_delivers_next c w v frame party made steps entries h g =
     flushes (next_pending c w frame party made h)
     (delivers {made = made} (slice_get_within w.frames frame made h.is_frame, h.is_left.0) h.is_frame
-    (subst (λ (u : World). Goes c u (flush ∷ steps) entries v) (sym (same_frames c w frame party made.bytes)) g))
+    (subst (λ (u : World). StepsLead c u (flush ∷ steps) entries v) (sym (same_frames c w frame party made.bytes)) g))
 
 pub flush_ends : FlushEnds
 flush_ends c w h = flushed tt
@@ -237,7 +237,7 @@ module _ (c : Configuration) (v : World) (input : Entry) (more : List Entry) (fe
       let bad : false ≡ true = sym fed ∙ ap is_output (sym same) ∙ o in absurd cc
 
   -- no steps feed no input
-  none_fed : (w : World) (steps : List Step) (entries : List Entry) → Goes c w steps entries v → steps ≡ [] → entries ≡ input ∷ more → ⊥
+  none_fed : (w : World) (steps : List Step) (entries : List Entry) → StepsLead c w steps entries v → steps ≡ [] → entries ≡ input ∷ more → ⊥
   none_fed w _ _ ends none is = absurd cc
   none_fed w _ _ (gives {entries = entries} {e = e} o g) none is = not_output e entries o is ⊥
   none_fed w _ _ _ none is = absurd cc
@@ -245,9 +245,9 @@ module _ (c : Configuration) (v : World) (input : Entry) (more : List Entry) (fe
   -- what a delivery feeds
   abbrev Delivers : World → ℕ → ℕ → Type 0
   Delivers w frame party =
-      (made : Made) × (slice_get w.frames frame ≡ Some made) × (input ≡ Got party made.bytes) × Goes c (with_delivery c w frame party made.bytes) (flush ∷ []) more v
+      (made : Made) × (slice_get w.frames frame ≡ Some made) × (input ≡ Got party made.bytes) × StepsLead c (with_delivery c w frame party made.bytes) (flush ∷ []) more v
 
-  delivery_feeds : (w : World) (steps : List Step) (entries : List Entry) (frame party : ℕ) → Goes c w steps entries v
+  delivery_feeds : (w : World) (steps : List Step) (entries : List Entry) (frame party : ℕ) → StepsLead c w steps entries v
       → steps ≡ deliver frame party ∷ flush ∷ [] → entries ≡ input ∷ more → Delivers w frame party
   delivery_feeds w _ _ frame party ends steps_are is = absurd cc
   delivery_feeds w _ _ frame party (gives {entries = entries} {e = e} o g) steps_are is = not_output e entries o is (Delivers w frame party)
@@ -257,19 +257,19 @@ module _ (c : Configuration) (v : World) (input : Entry) (more : List Entry) (fe
       let later : steps ≡ flush ∷ [] = cc in
       let first : Got q made.bytes ≡ input = cc in
       let rest : entries ≡ more = cc in
-      let here : Goes c (with_delivery c w n q made.bytes) steps entries v = subst (λ (u : World). Goes c u steps entries v) (same_frames c w n q made.bytes) g in
-      let moved : Goes c (with_delivery c w frame party made.bytes) steps entries v =
-      subst (λ (p : ℕ). Goes c (with_delivery c w frame p made.bytes) steps entries v) to (subst (λ (i : ℕ). Goes c (with_delivery c w i q made.bytes) steps entries v) number here) in
-      let ending : Goes c (with_delivery c w frame party made.bytes) (flush ∷ []) more v =
-      subst (λ (xs : List Step). Goes c (with_delivery c w frame party made.bytes) xs more v) later (subst (λ (es : List Entry). Goes c (with_delivery c w frame party made.bytes) steps es v) rest moved) in
+      let here : StepsLead c (with_delivery c w n q made.bytes) steps entries v = subst (λ (u : World). StepsLead c u steps entries v) (same_frames c w n q made.bytes) g in
+      let moved : StepsLead c (with_delivery c w frame party made.bytes) steps entries v =
+      subst (λ (p : ℕ). StepsLead c (with_delivery c w frame p made.bytes) steps entries v) to (subst (λ (i : ℕ). StepsLead c (with_delivery c w i q made.bytes) steps entries v) number here) in
+      let ending : StepsLead c (with_delivery c w frame party made.bytes) (flush ∷ []) more v =
+      subst (λ (xs : List Step). StepsLead c (with_delivery c w frame party made.bytes) xs more v) later (subst (λ (es : List Entry). StepsLead c (with_delivery c w frame party made.bytes) steps es v) rest moved) in
       (made, subst (λ (i : ℕ). slice_get w.frames i ≡ Some made) number s, sym first ∙ ap (λ (p : ℕ). Got p made.bytes) to, ending)
   delivery_feeds w _ _ frame party _ steps_are is = absurd cc
 
   abbrev DeliversNext : World → Type 0
   DeliversNext w =
-      (frame : ℕ) × (party : ℕ) × (made : Made) × IsNext c w frame party made × (input ≡ Got party made.bytes) × Goes c (with_delivery c w frame party made.bytes) (flush ∷ []) more v
+      (frame : ℕ) × (party : ℕ) × (made : Made) × IsNext c w frame party made × (input ≡ Got party made.bytes) × StepsLead c (with_delivery c w frame party made.bytes) (flush ∷ []) more v
 
-  flush_feeds : (w : World) (steps : List Step) (entries : List Entry) → Goes c w steps entries v → steps ≡ flush ∷ [] → entries ≡ input ∷ more → DeliversNext w
+  flush_feeds : (w : World) (steps : List Step) (entries : List Entry) → StepsLead c w steps entries v → steps ≡ flush ∷ [] → entries ≡ input ∷ more → DeliversNext w
   flush_feeds w _ _ ends steps_are is = absurd cc
   flush_feeds w _ _ (gives {entries = entries} {e = e} o g) steps_are is = not_output e entries o is (DeliversNext w)
   flush_feeds w _ _ (flushes {steps = steps} {frame = frame} {party = party} p g) steps_are is =

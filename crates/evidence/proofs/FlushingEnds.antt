@@ -6,9 +6,9 @@ use Rattle.quorum.specs.Votes.{or_else}
 use Rattle.protocol.specs.System.Configuration.{Configuration, is_correct}
 use Rattle.protocol.specs.System.Trace.{Entry}
 use Rattle.protocol.specs.System.Trace.Entry.{Got}
-use Rattle.protocol.specs.System.Schedule.{Made, World, Goes, AtInput, new_world, is_delivered, next_receiver, next_pair, pending}
+use Rattle.protocol.specs.System.Schedule.{Made, World, StepsLead, AtInput, new_world, is_delivered, next_receiver, next_pair, pending}
 use Rattle.protocol.specs.System.Schedule.Step.{flush}
-use Rattle.protocol.specs.System.Schedule.Goes.{ends, flushed}
+use Rattle.protocol.specs.System.Schedule.StepsLead.{ends, flushed}
 use Rattle.evidence.specs.Fed.{with_delivery, IsGot, FlushesAreFed}
 use Rattle.protocol.proofs.Words.Options.{some_injective}
 use Rattle.evidence.proofs.Feeding.{joins, each_reverse}
@@ -76,7 +76,7 @@ record Flushed (c : Configuration) (w : World) : Type 0 where
   behind : World
   are : Each IsGot entries
   first : AtInput entries
-  goes : Goes c w (flush ∷ []) entries behind
+  goes : StepsLead c w (flush ∷ []) entries behind
 
 -- with more than the rest to spare
 flush_all : (c : Configuration) (n : ℕ) (w : World) → all_left c w.delivered 0 w.frames < n → Flushed c w
@@ -107,4 +107,4 @@ flushes_are_fed c steps trace feeds =
     let oldest : reverse (reverse f.entries ++ trace) ≡ reverse trace ++ f.entries =
     reverse-append (reverse f.entries) trace ∙ ap (λ (xs : List Entry). reverse trace ++ xs) (reverse-reverse f.entries) in
     let g = joins c new_world w f.behind steps (reverse trace) feeds.1 (flush ∷ []) f.entries f.first f.goes in
-    (reverse f.entries, each_reverse IsGot f.entries f.are, (f.behind, subst (λ (entries : List Entry). Goes c new_world (steps ++ flush ∷ []) entries f.behind) (sym oldest) g))
+    (reverse f.entries, each_reverse IsGot f.entries f.are, (f.behind, subst (λ (entries : List Entry). StepsLead c new_world (steps ++ flush ∷ []) entries f.behind) (sym oldest) g))

@@ -8,7 +8,7 @@ use Rattle.wire.specs.Messages.{BodyData as Body, MessageData as Message, NewVie
 use Rattle.protocol.specs.System.Trace.{Entry, party_of}
 use Rattle.protocol.specs.System.Trace.Entry.{Invoke, Got, Sent}
 use Rattle.protocol.specs.Replica.Certificates.{taken, low, is_in_marks, are_genuine, batch_from, batch_begun, begun_proposal, entry_proposal, proposal, logged}
-use Rattle.protocol.specs.Replica.RightReplica.{Point, Leaves, SafeReplica, IsFree, MaySay, MaySend, MayPrePrepare, May}
+use Rattle.protocol.specs.Replica.RightReplica.{Point, HistoryReaches, SafeReplica, IsFree, MaySay, MaySend, MayPrePrepare, May}
 use Rattle.evidence.specs.Certified.{LeavesNoGap}
 use Rattle.protocol.proofs.Words.Options.{and_then_some, then_some_gives, some_injective, or_else_second, or_else_cases}
 use Rattle.protocol.proofs.Agreement.Marks.{low_grows, takes, Proposes, proposes}
@@ -80,7 +80,7 @@ begun_between c v i j new batch h above below =
 
 -- ---- no gap
 
-no_gap : (c : Configuration) (me v : ℕ) → primary c v ≡ me → (xs : List Entry) (point : Point) → Leaves c me xs point → (i j : ℕ) (batch : List ℕ) → logged c me xs v i ≡ Some batch → low c me xs < j → j < i
+no_gap : (c : Configuration) (me v : ℕ) → primary c v ≡ me → (xs : List Entry) (point : Point) → HistoryReaches c me xs point → (i j : ℕ) (batch : List ℕ) → logged c me xs v i ≡ Some batch → low c me xs < j → j < i
     → (other : List ℕ) × (logged c me xs v j ≡ Some other)
 unfolding logged
 no_gap c me v own [] point h i j batch there above below = absurd (let bad : None ≡ Some batch = there in cc)

@@ -18,7 +18,7 @@ use Rattle.signing.specs.Heard.{heard}
 use Rattle.protocol.specs.System.Trace.{Entry, Once, Hears}
 use Rattle.protocol.specs.System.Trace.Entry.{Got, Installed, Sent}
 use Rattle.protocol.specs.Replica.State.{IsReplicatedState, opening, root_of, page_text, all_pages, pages_of}
-use Rattle.protocol.specs.Replica.RightReplica.{Point, first_point, Leaves, IsStep, IsInstalled, MayFetch, digests_at}
+use Rattle.protocol.specs.Replica.RightReplica.{Point, first_point, HistoryReaches, IsStep, IsInstalled, MayFetch, digests_at}
 use Rattle.evidence.specs.Examples.{four}
 use Rattle.evidence.specs.ExamplesOfInstalling.{later_state, InstallFrames, AreInstallFrames, IsHeaderFirst, installation, StateIsInstalled}
 use Rattle.protocol.proofs.Words.Leaving.{opening_is}
@@ -226,7 +226,7 @@ module _ (clients : ℕ) (seed : List ℕ) (w : InstallFrames) (differ : IsHeade
   installs : IsStep c 0 h9 first_point (Installed 0 16 root) last_point
   installs = record { own = refl; may = (omega arith, inl (inr (inr (inr (inr (inr (inr (inl (quorum_here clients seed root h3 p3 None 0 s3 refl))))))))); moves = installed }
 
-  at_3 : Leaves c 0 h3 first_point
+  at_3 : HistoryReaches c 0 h3 first_point
   at_3 = (
     first_point,
     (
@@ -237,28 +237,28 @@ module _ (clients : ℕ) (seed : List ℕ) (w : InstallFrames) (differ : IsHeade
     gets clients seed root h2 (w.checkpoint 3) (checkpoint_of 3) hears3 tt,
   )
 
-  at_5 : Leaves c 0 h5 first_point
+  at_5 : HistoryReaches c 0 h5 first_point
   at_5 = (
     first_point,
     (first_point, at_3, fetch_sends clients seed root h3 w.fetch_root 0 levels.Root fetches_root f.asks_root (λ here. here)),
     gets clients seed root h4 w.below_root root_given f.gives_root tt,
   )
 
-  at_7 : Leaves c 0 h7 first_point
+  at_7 : HistoryReaches c 0 h7 first_point
   at_7 = (
     first_point,
     (first_point, at_5, fetch_sends clients seed root h5 w.fetch_inner 16 levels.Inner fetches_inner f.asks_inner (λ here. here)),
     gets clients seed root h6 w.below_inner inner_given f.gives_inner tt,
   )
 
-  at_9 : Leaves c 0 h9 first_point
+  at_9 : HistoryReaches c 0 h9 first_point
   at_9 = (
     first_point,
     (first_point, at_7, fetch_sends clients seed root h7 w.fetch_header 512 levels.Page fetches_header f.asks_header (λ here. here)),
     gets clients seed root h8 w.header header_page f.gives_header tt,
   )
 
-  is_installed : (point : Point) × Leaves c 0 (installation w) point × (point.state ≡ later_state)
+  is_installed : (point : Point) × HistoryReaches c 0 (installation w) point × (point.state ≡ later_state)
   is_installed = (last_point, (first_point, at_9, installs), refl)
 
 pub state_is_installed : StateIsInstalled

@@ -19,7 +19,7 @@ use Rattle.protocol.specs.Replica.Selection.{is_quorum, is_weak_quorum, passes_b
 use Rattle.protocol.specs.Replica.Certificates.{target, view, is_active_in, is_later, new_view_in, logged, low}
 use Rattle.reply_cache.specs.Replies.{Kept}
 use Rattle.protocol.specs.Replica.State.{State, Ran, opening, kept_of, page_text}
-use Rattle.protocol.specs.Replica.RightReplica.{MayNewView, IsRootWanted, MayFetch, MayMeta, MayPage, kept_states, digests_at, IsAddressed, Point, Leaves, SafeReplica, May, Moves, MaySend, MayCheckpoint, MayPrepare, MayCommit, MayPrePrepare, MayReply, MayReplyRead, MayViewChange, SendsBytes, SentInEvent, reply_of, GetsPage}
+use Rattle.protocol.specs.Replica.RightReplica.{MayNewView, IsRootWanted, MayFetch, MayMeta, MayPage, kept_states, digests_at, IsAddressed, Point, HistoryReaches, SafeReplica, May, Moves, MaySend, MayCheckpoint, MayPrepare, MayCommit, MayPrePrepare, MayReply, MayReplyRead, MayViewChange, SendsBytes, SentInEvent, reply_of, GetsPage}
 use Rattle.protocol.specs.Client.RightClient.{Vote, latest, is_alike, count_alike}
 use Rattle.evidence.specs.Refused.{SealsWell, SignsWell, SignsOnceByLeaf, SendsNoFrameTwice, PrePreparesAsPrimary, PrePreparesInMarks, NoPrePrepareAfterChange, CheckpointsMultiples, BeginsAsPrimary, ReadsWhatWasAsked, DigestsToWhoAsked, PagesToWhoAsked, IsReplyOf, ExecutesWhatIsCommitted, GivesKeptDigests, GivesKeptPages, GivesAskedDigests, GivesAskedPages, RepliesWhatRan, DropsUnaskedDigests, DropsUnaskedPages, ProposesAuthentic, ReadsNewest, NoChangeWhileActive, DropsReplies, DropsOwnFrames, FetchesWhatIsWanted, FetchesAbove, RepliesToItsClient, CommitsToAll, NoExecution, newest_number, SoManyHave, HasFrom, SaysNothingAgainst, SaysForIt, SaysNothing, RepliesAfterExecution, NoCommitAfterChange, NoPrepareAfterChange, NoEarlyCheckpoint, OnePrePrepare, NoPrepareByPrimary, ExecutesNext, KeepsPrepared, InstallsWhatItHas, InstallsWithHeader, TakesWellSelected, TakesNoLower, AcceptsAtQuorum}
 use Rattle.wire.specs.Words.{requests_of, frame_of, said}
@@ -55,7 +55,7 @@ record Untouched (point : Point) : Type 0 where
   state : point.state ≡ opening
   ran : point.ran ≡ []
 
-untouched : (c : Configuration) (me : ℕ) (xs : List Entry) (point : Point) → Leaves c me xs point → Always NoExecution xs → Untouched point
+untouched : (c : Configuration) (me : ℕ) (xs : List Entry) (point : Point) → HistoryReaches c me xs point → Always NoExecution xs → Untouched point
 untouched c me [] point h a = record { state = ap (λ (p : Point). p.state) h; ran = ap (λ (p : Point). p.ran) h }
 untouched c me (e ∷ past) point h a = go e h.2.may h.2.moves a.0 (untouched c me past h.0 h.1 a.1)
   where
@@ -134,7 +134,7 @@ no_prepare_by_primary c me v i digest bytes past says is right =
     m.is_backup is
 
 -- the state has the newest number
-pub newest_state : (c : Configuration) (me : ℕ) (xs : List Entry) (point : Point) → Leaves c me xs point → point.state.number ≡ newest_number xs
+pub newest_state : (c : Configuration) (me : ℕ) (xs : List Entry) (point : Point) → HistoryReaches c me xs point → point.state.number ≡ newest_number xs
 newest_state c me [] point h = ap (λ (p : Point). p.state.number) h
 newest_state c me (e ∷ past) point h = go e h.2.may h.2.moves (newest_state c me past h.0 h.1)
   where

@@ -7,7 +7,7 @@ use Rattle.protocol.specs.System.Configuration.{Configuration, IsConfiguration}
 use Rattle.protocol.specs.System.Trace.{Entry, Always, Has}
 use Rattle.protocol.specs.System.Trace.Entry.{Invoke, Executed, Installed, Accepted}
 use Rattle.protocol.specs.Replica.State.{State, Call, Ran, call_of, runs, run_call, ran_call, kept_by, run_frame, ran_by, ran_in, execute, last_time}
-use Rattle.protocol.specs.Replica.RightReplica.{Point, Leaves, May, Moves}
+use Rattle.protocol.specs.Replica.RightReplica.{Point, HistoryReaches, May, Moves}
 use Rattle.evidence.specs.Refused.{RunsOnce, NoInstallation}
 use Rattle.protocol.proofs.Points.Keeping.{Full, opening_full, time_here, time_grows, call_small, frames_full, executed_full, executed_times}
 
@@ -67,7 +67,7 @@ module _ (c : Configuration) (setting : IsConfiguration c) where
 
   -- ---- over a history
 
-  leaves_full : (me : ℕ) (xs : List Entry) (point : Point) → Leaves c me xs point → Full point.state
+  leaves_full : (me : ℕ) (xs : List Entry) (point : Point) → HistoryReaches c me xs point → Full point.state
   leaves_full me [] point h = subst (λ (p : Point). Full p.state) (sym h) opening_full
   leaves_full me (e ∷ past) point h = go e h.2.may h.2.moves (leaves_full me past h.0 h.1)
     where
@@ -78,8 +78,8 @@ module _ (c : Configuration) (setting : IsConfiguration c) where
       go (Accepted x y z) may move full = absurd may
       go _ may move full = subst (λ (q : Point). Full q.state) (sym move) full
 
-  time_stays : (me : ℕ) (between rest : List Entry) (t cl : ℕ) → Always NoInstallation between → ((point : Point) → Leaves c me rest point → t ≤ last_time point.state cl)
-      → (point : Point) → Leaves c me (between ++ rest) point → t ≤ last_time point.state cl
+  time_stays : (me : ℕ) (between rest : List Entry) (t cl : ℕ) → Always NoInstallation between → ((point : Point) → HistoryReaches c me rest point → t ≤ last_time point.state cl)
+      → (point : Point) → HistoryReaches c me (between ++ rest) point → t ≤ last_time point.state cl
   time_stays me [] rest t cl none start point h = start point h
   time_stays me (e ∷ between) rest t cl none start point h = go e h.2.may h.2.moves none.0 (time_stays me between rest t cl none.1 start h.0 h.1)
     where
@@ -143,7 +143,7 @@ runs_once c setting me m n batch later frame again first rest call other between
       ap (λ (p : Point). p.ran) step.moves ∙ ap (λ (xs : List (List ℕ)). old.ran ++ ran_in c n old.state xs) later_is ∙ ap (λ (xs : List Ran). old.ran ++ xs) s.1,
     )
   where
-    behind : (point : Point) → Leaves c me (Executed me m batch ∷ past) point → call.timestamp ≤ last_time point.state call.client
+    behind : (point : Point) → HistoryReaches c me (Executed me m batch ∷ past) point → call.timestamp ≤ last_time point.state call.client
     behind point h =
         let a = frames_time c setting (suc h.0.state.number) h.0.state (requests_of batch) frame call (leaves_full c setting me past h.0 h.1) is has in
         let b = executed_times c h.0.state batch call.client in

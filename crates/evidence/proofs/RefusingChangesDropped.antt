@@ -18,7 +18,7 @@ use Rattle.protocol.specs.Replica.Selection.{is_within}
 use Rattle.protocol.specs.Replica.Certificates.{view, change_taken, latest_change, low, is_active_in, is_in_marks, batch_from, are_genuine, logged, prepare_from, commit_from, prepare_of, commit_of, vote_in, checkpoint_from, checkpoint_in, insert_checkpoint, with_checkpoint, checkpoints_of}
 use Rattle.reply_cache.specs.Replies.{Kept}
 use Rattle.protocol.specs.Replica.State.{State, Call, kept_of, last_time}
-use Rattle.protocol.specs.Replica.RightReplica.{Point, Leaves, kept_states, IsRootWanted}
+use Rattle.protocol.specs.Replica.RightReplica.{Point, HistoryReaches, kept_states, IsRootWanted}
 use Rattle.protocol.specs.Replica.Owed.{Owes, Counts, IsReplica, IsNoOlder, has_number}
 use Rattle.evidence.specs.RefusedChanges.{Answers, GotChange, IsNoRoot, DropsWrites, DropsRequestsOfReplicas, DropsOldRequests, DropsPassedRequests, DropsPrePreparesOfBackups, DropsPrePreparesWhileInactive, DropsPrePreparesOutsideMarks, DropsSecondPrePrepares, DropsPreparesOfPrimaries, DropsPreparesWhileInactive, DropsSecondPrepares, DropsCommitsWhileInactive, DropsSecondCommits, DropsLowCheckpoints, DropsCheckpointsOfNoNumber, DropsSecondCheckpoints, DropsPassedCheckpoints, DropsLowChanges, DropsUnboundChanges, DropsPassedChanges, DropsNewViews, DropsFetches, DropsLowDigests, DropsLowPages, DropsOtherRoots, DropsOtherDigests, DropsOtherPages}
 use Rattle.protocol.proofs.Words.Temporal.{once_weaker, once_stays_from}
@@ -33,7 +33,7 @@ use Rattle.protocol.proofs.Agreement.Checkpoints.{checkpoints_with}
 
 record Event (c : Configuration) (me : ℕ) (bytes : List ℕ) (past outputs : List Entry) : Type 0 where
   old : Point
-  before : Leaves c me past old
+  before : HistoryReaches c me past old
   new : Point
   now : List Entry
   owes : Owes c me past (Got me bytes) outputs now old new
@@ -43,7 +43,7 @@ event c me bytes later past (inl h) = record { old = _; before = proceeds_leaves
 event c me bytes later past (inr h) = absurd h.1
 
 answered : (c : Configuration) (me s : ℕ) (message : Message) (bytes : List ℕ) (past : List Entry) (a : Answers c me s message bytes past)
-    → ((point : Point) → Leaves c me past point → Counts c me past point bytes s message → ⊥) → ⊥
+    → ((point : Point) → HistoryReaches c me past point → Counts c me past point bytes s message → ⊥) → ⊥
 answered c me s message bytes past a never =
     let e = event c me bytes a.later past a.is_replica in
     let none : Sent me a.later ∷ [] ≡ [] = e.owes.dropped bytes refl (λ other is k.

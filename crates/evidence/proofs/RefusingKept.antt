@@ -9,7 +9,7 @@ use Rattle.protocol.specs.System.Trace.{Entry, Has}
 use Rattle.protocol.specs.System.Trace.Entry.{Invoke, Got, Tick, Executed, Installed, Sent, Accepted}
 use Rattle.protocol.specs.Replica.Certificates.{low}
 use Rattle.protocol.specs.Replica.State.{State, opening, execute, page_text}
-use Rattle.protocol.specs.Replica.RightReplica.{MayMeta, MayPage, IsNewViewChange, kept_states, checkpoint_of, digests_at, Point, Leaves, May, Moves, Executes}
+use Rattle.protocol.specs.Replica.RightReplica.{MayMeta, MayPage, IsNewViewChange, kept_states, checkpoint_of, digests_at, Point, HistoryReaches, May, Moves, Executes}
 use Rattle.evidence.specs.RefusedChanges.{SendsNewChange}
 use Rattle.evidence.specs.RefusedKept.{GivesNoLowDigests, GivesNoLowPages, Installs, HasSnapshot, ChangesFromLowMark, ListsNoneBelow, ListsSnapshots, ListsEachSnapshot, CheckpointsAscend}
 use Rattle.evidence.proofs.RefusingChanges.{new_change}
@@ -41,7 +41,7 @@ earlier c k e past x y (inr (inl (m, inr h))) = inr (inl (m, h))
 earlier c k e past x y (inr (inr (inl h))) = absurd (y h)
 earlier c k e past x y (inr (inr (inr h))) = inr (inr h)
 
-each_snapshot : (c : Configuration) (me : ℕ) (xs : List Entry) (point : Point) → Leaves c me xs point → Each (λ (st : State). HasSnapshot c st.number xs) point.snapshots
+each_snapshot : (c : Configuration) (me : ℕ) (xs : List Entry) (point : Point) → HistoryReaches c me xs point → Each (λ (st : State). HasSnapshot c st.number xs) point.snapshots
 each_snapshot c me [] point h = subst (λ (p : Point). Each (λ (st : State). HasSnapshot c st.number []) p.snapshots) (sym h) (inl refl, tt)
 each_snapshot c me (e ∷ past) point h =
     go e h.2.may h.2.moves (each_weaker (λ (st : State). HasSnapshot c st.number past) (λ (st : State). HasSnapshot c st.number (e ∷ past)) (λ st k. later c st.number e past k) h.0.snapshots (each_snapshot c me past h.0 h.1))
@@ -66,7 +66,7 @@ each_snapshot c me (e ∷ past) point h =
         by true multiple = (inr (inl (eqb-true (new.number % c.period) 0 multiple, inl (may.next ∙ sym (executed_number c h.0.state batch)))), was)
         by false multiple = was
 
-has_snapshot : (c : Configuration) (me k : ℕ) (xs : List Entry) (point : Point) → Leaves c me xs point → HasSnapshot c k xs → Has (λ (st : State). st.number ≡ k) point.snapshots
+has_snapshot : (c : Configuration) (me k : ℕ) (xs : List Entry) (point : Point) → HistoryReaches c me xs point → HasSnapshot c k xs → Has (λ (st : State). st.number ≡ k) point.snapshots
 has_snapshot c me k [] point h is = subst (λ (p : Point). Has (λ (st : State). st.number ≡ k) p.snapshots) (sym h) (first is)
   where
     first : HasSnapshot c k [] → (opening.number ≡ k) ⊎ ⊥
@@ -135,7 +135,7 @@ falls_filtered test n (x ∷ xs) h = go (test x) (falls_filtered test x.number x
     go true below = (h.0, below)
     go false below = let a = h.0 in let l : x.number ≤ n = omega arith in falls_below x.number n (filter test xs) l below
 
-snapshots_fall : (c : Configuration) (me : ℕ) (xs : List Entry) (point : Point) → Leaves c me xs point → Falls (suc point.state.number) point.snapshots
+snapshots_fall : (c : Configuration) (me : ℕ) (xs : List Entry) (point : Point) → HistoryReaches c me xs point → Falls (suc point.state.number) point.snapshots
 snapshots_fall c me [] point h = subst (λ (p : Point). Falls (suc p.state.number) p.snapshots) (sym h) (omega arith, tt)
 snapshots_fall c me (e ∷ past) point h = go e h.2.may h.2.moves (snapshots_fall c me past h.0 h.1)
   where

@@ -9,7 +9,7 @@ use Rattle.protocol.specs.System.Trace.{Entry, is_output, Has, either, AreOutput
 use Rattle.protocol.specs.System.Trace.Entry.{Invoke, Got, Tick, Executed, Installed, Sent, Accepted}
 use Rattle.protocol.specs.Replica.Certificates.{logged}
 use Rattle.protocol.specs.Replica.State.{Ran, ran_in}
-use Rattle.protocol.specs.Replica.RightReplica.{Point, Leaves, SafeReplica, May, Moves, IsFree, MayPrePrepare, MayReply, Executes, AtInput, GetsOrdered, reply_of}
+use Rattle.protocol.specs.Replica.RightReplica.{Point, HistoryReaches, SafeReplica, May, Moves, IsFree, MayPrePrepare, MayReply, Executes, AtInput, GetsOrdered, reply_of}
 use Rattle.evidence.specs.Refused.{SkipsNoNumber, GoesBackToNoNumber, PrePreparesNearby, RepliesToWhoAsked, IsReplyOf}
 use Rattle.protocol.proofs.Words.Elements.{has_either, has_some}
 use Rattle.evidence.proofs.Refusing.{is_reply, newest_state}
@@ -44,7 +44,7 @@ pre_prepares_nearby c me v i batch bytes past says free right =
 -- ---- replies
 
 -- each request that ran in the event is from a batch that the replica executed in the event
-ran_here : (c : Configuration) (me : ℕ) (input : Entry) (past outputs : List Entry) → is_output input ≡ false → AreOutputs outputs → (point : Point) → Leaves c me (outputs ++ input ∷ past) point
+ran_here : (c : Configuration) (me : ℕ) (input : Entry) (past outputs : List Entry) → is_output input ≡ false → AreOutputs outputs → (point : Point) → HistoryReaches c me (outputs ++ input ∷ past) point
     → (x : Ran) → Has (λ y. y ≡ x) point.ran → Has (Executes x.kept.number []) outputs
 ran_here c me input past [] is all point h x has = go input is h.2.may h.2.moves
   where

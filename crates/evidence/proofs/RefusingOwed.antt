@@ -7,7 +7,7 @@ use Rattle.protocol.specs.System.Configuration.{Configuration}
 use Rattle.protocol.specs.System.Trace.{Entry, is_output, Once, Has, AreOutputs, either, Hears}
 use Rattle.protocol.specs.System.Trace.Entry.{Got, Tick, Executed, Sent}
 use Rattle.protocol.specs.Replica.State.{State, root_of, Call}
-use Rattle.protocol.specs.Replica.RightReplica.{Point, Leaves, Executes, IsInstalled, IsRootWanted, TimesOut, JoinsOthers}
+use Rattle.protocol.specs.Replica.RightReplica.{Point, HistoryReaches, Executes, IsInstalled, IsRootWanted, TimesOut, JoinsOthers}
 use Rattle.protocol.specs.Replica.Transfers.{fetch_sent, fetching}
 use Rattle.wire.specs.Words.{requests_of, said}
 use Rattle.wire.specs.Messages.{pre_prepare as PrePrepare, checkpoint as Checkpoint, reply as Reply, ViewChangeData, view_change as ViewChange}
@@ -16,7 +16,7 @@ use Rattle.terms.specs.declared.order.Mode.TheVariants as modes
 use Rattle.tuple_codec.specs.Operations.{Outcome}
 use Rattle.protocol.specs.Replica.Selection.{is_within}
 use Rattle.protocol.specs.Replica.Certificates.{logged, Committed, taken, view, latest_change}
-use Rattle.protocol.specs.Replica.Owed.{AtOutputs, HasRequest, IsNumbered, AreDifferent, NumbersOnce, StartsAhead, TransferGoesOn, Owes, Proceeds, IsReplica, SendsMessage, HasToMove}
+use Rattle.protocol.specs.Replica.Owed.{AtOutputs, HasRequest, IsNumbered, AreDifferent, NumbersOnce, StartsAhead, TransferGoesOn, Owes, HistoryIsPrompt, IsReplica, SendsMessage, HasToMove}
 use Rattle.evidence.specs.Refused.{GoesOn, NumbersNoneTwice, NumbersNoneTogether, AnswersReads, AnswersDigestFetches, AnswersPageFetches, AnswersAgain, AnswersRan, PreparesLogged, CommitsPrepared, ExecutesCommitted, NumbersWaiting, FetchesAhead, FetchesStarts, FetchesAgain, SendsCheckpoints, AsksOn, InstallsFetched, newest_number, MovesForReasons}
 use Rattle.protocol.proofs.Words.Reacting.{one_of, proceeds_leaves}
 use Rattle.evidence.proofs.Refusing.{newest_state}
@@ -38,8 +38,8 @@ at_input false is X Y h = h
 pub record Event (c : Configuration) (me : ℕ) (outputs : List Entry) (input : Entry) (past : List Entry) : Type 0 where
   pub old : Point
   pub new : Point
-  pub before : Leaves c me past old
-  pub behind : Leaves c me (outputs ++ input ∷ past) new
+  pub before : HistoryReaches c me past old
+  pub behind : HistoryReaches c me (outputs ++ input ∷ past) new
   pub owes : Owes c me past input (reverse outputs) (outputs ++ input ∷ past) old new
 
 -- a history without its later entries
@@ -47,23 +47,23 @@ record Part (c : Configuration) (me : ℕ) (xs : List Entry) : Type 0 where
   outputs : List Entry
   new : Point
   point : Point
-  proceeds : Proceeds c me xs outputs new point
+  proceeds : HistoryIsPrompt c me xs outputs new point
 
-part_of : (c : Configuration) (me : ℕ) (ys xs outputs : List Entry) (new point : Point) → Proceeds c me (ys ++ xs) outputs new point → Part c me xs
+part_of : (c : Configuration) (me : ℕ) (ys xs outputs : List Entry) (new point : Point) → HistoryIsPrompt c me (ys ++ xs) outputs new point → Part c me xs
 part_of c me [] xs outputs new point h = record { outputs = outputs; new = new; point = point; proceeds = h }
 part_of c me (e ∷ ys) xs outputs new point h = one_of (is_output e) _ _ (Part c me xs) h.2 (part_of c me ys xs (e ∷ outputs) new h.0) (λ k. part_of c me ys xs [] h.0 h.0 k.1)
 
 -- from the end of an event back to its input
 input_of : (c : Configuration) (me : ℕ) (outputs : List Entry) (input : Entry) (past said : List Entry) (new point : Point) → AreOutputs outputs → is_output input ≡ false
-    → Proceeds c me (outputs ++ input ∷ past) said new point
-    → (old : Point) × Leaves c me past old × Owes c me past input (reverse_aux outputs said) (reverse (reverse_aux outputs said) ++ input ∷ past) old new
+    → HistoryIsPrompt c me (outputs ++ input ∷ past) said new point
+    → (old : Point) × HistoryReaches c me past old × Owes c me past input (reverse_aux outputs said) (reverse (reverse_aux outputs said) ++ input ∷ past) old new
 input_of c me [] input past said new point are is h =
-    let k = at_input (is_output input) is (Proceeds c me past (input ∷ said) new h.0) (Owes c me past input said (reverse said ++ input ∷ past) h.0 new × Proceeds c me past [] h.0 h.0) h.2 in
+    let k = at_input (is_output input) is (HistoryIsPrompt c me past (input ∷ said) new h.0) (Owes c me past input said (reverse said ++ input ∷ past) h.0 new × HistoryIsPrompt c me past [] h.0 h.0) h.2 in
     (h.0, proceeds_leaves c me past [] h.0 h.0 k.1, k.0)
 input_of c me (e ∷ outputs) input past said new point are is h =
     input_of c me outputs input past (e ∷ said) new h.0 are.1 is
-    (at_output (is_output e) are.0 (Proceeds c me (outputs ++ input ∷ past) (e ∷ said) new h.0)
-    (Owes c me (outputs ++ input ∷ past) e said (reverse said ++ e ∷ (outputs ++ input ∷ past)) h.0 new × Proceeds c me (outputs ++ input ∷ past) [] h.0 h.0) h.2)
+    (at_output (is_output e) are.0 (HistoryIsPrompt c me (outputs ++ input ∷ past) (e ∷ said) new h.0)
+    (Owes c me (outputs ++ input ∷ past) e said (reverse said ++ e ∷ (outputs ++ input ∷ past)) h.0 new × HistoryIsPrompt c me (outputs ++ input ∷ past) [] h.0 h.0) h.2)
 
 pub event_of : (c : Configuration) (me : ℕ) (outputs : List Entry) (input : Entry) (past : List Entry) → GoesOn c me outputs input past → Event c me outputs input past
 event_of c me outputs input past g = go g.is_replica
@@ -71,7 +71,7 @@ event_of c me outputs input past g = go g.is_replica
     rest : List Entry
     rest = outputs ++ input ∷ past
 
-    at_end : (point : Point) → Proceeds c me rest [] point point → Event c me outputs input past
+    at_end : (point : Point) → HistoryIsPrompt c me rest [] point point → Event c me outputs input past
     at_end point h =
         let r = input_of c me outputs input past [] point point g.are_outputs g.is_input h in
         record {
@@ -85,8 +85,8 @@ event_of c me outputs input past g = go g.is_replica
     go : IsReplica c me (Sent me g.later ∷ (g.between ++ g.next ∷ rest)) → Event c me outputs input past
     go (inl h) =
         let p = part_of c me g.between (g.next ∷ rest) (Sent me g.later ∷ []) h.0 h.1.0 h.1.2 in
-        let k = at_input (is_output g.next) g.is_next (Proceeds c me rest (g.next ∷ p.outputs) p.new p.proceeds.0)
-        (Owes c me rest g.next p.outputs (reverse p.outputs ++ g.next ∷ rest) p.proceeds.0 p.new × Proceeds c me rest [] p.proceeds.0 p.proceeds.0) p.proceeds.2 in
+        let k = at_input (is_output g.next) g.is_next (HistoryIsPrompt c me rest (g.next ∷ p.outputs) p.new p.proceeds.0)
+        (Owes c me rest g.next p.outputs (reverse p.outputs ++ g.next ∷ rest) p.proceeds.0 p.new × HistoryIsPrompt c me rest [] p.proceeds.0 p.proceeds.0) p.proceeds.2 in
         at_end p.proceeds.0 k.1
     go (inr h) = absurd h.1
 

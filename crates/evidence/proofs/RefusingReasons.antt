@@ -11,7 +11,7 @@ use Rattle.protocol.specs.System.Trace.Entry.{Got, Tick}
 use Rattle.protocol.specs.Replica.Selection.{is_within}
 use Rattle.protocol.specs.Replica.Certificates.{view, target, latest_change}
 use Rattle.protocol.specs.Replica.State.{Call}
-use Rattle.protocol.specs.Replica.RightReplica.{Point, Leaves, TimesOut, JoinsOthers, sought_view, is_ahead}
+use Rattle.protocol.specs.Replica.RightReplica.{Point, HistoryReaches, TimesOut, JoinsOthers, sought_view, is_ahead}
 use Rattle.evidence.specs.RefusedChanges.{NoChangeAtFirst, NoChangeAtFrame, ChangesJoinEnough, ChangesJoinLeast, TicksMoveByOne}
 use Rattle.evidence.proofs.RefusingChanges.{new_change}
 use Rattle.protocol.proofs.Words.Options.{some_injective}
@@ -42,7 +42,7 @@ none_ahead c me s past none is =
 
 -- ---- view changes without a reason
 
-nothing_waits : (c : Configuration) (me : ℕ) (point : Point) → Leaves c me (Tick me ∷ []) point → point.waiting ≡ []
+nothing_waits : (c : Configuration) (me : ℕ) (point : Point) → HistoryReaches c me (Tick me ∷ []) point → point.waiting ≡ []
 nothing_waits c me point (old, first, step) = ap (λ (p : Point). p.waiting) step.moves ∙ ap (λ (p : Point). p.waiting) first
 
 pub no_change_at_first : NoChangeAtFirst

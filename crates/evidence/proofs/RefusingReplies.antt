@@ -9,7 +9,7 @@ use Rattle.protocol.specs.System.Configuration.{Configuration}
 use Rattle.protocol.specs.System.Trace.{Entry, Once, Always, Has}
 use Rattle.protocol.specs.System.Trace.Entry.{Invoke, Got, Tick, Executed, Installed, Sent, Accepted}
 use Rattle.protocol.specs.Replica.State.{State, Call, Ran, call_of, runs, kept_by, kept_of, run_frame, ran_by, ran_in, execute}
-use Rattle.protocol.specs.Replica.RightReplica.{Point, Leaves, May, Moves, MayReply, reply_of}
+use Rattle.protocol.specs.Replica.RightReplica.{Point, HistoryReaches, May, Moves, MayReply, reply_of}
 use Rattle.protocol.specs.Replica.Owed.{HasRequest}
 use Rattle.evidence.specs.Refused.{RepliesOfExecuted, ExecutesRequest, NoInstallation, IsReplyOf}
 use Rattle.protocol.proofs.Points.Keeping.{Keeps, frames_kept, executed_kept}
@@ -60,7 +60,7 @@ record OfExecuted (c : Configuration) (past : List Entry) (point : Point) : Type
   ran : (x : Ran) → Has (λ y. y ≡ x) point.ran → Once (ExecutesRequest c x.kept.number x.call.client x.kept.timestamp) past
   kept : (k : ℕ) (kept : Kept) → kept_of point.state k ≡ Some kept → Once (ExecutesRequest c kept.number k kept.timestamp) past
 
-of_executed : (c : Configuration) (me : ℕ) (xs : List Entry) → Always NoInstallation xs → (point : Point) → Leaves c me xs point → OfExecuted c xs point
+of_executed : (c : Configuration) (me : ℕ) (xs : List Entry) → Always NoInstallation xs → (point : Point) → HistoryReaches c me xs point → OfExecuted c xs point
 of_executed c me [] none point h = record {
   ran = λ x has. subst (λ (p : Point). Has (λ y. y ≡ x) p.ran) h has;
   kept = λ k kept is. absurd (let none : None ≡ Some kept = sym (none_kept k) ∙ subst (λ (p : Point). kept_of p.state k ≡ Some kept) h is in cc);

@@ -5,7 +5,7 @@ use Rattle.protocol.specs.System.Configuration.{Configuration}
 use Rattle.protocol.specs.System.Trace.{Entry}
 use Rattle.protocol.specs.System.Trace.Entry.{Got}
 use Rattle.protocol.specs.Replica.Certificates.{is_active_in}
-use Rattle.protocol.specs.Replica.RightReplica.{Point, Leaves}
+use Rattle.protocol.specs.Replica.RightReplica.{Point, HistoryReaches}
 use Rattle.protocol.specs.Replica.Owed.{IsSaying, SendsRow, SendsView, SendsAgain}
 use Rattle.evidence.specs.RefusedResending.{GetsAgain, IsRunning, SendsPreparesAgain, SendsCommitsAgain, SendsBatchesAgain, SendsNewViewsAgain, SendsCheckpointsAgain, SendsChangesAgain}
 use Rattle.evidence.proofs.RefusingOwed.{event_of}
@@ -13,7 +13,7 @@ use Rattle.protocol.proofs.Words.Elements.{has_reverse}
 
 -- what it gives, and the point at the input
 again : (c : Configuration) (me : ℕ) (bytes : List ℕ) (outputs past : List Entry) → GetsAgain c me bytes outputs past
-    → (old : Point) × Leaves c me past old × SendsAgain c me past old.state.number (reverse outputs)
+    → (old : Point) × HistoryReaches c me past old × SendsAgain c me past old.state.number (reverse outputs)
 again c me bytes outputs past g =
     let e = event_of c me outputs (Got me bytes) past g.goes in
     (e.old, e.before, e.owes.says_again (g.call, g.waits e.old e.before, g.hears))

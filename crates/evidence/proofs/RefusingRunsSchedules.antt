@@ -10,9 +10,9 @@ use Rattle.wire.specs.Messages.{FrameData as Frame}
 use Rattle.std.specs.Option.{option_map_or}
 use Rattle.protocol.specs.System.Trace.{Entry, is_output, Has}
 use Rattle.protocol.specs.System.Trace.Entry.{Invoke, Got, Tick, Sent}
-use Rattle.protocol.specs.System.Schedule.{Step, Made, World, Goes, AtInput, new_world, made_by, meant_for, is_delivered, next_receiver, next_pair, pending, Feeds}
+use Rattle.protocol.specs.System.Schedule.{Step, Made, World, StepsLead, AtInput, new_world, made_by, meant_for, is_delivered, next_receiver, next_pair, pending, Feeds}
 use Rattle.protocol.specs.System.Schedule.Step.{calls, deliver, feed, seal, sign, ticks, flush}
-use Rattle.protocol.specs.System.Schedule.Goes.{ends, gives, called, delivers, gets, ticked, seals, signs, flushes, flushed}
+use Rattle.protocol.specs.System.Schedule.StepsLead.{ends, gives, called, delivers, gets, ticked, seals, signs, flushes, flushed}
 use Rattle.evidence.specs.RefusedRuns.{calls_for, invokes_for, FeedsEachCall, ticks_for, is_tick_of, FeedsEachTick, Gets, FlushDeliversAll, FlushDeliversSent}
 use Rattle.protocol.proofs.Words.Options.{some_injective}
 use Rattle.protocol.proofs.Words.Elements.{some_of_has, each_has}
@@ -43,7 +43,7 @@ count_more test x xs = go (test x)
 count_same : {A : Type 0} (test : A → Bool) (x : A) (xs : List A) → test x ≡ false → length (filter test (x ∷ xs)) ≡ length (filter test xs)
 count_same test x xs fails = rw fails refl
 
-counted : (c : Configuration) (s : Step → Bool) (t : Entry → Bool) → Agree s t → (w v : World) (steps : List Step) (entries : List Entry) → Goes c w steps entries v
+counted : (c : Configuration) (s : Step → Bool) (t : Entry → Bool) → Agree s t → (w v : World) (steps : List Step) (entries : List Entry) → StepsLead c w steps entries v
     → length (filter t v.past) ≡ length (filter s steps) + length (filter t w.past)
 counted c s t a w v _ _ ends = omega arith
 counted c s t a w v _ _ (gives {steps = steps} {e = e} o g) =
@@ -152,7 +152,7 @@ done_more : (frames more : List Made) (past : List Entry) (xs : List (ℕ × ℕ
 done_more frames more past [] h = tt
 done_more frames more past (x ∷ xs) h = ((h.0.0, get_left frames more x.0 h.0.0 h.0.1, h.0.2), done_more frames more past xs h.1)
 
-all_done : (c : Configuration) (w v : World) (steps : List Step) (entries : List Entry) → Goes c w steps entries v → Each (IsDone w.frames w.past) w.delivered → Each (IsDone v.frames v.past) v.delivered
+all_done : (c : Configuration) (w v : World) (steps : List Step) (entries : List Entry) → StepsLead c w steps entries v → Each (IsDone w.frames w.past) w.delivered → Each (IsDone v.frames v.past) v.delivered
 all_done c w v _ _ ends h = h
 all_done c w v _ _ (gives {e = e} o g) h = all_done c _ _ _ _ g (done_later w.frames (made_by c e) w.past e w.delivered h)
 all_done c w v _ _ (called {client = client} {timestamp = timestamp} {op = op} a g) h = all_done c _ _ _ _ g (done_later w.frames [] w.past (Invoke client timestamp op) w.delivered h)
@@ -166,7 +166,7 @@ all_done c w v _ _ (flushes p g) h = all_done c _ _ _ _ g h
 all_done c w v _ _ (flushed i p g) h = all_done c _ _ _ _ g h
 
 -- after a last flush, no frame is left to deliver
-no_more : (c : Configuration) (w v : World) (steps : List Step) (entries : List Entry) → Goes c w steps entries v → steps ≡ [] → AtInput entries → pending c w ≡ None → pending c v ≡ None
+no_more : (c : Configuration) (w v : World) (steps : List Step) (entries : List Entry) → StepsLead c w steps entries v → steps ≡ [] → AtInput entries → pending c w ≡ None → pending c v ≡ None
 no_more c w v _ _ ends is i h = h
 no_more c w v _ _ (gives o g) is i h = let bad : false ≡ true = sym i ∙ o in absurd cc
 no_more c w v _ _ (called a g) is i h = absurd cc
@@ -189,7 +189,7 @@ rest_flushes step steps other h = go h.0 h.1
     go [] e = absurd (other (let same : step ≡ flush = cc in same))
     go (x ∷ before) e = (before, let same : steps ≡ before ++ flush ∷ [] = cc in same)
 
-nothing_left : (c : Configuration) (w v : World) (steps : List Step) (entries : List Entry) → Goes c w steps entries v → Flushes steps → pending c v ≡ None
+nothing_left : (c : Configuration) (w v : World) (steps : List Step) (entries : List Entry) → StepsLead c w steps entries v → Flushes steps → pending c v ≡ None
 nothing_left c w v _ _ ends h = none h.0 h.1
   where
     none : (before : List Step) → [] ≡ before ++ flush ∷ [] → pending c v ≡ None
@@ -278,7 +278,7 @@ module _ (c : Configuration) (sender : ℕ) (bytes : List ℕ) where
   made_before : (frames more : List Made) → IsMade (made_of c sender bytes) frames → IsMade (made_of c sender bytes) (frames ++ more)
   made_before frames more i = (i.0, get_left frames more i.0 (made_of c sender bytes) i.1)
 
-  sent_is_made : (w v : World) (steps : List Step) (entries : List Entry) → Goes c w steps entries v → (Has (λ x. x ≡ Sent sender bytes) w.past → IsMade (made_of c sender bytes) w.frames)
+  sent_is_made : (w v : World) (steps : List Step) (entries : List Entry) → StepsLead c w steps entries v → (Has (λ x. x ≡ Sent sender bytes) w.past → IsMade (made_of c sender bytes) w.frames)
       → Has (λ x. x ≡ Sent sender bytes) v.past → IsMade (made_of c sender bytes) v.frames
   sent_is_made w v _ _ ends h = h
   sent_is_made w v _ _ (gives {e = e} o g) h = sent_is_made _ _ _ _ g (made_here w.frames w.past e h)

@@ -5,9 +5,9 @@ use Rattle.std.proofs.lemmas.Bool.{or_cases}
 use Rattle.protocol.specs.System.Configuration.{Configuration, is_replica, is_client}
 use Rattle.protocol.specs.System.Trace.{Entry, Always, Has, is_output}
 use Rattle.protocol.specs.System.Trace.Entry.{Invoke, Got, Tick}
-use Rattle.protocol.specs.System.Schedule.{Step, Made, World, Goes, AtInput, new_world, made_by, sealed_bytes, signed_bytes, AreReceivers, IsAllowed}
+use Rattle.protocol.specs.System.Schedule.{Step, Made, World, StepsLead, AtInput, new_world, made_by, sealed_bytes, signed_bytes, AreReceivers, IsAllowed}
 use Rattle.protocol.specs.System.Schedule.Step.{calls, deliver, feed, seal, sign, ticks, flush}
-use Rattle.protocol.specs.System.Schedule.Goes.{ends, gives, called, delivers, gets, ticked, seals, signs, flushes, flushed}
+use Rattle.protocol.specs.System.Schedule.StepsLead.{ends, gives, called, delivers, gets, ticked, seals, signs, flushes, flushed}
 use Rattle.evidence.specs.RefusedSteps.{MayBeFed, FeedsWhatMayBeFed, ArePartiesInOrder, MayMake, FeedsWhatMayBeMade, FlushDeliversSealed, FlushDeliversSigned, SealedIsNewest, SignedIsNewest, MayCome, AllowsWhatMayCome, AllowsNoOther}
 use Rattle.protocol.proofs.Words.Scheduling.{past_of}
 use Rattle.evidence.proofs.RefusingRunsSchedules.{flush_delivers_all}
@@ -21,7 +21,7 @@ output_may c past (Got p bytes) h = absurd cc
 output_may c past (Tick p) h = absurd cc
 output_may c past _ h = tt
 
-fed : (c : Configuration) (w v : World) (steps : List Step) (entries : List Entry) → Goes c w steps entries v → Always (MayBeFed c) w.past → Always (MayBeFed c) v.past
+fed : (c : Configuration) (w v : World) (steps : List Step) (entries : List Entry) → StepsLead c w steps entries v → Always (MayBeFed c) w.past → Always (MayBeFed c) v.past
 fed c w v _ _ ends h = h
 fed c w v _ _ (gives {e = e} o g) h = fed c _ _ _ _ g (output_may c w.past e o, h)
 fed c w v _ _ (called a g) h = fed c _ _ _ _ g (a, h)
@@ -50,7 +50,7 @@ in_order c ps r = (r.some, r.few, r.ascend, λ k d l. or_cases (is_replica c _) 
 receivers : (c : Configuration) (ps : List ℕ) → ArePartiesInOrder c ps → AreReceivers c ps
 receivers c ps h = record { some = h.0; few = h.1; ascend = h.2; parties = λ k d l. test_of_party (is_replica c _) (is_client c _) (h.3 k d l) }
 
-made : (c : Configuration) (w v : World) (steps : List Step) (entries : List Entry) → Goes c w steps entries v → Each (MayMake c) steps
+made : (c : Configuration) (w v : World) (steps : List Step) (entries : List Entry) → StepsLead c w steps entries v → Each (MayMake c) steps
 made c w v _ _ ends = tt
 made c w v _ _ (gives o g) = made c _ _ _ _ g
 made c w v _ _ (called a g) = (tt, made c _ _ _ _ g)
@@ -122,7 +122,7 @@ Makes c x (sign replica leaf rs body) = x ≡ record { bytes = signed_bytes c re
 Makes c x _ = ⊥
 
 module _ (c : Configuration) (x : Made) where
-  stays : (w v : World) (steps : List Step) (entries : List Entry) → Goes c w steps entries v → IsThere x w.frames ⊎ Has (Makes c x) steps → IsThere x v.frames
+  stays : (w v : World) (steps : List Step) (entries : List Entry) → StepsLead c w steps entries v → IsThere x w.frames ⊎ Has (Makes c x) steps → IsThere x v.frames
   stays w v _ _ ends (inl h) = h
   stays w v _ _ ends (inr h) = absurd h
   stays w v _ _ (gives {e = e} o g) (inl h) = stays _ _ _ _ g (inl (there_before w.frames (made_by c e) x h))
@@ -167,7 +167,7 @@ flush_delivers_signed c steps replica leaf q rs body trace feeds step has correc
 -- ---- a frame that the last step made is the last
 
 -- without steps, and with no output next, the world gets no more frames
-nothing_more : (c : Configuration) (w v : World) (steps : List Step) (entries : List Entry) → Goes c w steps entries v → steps ≡ [] → AtInput entries → v.frames ≡ w.frames
+nothing_more : (c : Configuration) (w v : World) (steps : List Step) (entries : List Entry) → StepsLead c w steps entries v → steps ≡ [] → AtInput entries → v.frames ≡ w.frames
 nothing_more c w v _ _ ends is i = refl
 nothing_more c w v _ _ (gives o g) is i = let bad : false ≡ true = sym i ∙ o in absurd cc
 nothing_more c w v _ _ (called a g) is i = absurd cc
@@ -203,7 +203,7 @@ module _ (c : Configuration) (x : Made) where
       go [] e = here (let same : h.1 ≡ first = cc in subst (λ (s : Step). Makes c x s) same h.3) (let none : steps ≡ [] = cc in none)
       go (y ∷ before) e = below (before, h.1, (let same : steps ≡ before ++ h.1 ∷ [] = cc in same), h.3)
 
-  newest : (w v : World) (steps : List Step) (entries : List Entry) → Goes c w steps entries v → MakesLast steps → IsNewest x v.frames
+  newest : (w v : World) (steps : List Step) (entries : List Entry) → StepsLead c w steps entries v → MakesLast steps → IsNewest x v.frames
   newest w v _ _ ends h = none h.0 h.2
     where
       none : (before : List Step) → [] ≡ before ++ h.1 ∷ [] → IsNewest x v.frames

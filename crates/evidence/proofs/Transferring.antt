@@ -12,7 +12,7 @@ use Rattle.protocol.specs.System.Trace.Entry.{Got, Sent}
 use Rattle.protocol.specs.Replica.State.{opening, all_pages, page_text}
 use Rattle.protocol.specs.Replica.Transfers.{took, in_place, DiffersFirst}
 use Rattle.protocol.specs.Replica.RightReplica.{first_point, IsRootWanted, MayFetch}
-use Rattle.protocol.specs.Replica.Owed.{has_number, Counts, IsInnerWanted, Proceeds, IsReplica}
+use Rattle.protocol.specs.Replica.Owed.{has_number, Counts, IsInnerWanted, HistoryIsPrompt, IsReplica}
 use Rattle.evidence.specs.Examples.{four}
 use Rattle.evidence.specs.ExamplesOfTransfer.{Parts, with_page_0, AreDifferentParts, digests_of_pages, digests_of_inner_parts, root_of_parts, TransferFrames, AreTransferFrames, transfer, TransferBegins}
 use Rattle.evidence.proofs.TransferringStages.{and_one, Stage, first_stage, stage_checkpoint, stage_meta, stage_page, stage_fetch, quorum_here}
@@ -256,18 +256,18 @@ module _ (clients : ℕ) (seed : List ℕ) (x : Parts) (w : TransferFrames) (dif
     ),
   )
 
-  to_second : Proceeds c 0 h2 [] first_point first_point
+  to_second : HistoryIsPrompt c 0 h2 [] first_point first_point
   to_second =
       goes_quiet clients seed root h1 (w.checkpoint 2) (checkpoint_of 2) p2 None 0 hears2 tt (λ n part. part) s2 refl
       (goes_quiet clients seed root [] (w.checkpoint 1) (checkpoint_of 1) p1 None 0 hears1 tt (λ n part. part) s1 refl (refl, refl))
 
-  to_root : Proceeds c 0 h4 [] first_point first_point
+  to_root : HistoryIsPrompt c 0 h4 [] first_point first_point
   to_root = goes_on clients seed root h2 (w.checkpoint 3) w.fetch_root (checkpoint_of 3) 0 levels.Root p3 hears3 tt (λ n part. absurd part) f.asks_root s4 fetches_root (inr (refl, refl)) counts_checkpoint to_second
 
-  to_inner : Proceeds c 0 h6 [] first_point first_point
+  to_inner : HistoryIsPrompt c 0 h6 [] first_point first_point
   to_inner = goes_on clients seed root h4 w.below_root w.fetch_inner root_given 0 levels.Inner p3 hears_root tt (λ n part. part) f.asks_inner s6 fetches_inner (inl s4.fetching_is) counts_root to_root
 
-  to_page : Proceeds c 0 h8 [] first_point first_point
+  to_page : HistoryIsPrompt c 0 h8 [] first_point first_point
   to_page = goes_on clients seed root h6 w.below_inner w.fetch_page inner_given 0 levels.Page p3 hears_inner tt (λ n part. part) f.asks_page s8 fetches_page (inl s6.fetching_is) counts_inner to_inner
 
   begins : IsReplica c 0 (transfer w)

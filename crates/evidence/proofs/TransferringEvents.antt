@@ -18,7 +18,7 @@ use Rattle.protocol.specs.Replica.Certificates.{logged, count_checkpoints}
 use Rattle.protocol.specs.Replica.State.{Call, opening, call_in}
 use Rattle.protocol.specs.Replica.RightReplica.{Point, first_point, with_waiting, waiting_after, others, Executes, IsAddressed, IsStep, MayFetch, MaySend, SentInEvent}
 use Rattle.protocol.specs.Replica.Transfers.{fetch_sent, fetching}
-use Rattle.protocol.specs.Replica.Owed.{SendsMessage, AtOutputs, NumbersOnce, Counts, IsDropped, Owes, Proceeds}
+use Rattle.protocol.specs.Replica.Owed.{SendsMessage, AtOutputs, NumbersOnce, Counts, IsDropped, Owes, HistoryIsPrompt}
 use Rattle.evidence.specs.Examples.{four}
 use Rattle.evidence.specs.FirstOperation.{IsFrom}
 use Rattle.protocol.proofs.Words.Moving.{no_reason}
@@ -49,7 +49,7 @@ module _ (clients : ℕ) (seed root : List ℕ) where
   At past p asked k = Stage clients seed root past p asked k
 
   abbrev Proceeding : List Entry → Type 0
-  Proceeding past = Proceeds c 0 past [] first_point first_point
+  Proceeding past = HistoryIsPrompt c 0 past [] first_point first_point
 
   none_logged : (past : List Entry) (p : ℕ → Bool) (asked : Option (ℕ × (Level × ℕ))) (k : ℕ) → At past p asked k → (v i : ℕ) (batch : List ℕ) → logged c 0 past v i ≡ Some batch → ⊥
   none_logged past p asked k st v i batch h = absurd (let bad : None ≡ Some batch = sym (st.logged_is v i) ∙ h in cc)

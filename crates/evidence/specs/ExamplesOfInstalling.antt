@@ -12,7 +12,7 @@ use Rattle.protocol.specs.System.Trace.{Entry}
 use Rattle.protocol.specs.System.Trace.Entry.{Got, Installed, Sent}
 use Rattle.protocol.specs.Replica.State.{State, opening, root_of, page_text, pages_of}
 use Rattle.protocol.specs.Replica.Transfers.{IsFirstToDiffer}
-use Rattle.protocol.specs.Replica.RightReplica.{Point, Leaves, others, digests_at}
+use Rattle.protocol.specs.Replica.RightReplica.{Point, HistoryReaches, others, digests_at}
 use Rattle.evidence.specs.Examples.{four}
 use Rattle.evidence.specs.FirstOperation.{IsFrom}
 
@@ -65,4 +65,4 @@ installation w =
 abbrev pub StateIsInstalled : Type 0
 StateIsInstalled =
     (clients : ℕ) (seed : List ℕ) (w : InstallFrames) → IsHeaderFirst → AreInstallFrames (four clients seed) w
-    → (point : Point) × Leaves (four clients seed) 0 (installation w) point × (point.state ≡ later_state)
+    → (point : Point) × HistoryReaches (four clients seed) 0 (installation w) point × (point.state ≡ later_state)

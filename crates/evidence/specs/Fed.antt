@@ -6,7 +6,7 @@ use Rattle.protocol.specs.System.Configuration.{Configuration, is_correct, is_co
 use Rattle.protocol.specs.System.Trace.{Entry, history_of, is_output, Has, AreOutputs}
 use Rattle.protocol.specs.System.Trace.Entry.{Invoke, Got, Tick}
 use Rattle.protocol.specs.Client.RightClient.{open_call}
-use Rattle.protocol.specs.System.Schedule.{Step, calls, deliver, feed, seal, sign, ticks, flush, Made, World, sealed_bytes, signed_bytes, Goes, Feeds}
+use Rattle.protocol.specs.System.Schedule.{Step, calls, deliver, feed, seal, sign, ticks, flush, Made, World, sealed_bytes, signed_bytes, StepsLead, Feeds}
 use Rattle.evidence.specs.RefusedSteps.{MayMake}
 use Rattle.wire.specs.Lists.{Each}
 
@@ -90,16 +90,16 @@ with_delivery c w frame party bytes =
 abbrev pub FlushDeliversNext : Type 0
 FlushDeliversNext =
     (c : Configuration) (w v : World) (frame party : ℕ) (made : Made) (steps : List Step) (entries : List Entry)
-    → IsNext c w frame party made → Goes c (with_delivery c w frame party made.bytes) (flush ∷ steps) entries v
-    → Goes c w (flush ∷ steps) (Got party made.bytes ∷ entries) v
+    → IsNext c w frame party made → StepsLead c (with_delivery c w frame party made.bytes) (flush ∷ steps) entries v
+    → StepsLead c w (flush ∷ steps) (Got party made.bytes ∷ entries) v
 
 -- It feeds no other input first.
 abbrev pub FlushDeliversNoOther : Type 0
 FlushDeliversNoOther =
     (c : Configuration) (w v : World) (input : Entry) (entries : List Entry)
-    → is_output input ≡ false → Goes c w (flush ∷ []) (input ∷ entries) v
+    → is_output input ≡ false → StepsLead c w (flush ∷ []) (input ∷ entries) v
     → (frame : ℕ) × (party : ℕ) × (made : Made) × IsNext c w frame party made × (input ≡ Got party made.bytes)
-    × Goes c (with_delivery c w frame party made.bytes) (flush ∷ []) entries v
+    × StepsLead c (with_delivery c w frame party made.bytes) (flush ∷ []) entries v
 
 -- It ends if nothing is left.
 abbrev pub FlushEnds : Type 0
@@ -107,7 +107,7 @@ FlushEnds =
     (c : Configuration) (w : World)
     → ((n q : ℕ) (other : Made) → slice_get w.frames n ≡ Some other → Has (λ r. r ≡ q) other.receivers → IsLeft c w n q
     → ⊥)
-    → Goes c w (flush ∷ []) [] w
+    → StepsLead c w (flush ∷ []) [] w
 
 -- the entry is a frame that a party gets
 abbrev pub IsGot : Entry → Type 0

@@ -25,7 +25,7 @@ use Rattle.reply_cache.specs.Replies.{Kept}
 use Rattle.space.specs.Births.{SpaceState}
 use Rattle.space.specs.Pages.{header_text}
 use Rattle.protocol.specs.Replica.State.{State, Call, call_of, Ran, run_frame, ran_in, kept_of, last_time, tuples, root_of, all_pages, page_text}
-use Rattle.protocol.specs.Replica.RightReplica.{Point, Leaves, SafeReplica, Executes, GetsPage, WasAsked, SentBefore, HadQuorum, StartsAt, IsStep, IsInstalled, IsRootWanted, kept_states, digests_at, reply_of, IsNewViewChange, TimesOut, JoinsOthers}
+use Rattle.protocol.specs.Replica.RightReplica.{Point, HistoryReaches, SafeReplica, Executes, GetsPage, WasAsked, SentBefore, HadQuorum, StartsAt, IsStep, IsInstalled, IsRootWanted, kept_states, digests_at, reply_of, IsNewViewChange, TimesOut, JoinsOthers}
 use Rattle.protocol.specs.Client.RightClient.{SafeClient}
 use Rattle.protocol.specs.Replica.Transfers.{fetch_sent, fetching, asked_last, in_place}
 use Rattle.protocol.specs.Replica.Owed.{IsSaying, SendsMessage, GivesTo, HasRequest, IsNumbered, IsPageWanted, IsReplica}
@@ -43,7 +43,7 @@ NoInstallation past _ = ⊤
 
 -- what holds of each point at which the history may leave the replica
 abbrev pub AtEachPoint : Configuration → ℕ → List Entry → (Point → Type 0) → Type 0
-AtEachPoint c me history P = (point : Point) → Leaves c me history point → P point
+AtEachPoint c me history P = (point : Point) → HistoryReaches c me history point → P point
 
 -- ---- a replica
 
@@ -183,7 +183,7 @@ ReadsWhatWasAsked =
     → SafeReplica c me (Sent me bytes ∷ past)
     → (op : Operation) × (is_read_only op ≡ true)
     × Once (Hears c me (record { sender = client; message = Request timestamp modes.ReadOnly op })) past
-    × (point : Point) × Leaves c me past point × (answer ≡ outcome (tuples point.state) (client - 256) op)
+    × (point : Point) × HistoryReaches c me past point × (answer ≡ outcome (tuples point.state) (client - 256) op)
 
 -- An execution that skips a number, or goes back.
 abbrev pub ExecutesNext : Type 0
@@ -623,7 +623,7 @@ FetchesAgain =
 abbrev pub MovesForReasons : Type 0
 MovesForReasons =
     (c : Configuration) (me : ℕ) (input : Entry) (outputs past : List Entry) → GoesOn c me outputs input past
-    → (point : Point) × Leaves c me past point
+    → (point : Point) × HistoryReaches c me past point
     × ((vc : ViewChangeData) (bytes : List ℕ) → IsNewViewChange c me (input ∷ past) point vc → is_within c vc ≡ true
     → said bytes ≡ Some (record { sender = me; message = ViewChange vc })
     → TimesOut c me (input ∷ past) point.waiting vc.view
@@ -639,7 +639,7 @@ abbrev pub SendsCheckpoints : Type 0
 SendsCheckpoints =
     (c : Configuration) (me k : ℕ) (input : Entry) (outputs past : List Entry)
     → Once (Executes k) outputs → k % c.period ≡ 0 → GoesOn c me outputs input past
-    → (point : Point) × Leaves c me (outputs ++ input ∷ past) point
+    → (point : Point) × HistoryReaches c me (outputs ++ input ∷ past) point
     × Has (λ st. (st.number ≡ k) × SendsMessage me (Checkpoint k (root_of st)) outputs) point.snapshots
 
 -- ---- a new view
@@ -709,7 +709,7 @@ RunsOnce =
     → call_of c frame ≡ Some call → Has (λ x. x ≡ frame) (requests_of batch)
     → call_of c again ≡ Some other → other.client ≡ call.client → other.timestamp ≤ call.timestamp
     → requests_of later ≡ first ++ again ∷ rest
-    → Always NoInstallation between → Leaves c me (between ++ Executed me m batch ∷ past) old
+    → Always NoInstallation between → HistoryReaches c me (between ++ Executed me m batch ∷ past) old
     → IsStep c me (between ++ Executed me m batch ∷ past) old (Executed me n later) new
     → (new.state ≡ record (fold (run_frame c n) old.state (first ++ rest)) { number = n })
     × (new.ran ≡ old.ran ++ ran_in c n old.state (first ++ rest))

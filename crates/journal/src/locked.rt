@@ -4,7 +4,7 @@ ghost use Rattle.std.specs.Prelude.{◌≡◌, ◌↔◌, ◌≤◌, [], reverse
 ghost use Rattle.events.specs.Outputs.{after_entries};
 ghost use Rattle.protocol.specs.System.Run.{IsRun};
 ghost use Rattle.journal.specs.Carrying.{Carried, IsCarriedFrom};
-ghost use Rattle.journal.specs.Faults.{Tells};
+ghost use Rattle.journal.specs.Faults.{AppendIsRight};
 ghost use Rattle.journal.specs.Histories.{IsEventOf, IsRight};
 ghost use Rattle.journal.specs.Parts.{Agrees, AreAlike, HasRoom, InStep, IsOpening, longer, longer_part};
 ghost use Rattle.protocol.specs.System.Reads.{without_reads};
@@ -214,7 +214,7 @@ impl<N: Naming> Journal<N> {
         ensures kept { OnOk result (share.new ≡ longer_part share.old entries.items) }
         ensures refused { OnErr result (self.new ≡ self.old) }
         ensures unkept { OnErr result (share.new ≡ share.old) }
-        ensures tells { Tells result (InStep N.config self.old share.old from entries.items)
+        ensures tells { AppendIsRight result (InStep N.config self.old share.old from entries.items)
             (HasRoom self.old entries.items) }
     {
         if !self.is_in_step(share, from, entries.as_slice()) {
@@ -261,7 +261,7 @@ impl<N: Naming> Journal<N> {
         ensures refused { OnErr result (self.new ≡ self.old) }
         ensures unkept { OnErr result (share.new ≡ share.old) }
         ensures unordered { OnErr result (order.new ≡ order.old) }
-        ensures tells { Tells result
+        ensures tells { AppendIsRight result
             (InStep N.config self.old share.old from entries.items × AreAlike share.old order.old)
             (HasRoom self.old entries.items) }
     {

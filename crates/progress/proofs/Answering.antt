@@ -23,7 +23,7 @@ use Rattle.protocol.specs.System.Texts.{NoCollision}
 use Rattle.protocol.specs.System.Run.{IsRun, OnlyTheseStopped}
 use Rattle.protocol.specs.Replica.State.{kept_of}
 use Rattle.protocol.specs.Replica.RightReplica.{Point, MaySend, IsAddressed}
-use Rattle.protocol.specs.Replica.Owed.{Proceeds, SendsMessage}
+use Rattle.protocol.specs.Replica.Owed.{HistoryIsPrompt, SendsMessage}
 use Rattle.protocol.specs.Client.RightClient.{OpenCall, open_call, Vote, latest, is_alike, Reaction, reaction, IsReaction, Reacts, SafeClient}
 use Rattle.protocol.specs.Client.RightClient.Reaction.{nothing, asks}
 use Rattle.protocol.proofs.Words.Options.{some_injective}
@@ -213,9 +213,9 @@ module _ (c : Configuration) (setting : IsConfiguration c) (later start : List E
       point : Point
       point = (goes.replicas r correct refl).0
 
-      proceeds : Proceeds c r its [] point point
+      proceeds : HistoryIsPrompt c r its [] point point
       unfolding point
-      proceeds = subst (λ (xs : List Entry). Proceeds c r xs [] point point) is_its (goes.replicas r correct refl).1
+      proceeds = subst (λ (xs : List Entry). HistoryIsPrompt c r xs [] point point) is_its (goes.replicas r correct refl).1
 
       pub event : Owed c r (Got r request.bytes) [] (history_of r later) (history_of r start)
       event = owed c r (Got r request.bytes) refl [] (history_of r later) (history_of r start) point point proceeds (in_history r (Got r request.bytes) later refl gets_request)

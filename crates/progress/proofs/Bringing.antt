@@ -5,9 +5,9 @@ use Rattle.protocol.specs.System.Texts.{NoCollision}
 use Rattle.protocol.specs.System.Trace.{Entry, Unforged}
 use Rattle.protocol.specs.System.Trace.Entry.{Tick, Accepted}
 use Rattle.protocol.specs.System.Run.{IsRun, OnlyTheseStopped}
-use Rattle.protocol.specs.System.Schedule.{Step, World, Goes}
+use Rattle.protocol.specs.System.Schedule.{Step, World, StepsLead}
 use Rattle.protocol.specs.System.Schedule.Step.{ticks, flush}
-use Rattle.protocol.specs.System.Schedule.Goes.{ends, gives, called, delivers, gets, ticked, seals}
+use Rattle.protocol.specs.System.Schedule.StepsLead.{ends, gives, called, delivers, gets, ticked, seals}
 use Rattle.protocol.proofs.Words.Elements.{has_reverse, has_reversed}
 use Rattle.progress.specs.Delivery.{HasEntry}
 use Rattle.progress.specs.Flushed.{FlushesBringAnswers}
@@ -15,7 +15,7 @@ use Rattle.progress.proofs.Flushing.{flushes_deliver_all}
 use Rattle.progress.proofs.Answering.{executed_calls_are_accepted}
 
 -- a schedule feeds the tick with which it begins
-pub tick_is_fed : (c : Configuration) (w v : World) (p : ℕ) (rest steps : List Step) (entries : List Entry) → Goes c w steps entries v → steps ≡ ticks p ∷ rest → HasEntry (Tick p) entries
+pub tick_is_fed : (c : Configuration) (w v : World) (p : ℕ) (rest steps : List Step) (entries : List Entry) → StepsLead c w steps entries v → steps ≡ ticks p ∷ rest → HasEntry (Tick p) entries
 tick_is_fed c w v p rest _ _ ends is = absurd cc
 tick_is_fed c w v p rest _ _ (gives o g) is = inr (tick_is_fed c _ v p rest _ _ g is)
 tick_is_fed c w v p rest _ _ (ticked {party = q} a g) is = let same : q ≡ p = cc in inl (ap (λ (x : ℕ). Tick x) same)

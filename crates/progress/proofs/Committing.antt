@@ -17,8 +17,8 @@ use Rattle.protocol.specs.System.Trace.{Entry, party_of, history_of, Once, Unfor
 use Rattle.protocol.specs.System.Trace.Entry.{Got, Sent}
 use Rattle.protocol.specs.System.Run.{OnlyTheseStopped}
 use Rattle.protocol.specs.Replica.Certificates.{is_active_in, low, is_in_marks, are_genuine, brought, counts_at, batch_from, begun_proposal, entry_proposal, proposal, logged, first_given, prepare_from, commit_from, vote_in, prepare_of, commit_of, Prepared, Committed}
-use Rattle.protocol.specs.Replica.RightReplica.{Point, Leaves, MaySend, MaySay, IsFor, others}
-use Rattle.protocol.specs.Replica.Owed.{Proceeds, SendsMessage}
+use Rattle.protocol.specs.Replica.RightReplica.{Point, HistoryReaches, MaySend, MaySay, IsFor, others}
+use Rattle.protocol.specs.Replica.Owed.{HistoryIsPrompt, SendsMessage}
 use Rattle.protocol.specs.Laws.Histories.{AreReplicasSafe}
 use Rattle.protocol.proofs.Words.Options.{some_injective}
 use Rattle.protocol.proofs.Words.Elements.{has_left, has_right, has_reversed}
@@ -194,11 +194,11 @@ module _ (c : Configuration) (setting : IsConfiguration c) (trace : List Entry) 
     pub point : Point
     point = (goes.replicas q correct refl).0
 
-    pub proceeds : Proceeds c q (whole q) [] point point
+    pub proceeds : HistoryIsPrompt c q (whole q) [] point point
     unfolding point
     proceeds = (goes.replicas q correct refl).1
 
-    pub leaves : Leaves c q (whole q) point
+    pub leaves : HistoryReaches c q (whole q) point
     leaves = proceeds_leaves c q (whole q) [] point point proceeds
 
     -- a message among an event's outputs is sent

@@ -17,7 +17,7 @@ use Rattle.protocol.specs.System.Run.{IsRun}
 use Rattle.protocol.specs.System.Schedule.{meant_for}
 use Rattle.protocol.specs.Replica.Selection.{may_select}
 use Rattle.protocol.specs.Replica.Certificates.{view, view_after, target, is_later, new_view_in, new_view_from}
-use Rattle.protocol.specs.Replica.RightReplica.{Point, Leaves, SafeReplica}
+use Rattle.protocol.specs.Replica.RightReplica.{Point, HistoryReaches, SafeReplica}
 use Rattle.protocol.proofs.Words.Options.{and_then_some}
 use Rattle.protocol.proofs.Words.Elements.{has_left, has_right}
 use Rattle.protocol.proofs.Words.Reacting.{is_replica_right}
@@ -96,12 +96,12 @@ pub record NewViewSent (c : Configuration) (p v : ℕ) (part : List Entry) : Typ
   pub selected : may_select c new ≡ true
   pub is_view : new.view ≡ v
 
-pub primary_sent : (c : Configuration) (v : ℕ) (part start : List Entry) (point : Point) → Leaves c (primary c v) (part ++ start) point → Brought c v part start → NewViewSent c (primary c v) v part
+pub primary_sent : (c : Configuration) (v : ℕ) (part start : List Entry) (point : Point) → HistoryReaches c (primary c v) (part ++ start) point → Brought c v part start → NewViewSent c (primary c v) v part
 primary_sent c v part start point leaves b = go b.entry refl b.brings
   where
-    behind : (first : Point) × Leaves c (primary c v) (b.entry ∷ (b.middle ++ start)) first
+    behind : (first : Point) × HistoryReaches c (primary c v) (b.entry ∷ (b.middle ++ start)) first
     behind = leaves_behind c (primary c v) b.newer (b.entry ∷ (b.middle ++ start)) point
-        (subst (λ (xs : List Entry). Leaves c (primary c v) xs point) (ap (λ (xs : List Entry). xs ++ start) b.splits ∙ append_assoc b.newer (b.entry ∷ b.middle) start) leaves)
+        (subst (λ (xs : List Entry). HistoryReaches c (primary c v) xs point) (ap (λ (xs : List Entry). xs ++ start) b.splits ∙ append_assoc b.newer (b.entry ∷ b.middle) start) leaves)
 
     own : party_of b.entry ≡ primary c v
     own = behind.1.2.own

@@ -6,8 +6,8 @@ use Rattle.protocol.specs.System.Configuration.{Configuration}
 use Rattle.protocol.specs.System.Trace.{Entry, is_output}
 use Rattle.protocol.specs.System.Trace.Entry.{Sent}
 use Rattle.protocol.specs.Client.RightClient.{reaction, IsReaction, MayInput, Reacts}
-use Rattle.protocol.specs.Replica.RightReplica.{Point, Leaves, IsStep, MaySend}
-use Rattle.protocol.specs.Replica.Owed.{Owes, Proceeds, IsSaying, SendsMessage}
+use Rattle.protocol.specs.Replica.RightReplica.{Point, HistoryReaches, IsStep, MaySend}
+use Rattle.protocol.specs.Replica.Owed.{Owes, HistoryIsPrompt, IsSaying, SendsMessage}
 use Rattle.protocol.proofs.Words.Elements.{has_some}
 use Rattle.protocol.proofs.Words.Reacting.{one_of, proceeds_leaves}
 use Rattle.evidence.proofs.RefusingRuns.{when_false}
@@ -61,17 +61,17 @@ pub record Owed (c : Configuration) (me : ℕ) (e : Entry) (outputs part start :
   pub outs : List Entry
   pub old : Point
   pub new : Point
-  pub leaves : Leaves c me (before ++ start) old
+  pub leaves : HistoryReaches c me (before ++ start) old
   pub owes : Owes c me (before ++ start) e outs (reverse outs ++ e ∷ (before ++ start)) old new
   pub among : Among outs outputs part
 
-pub owed : (c : Configuration) (me : ℕ) (e : Entry) → is_output e ≡ false → (outputs part start : List Entry) (new point : Point) → Proceeds c me (part ++ start) outputs new point → HasEntry e part
+pub owed : (c : Configuration) (me : ℕ) (e : Entry) → is_output e ≡ false → (outputs part start : List Entry) (new point : Point) → HistoryIsPrompt c me (part ++ start) outputs new point → HasEntry e part
     → Owed c me e outputs part start
 owed c me e input outputs [] start new point r h = absurd h
 owed c me e input outputs (x ∷ part) start new point r (inl is) =
-    let here : Proceeds c me (e ∷ part ++ start) outputs new point = subst (λ (y : Entry). Proceeds c me (y ∷ part ++ start) outputs new point) is r in
-    let event = when_false (is_output e) (Proceeds c me (part ++ start) (e ∷ outputs) new here.0)
-    (Owes c me (part ++ start) e outputs (reverse outputs ++ e ∷ (part ++ start)) here.0 new × Proceeds c me (part ++ start) [] here.0 here.0) input here.2 in
+    let here : HistoryIsPrompt c me (e ∷ part ++ start) outputs new point = subst (λ (y : Entry). HistoryIsPrompt c me (y ∷ part ++ start) outputs new point) is r in
+    let event = when_false (is_output e) (HistoryIsPrompt c me (part ++ start) (e ∷ outputs) new here.0)
+    (Owes c me (part ++ start) e outputs (reverse outputs ++ e ∷ (part ++ start)) here.0 new × HistoryIsPrompt c me (part ++ start) [] here.0 here.0) input here.2 in
     record {
       later = [];
       before = part;
@@ -84,8 +84,8 @@ owed c me e input outputs (x ∷ part) start new point r (inl is) =
       among = λ y k. inl k;
     }
 owed c me e input outputs (x ∷ part) start new point r (inr h) =
-    one_of (is_output x) (Proceeds c me (part ++ start) (x ∷ outputs) new r.0)
-    (Owes c me (part ++ start) x outputs (reverse outputs ++ x ∷ (part ++ start)) r.0 new × Proceeds c me (part ++ start) [] r.0 r.0) (Owed c me e outputs (x ∷ part) start) r.2
+    one_of (is_output x) (HistoryIsPrompt c me (part ++ start) (x ∷ outputs) new r.0)
+    (Owes c me (part ++ start) x outputs (reverse outputs ++ x ∷ (part ++ start)) r.0 new × HistoryIsPrompt c me (part ++ start) [] r.0 r.0) (Owed c me e outputs (x ∷ part) start) r.2
     (λ k. let below = owed c me e input (x ∷ outputs) part start new r.0 k h in
     record {
       later = x ∷ below.later;
@@ -134,7 +134,7 @@ pub record MightSend (c : Configuration) (me : ℕ) (e : Entry) (bytes : List �
   pub point : Point
   pub may : MaySend c me past point e bytes
 
-pub sent_may : (c : Configuration) (me p : ℕ) (bytes : List ℕ) (history : List Entry) (point : Point) → Leaves c me history point → HasEntry (Sent p bytes) history
+pub sent_may : (c : Configuration) (me p : ℕ) (bytes : List ℕ) (history : List Entry) (point : Point) → HistoryReaches c me history point → HasEntry (Sent p bytes) history
     → (p ≡ me) × MightSend c me (Sent p bytes) bytes
 sent_may c me p bytes [] point leaves h = absurd h
 sent_may c me p bytes (e ∷ past) point leaves (inl is) =

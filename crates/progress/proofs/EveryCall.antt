@@ -16,7 +16,7 @@ use Rattle.protocol.specs.System.Texts.{NoCollision}
 use Rattle.protocol.specs.System.Run.{IsRun, OnlyTheseStopped}
 use Rattle.protocol.specs.Replica.Certificates.{view, taken, low, is_in_marks, batch_begun, begun_proposal, entry_proposal, proposal, brought, first_given, logged, Committed}
 use Rattle.protocol.specs.Replica.State.{State, opening, last_time}
-use Rattle.protocol.specs.Replica.RightReplica.{Point, Leaves, IsStep, IsFree, MaySay, MayPrePrepare}
+use Rattle.protocol.specs.Replica.RightReplica.{Point, HistoryReaches, IsStep, IsFree, MaySay, MayPrePrepare}
 use Rattle.protocol.specs.Replica.Owed.{BeginsViewWith, IsOfView, IsNumbered}
 use Rattle.protocol.specs.Client.RightClient.{OpenCall, open_call}
 use Rattle.protocol.specs.Space.Linear.{reached}
@@ -67,7 +67,7 @@ record Gave (c : Configuration) (i : ℕ) (batch : List ℕ) (e : Entry) (past :
   sends : SendsBody (giving c i batch) past e
   may : MayPrePrepare c (primary c 0) past old e 0 i batch
 
-gave : (c : Configuration) (i : ℕ) (batch : List ℕ) (e : Entry) (past : List Entry) (point : Point) (leaves : Leaves c (primary c 0) (e ∷ past) point) → proposal c (primary c 0) past e 0 i ≡ Some batch
+gave : (c : Configuration) (i : ℕ) (batch : List ℕ) (e : Entry) (past : List Entry) (point : Point) (leaves : HistoryReaches c (primary c 0) (e ∷ past) point) → proposal c (primary c 0) past e 0 i ≡ Some batch
     → Gave c i batch e past leaves.0
 gave c i batch e past point leaves h = go e leaves.2 brings
   where
@@ -94,7 +94,7 @@ record WasGiven (c : Configuration) (i : ℕ) (batch : List ℕ) (xs : List Entr
   positive : 1 ≤ i
   number : is_number i ≡ true
 
-was_given : (c : Configuration) (i : ℕ) (batch : List ℕ) (xs : List Entry) (point : Point) → Leaves c (primary c 0) xs point → logged c (primary c 0) xs 0 i ≡ Some batch → WasGiven c i batch xs
+was_given : (c : Configuration) (i : ℕ) (batch : List ℕ) (xs : List Entry) (point : Point) → HistoryReaches c (primary c 0) xs point → logged c (primary c 0) xs 0 i ≡ Some batch → WasGiven c i batch xs
 unfolding logged
 was_given c i batch [] point leaves h = absurd (none_logged c (primary c 0) 0 i batch h)
 was_given c i batch (e ∷ past) point leaves h =
@@ -119,7 +119,7 @@ module _ (c : Configuration) where
   Installs xs = (r k : ℕ) (root : List ℕ) → HasEntry (Installed r k root) xs → ⊥
 
   -- it logged all that it executed
-  executed_logged : (xs : List Entry) (point : Point) → Leaves c p0 xs point → view c xs ≡ 0 → Installs xs → (j : ℕ) → 1 ≤ j → j ≤ point.state.number → (d : List ℕ) × (logged c p0 xs 0 j ≡ Some d)
+  executed_logged : (xs : List Entry) (point : Point) → HistoryReaches c p0 xs point → view c xs ≡ 0 → Installs xs → (j : ℕ) → 1 ≤ j → j ≤ point.state.number → (d : List ℕ) × (logged c p0 xs 0 j ≡ Some d)
   executed_logged xs point leaves first none j one l =
       let k = number_committed c p0 j one xs point leaves none l in
       let v = logged_view c p0 k.0 j k.1 xs (right_always c p0 xs point leaves) k.2.prepared.logged in
@@ -130,7 +130,7 @@ module _ (c : Configuration) where
   is_there None h = absurd cc
   is_there (Some d) h = (d, refl)
 
-  filled : (xs : List Entry) (point : Point) → Leaves c p0 xs point → view c xs ≡ 0 → Installs xs → (i j : ℕ) (b : List ℕ) → logged c p0 xs 0 i ≡ Some b → 1 ≤ j → j < i → (d : List ℕ) × (logged c p0 xs 0 j ≡ Some d)
+  filled : (xs : List Entry) (point : Point) → HistoryReaches c p0 xs point → view c xs ≡ 0 → Installs xs → (i j : ℕ) (b : List ℕ) → logged c p0 xs 0 i ≡ Some b → 1 ≤ j → j < i → (d : List ℕ) × (logged c p0 xs 0 j ≡ Some d)
   unfolding logged
   filled [] point leaves first none i j b h one l = absurd (none_logged c p0 0 i b h)
   filled (e ∷ past) point leaves first none i j b h one l =
@@ -181,7 +181,7 @@ module _ (c : Configuration) (setting : IsConfiguration c) (later start : List E
   point : Point
   point = (goes.replicas first_primary f.from refl).0
 
-  leaves : Leaves c first_primary whole point
+  leaves : HistoryReaches c first_primary whole point
   unfolding point
   leaves = proceeds_leaves c first_primary whole [] (goes.replicas first_primary f.from refl).0 (goes.replicas first_primary f.from refl).0 (goes.replicas first_primary f.from refl).1
 
@@ -291,7 +291,7 @@ module _ (c : Configuration) (setting : IsConfiguration c) (again later start : 
           its : Point
           its = (goes.replicas r correct refl).0
 
-          leaves_r : Leaves c r (history_of r middle) its
+          leaves_r : HistoryReaches c r (history_of r middle) its
           leaves_r = proceeds_leaves c r (history_of r middle) [] (goes.replicas r correct refl).0 (goes.replicas r correct refl).0 (goes.replicas r correct refl).1
 
           by : IsBy c middle its.state

@@ -11,7 +11,7 @@ use Rattle.protocol.specs.System.Trace.Entry.{Invoke, Got, Tick, Executed, Insta
 use Rattle.protocol.specs.System.Run.{IsRun, OnlyTheseStopped}
 use Rattle.protocol.specs.Replica.Certificates.{view, target, taken, is_active_in, checkpoint_from, checkpoint_in, with_checkpoint, insert_checkpoint, checkpoints_of, says_checkpoint, count_checkpoints, is_stable, stable_at, installed_at, started_at, low, is_in_marks, brought, logged, Committed}
 use Rattle.protocol.specs.Replica.Selection.{is_quorum}
-use Rattle.protocol.specs.Replica.RightReplica.{Point, Leaves, May, Moves, MaySend, MaySay, MayCheckpoint, Executes, waiting_after}
+use Rattle.protocol.specs.Replica.RightReplica.{Point, HistoryReaches, May, Moves, MaySend, MaySay, MayCheckpoint, Executes, waiting_after}
 use Rattle.protocol.specs.Space.Linear.{reached}
 use Rattle.protocol.proofs.Words.Options.{some_injective, and_then_some, then_some_gives}
 use Rattle.protocol.proofs.Words.Elements.{has_filter}
@@ -41,7 +41,7 @@ at_reached me k (Executed r number batch) past own h =
 at_reached me k (Invoke x y z) past own h = absurd h
 at_reached me k _ past own h = absurd h
 
-executes_reached : (c : Configuration) (me k : ℕ) (xs : List Entry) (point : Point) → Leaves c me xs point → Once (Executes k) xs → k ≤ reached xs me
+executes_reached : (c : Configuration) (me k : ℕ) (xs : List Entry) (point : Point) → HistoryReaches c me xs point → Once (Executes k) xs → k ≤ reached xs me
 executes_reached c me k [] point leaves h = absurd h
 executes_reached c me k (e ∷ past) point leaves (inl h) = at_reached me k e past leaves.2.own h
 executes_reached c me k (e ∷ past) point leaves (inr h) = let l = executes_reached c me k past leaves.0 leaves.1 h in let g = reached_grows e past me in omega arith
@@ -60,7 +60,7 @@ checkpoint_body s m sender (Checkpoint number root) h =
 checkpoint_body s m sender _ h = absurd cc
 
 -- its own checkpoint is of a number that it executed before
-own_checkpoint : (c : Configuration) (me : ℕ) (m : CheckpointEntry) (e : Entry) (past : List Entry) (point : Point) → Leaves c me (e ∷ past) point → checkpoint_in c e ≡ Some (me, m) → m.number ≤ reached past me
+own_checkpoint : (c : Configuration) (me : ℕ) (m : CheckpointEntry) (e : Entry) (past : List Entry) (point : Point) → HistoryReaches c me (e ∷ past) point → checkpoint_in c e ≡ Some (me, m) → m.number ≤ reached past me
 own_checkpoint c me m (Got p bytes) past point leaves h =
     let r = and_then_some {B = ℕ × CheckpointEntry} checkpoint_from (brought c (Got p bytes)) (me, m) h in
     let body = checkpoint_body me m r.0.sender r.0.message r.2 in
@@ -76,7 +76,7 @@ own_checkpoint c me m (Sent p bytes) past point leaves h =
 own_checkpoint c me m (Invoke x y z) past point leaves h = absurd cc
 own_checkpoint c me m _ past point leaves h = absurd cc
 
-own_reached : (c : Configuration) (me : ℕ) (checkpoint : CheckpointEntry) (xs : List Entry) (point : Point) → Leaves c me xs point → says_checkpoint checkpoint (checkpoints_of c xs me) ≡ true
+own_reached : (c : Configuration) (me : ℕ) (checkpoint : CheckpointEntry) (xs : List Entry) (point : Point) → HistoryReaches c me xs point → says_checkpoint checkpoint (checkpoints_of c xs me) ≡ true
     → checkpoint.number ≤ reached xs me
 unfolding checkpoints_of
 own_reached c me checkpoint [] point leaves h = absurd cc
@@ -108,7 +108,7 @@ own_reached c me checkpoint (e ∷ past) point leaves h = go (checkpoint_in c e)
 -- ---- a low mark in the first view
 
 module _ (c : Configuration) (me : ℕ) where
-  pub stable_reached : (e : Entry) (past : List Entry) (point : Point) → Leaves c me (e ∷ past) point → stable_at c me past e ≤ reached (e ∷ past) me
+  pub stable_reached : (e : Entry) (past : List Entry) (point : Point) → HistoryReaches c me (e ∷ past) point → stable_at c me past e ≤ reached (e ∷ past) me
   stable_reached e past point leaves = go (checkpoint_in c e)
     where
       test : (x : ℕ × CheckpointEntry) (b : Bool) → is_stable c me (e ∷ past) x.1 ≡ b → cond b x.1.number 0 ≤ reached (e ∷ past) me
@@ -130,7 +130,7 @@ module _ (c : Configuration) (me : ℕ) where
       go None is = refl
       go (Some new) is = let t = takes c me past e new is in let a = t.above in let b = t.view_is in absurd (omega arith)
 
-  pub low_reached : (xs : List Entry) (point : Point) → Leaves c me xs point → view c xs ≡ 0 → low c me xs ≤ reached xs me
+  pub low_reached : (xs : List Entry) (point : Point) → HistoryReaches c me xs point → view c xs ≡ 0 → low c me xs ≤ reached xs me
   unfolding low
   low_reached [] point leaves first = omega arith
   low_reached (e ∷ past) point leaves first =
@@ -145,7 +145,7 @@ module _ (c : Configuration) (me : ℕ) where
 
   -- ---- a number that was reached with no installation was committed
 
-  pub number_committed : (i : ℕ) → 1 ≤ i → (xs : List Entry) (point : Point) → Leaves c me xs point → ((r k : ℕ) (root : List ℕ) → HasEntry (Installed r k root) xs → ⊥) → i ≤ point.state.number
+  pub number_committed : (i : ℕ) → 1 ≤ i → (xs : List Entry) (point : Point) → HistoryReaches c me xs point → ((r k : ℕ) (root : List ℕ) → HasEntry (Installed r k root) xs → ⊥) → i ≤ point.state.number
       → (u : ℕ) × (b : List ℕ) × Committed c me xs u i b
   number_committed i one [] point leaves none l = let n : point.state.number ≡ 0 = ap (λ (p : Point). p.state.number) leaves in absurd (omega arith)
   number_committed i one (e ∷ past) point leaves none l = go e leaves.2.may leaves.2.moves (λ r k root is. none r k root (inl is)) (number_committed i one past leaves.0 leaves.1 (λ r k root h. none r k root (inr h)))
@@ -216,7 +216,7 @@ module _ (c : Configuration) (setting : IsConfiguration c) (later start : List E
     point : Point
     point = (goes.replicas q correct refl).0
 
-    leaves : Leaves c q (whole q) point
+    leaves : HistoryReaches c q (whole q) point
     unfolding point
     leaves = proceeds_leaves c q (whole q) [] (goes.replicas q correct refl).0 (goes.replicas q correct refl).0 (goes.replicas q correct refl).1
 

@@ -6,7 +6,7 @@ use Rattle.protocol.specs.System.Configuration.{Configuration}
 use Rattle.protocol.specs.System.Trace.{Entry, is_output}
 use Rattle.protocol.specs.Replica.Certificates.{commit_of, Committed}
 use Rattle.protocol.specs.Replica.RightReplica.{Point}
-use Rattle.protocol.specs.Replica.Owed.{Owes, Proceeds}
+use Rattle.protocol.specs.Replica.Owed.{Owes, HistoryIsPrompt}
 use Rattle.protocol.proofs.Words.Reacting.{one_of}
 
 -- an output may stand before those still to come, or after the past
@@ -44,10 +44,10 @@ flip_behind c me P front past f = record {
 
 -- A property that fails at first, and holds at the end, comes to hold in some event.
 pub flips : (c : Configuration) (me : ℕ) (P : List Entry → Type 0) → ((past : List Entry) → P past ⊎ (P past → ⊥)) → (P [] → ⊥) → (xs outputs : List Entry) (new point : Point)
-    → Proceeds c me xs outputs new point → P (reverse outputs ++ xs) → Flip c me P (reverse outputs ++ xs)
+    → HistoryIsPrompt c me xs outputs new point → P (reverse outputs ++ xs) → Flip c me P (reverse outputs ++ xs)
 flips c me P decide none [] outputs new point h p = absurd (none (subst (λ (o : List Entry). P (reverse o ++ [])) h.1 p))
 flips c me P decide none (e ∷ past) outputs new point h p =
-    one_of (is_output e) (Proceeds c me past (e ∷ outputs) new h.0) (Owes c me past e outputs (reverse outputs ++ e ∷ past) h.0 new × Proceeds c me past [] h.0 h.0)
+    one_of (is_output e) (HistoryIsPrompt c me past (e ∷ outputs) new h.0) (Owes c me past e outputs (reverse outputs ++ e ∷ past) h.0 new × HistoryIsPrompt c me past [] h.0 h.0)
     (Flip c me P (reverse outputs ++ e ∷ past)) h.2
     (λ k. flip_in c me P (reverse outputs ++ e ∷ past) (reverse (e ∷ outputs) ++ past) (next_output outputs past e)
     (flips c me P decide none past (e ∷ outputs) new h.0 k (subst P (next_output outputs past e) p)))
@@ -64,10 +64,10 @@ no_commit : (c : Configuration) (me v i : ℕ) (batch : List ℕ) → Committed 
 unfolding commit_of
 no_commit c me v i batch h = let bad : None ≡ Some (sha256 batch) = h.own in cc
 
-pub none_is_left : (c : Configuration) (me : ℕ) (xs outputs : List Entry) (new point : Point) → Proceeds c me xs outputs new point
+pub none_is_left : (c : Configuration) (me : ℕ) (xs outputs : List Entry) (new point : Point) → HistoryIsPrompt c me xs outputs new point
     → (v : ℕ) (batch : List ℕ) → Committed c me (reverse outputs ++ xs) v (suc new.state.number) batch → ⊥
 none_is_left c me [] outputs new point h v batch k = no_commit c me v (suc new.state.number) batch (subst (λ (o : List Entry). Committed c me (reverse o ++ []) v (suc new.state.number) batch) h.1 k)
 none_is_left c me (e ∷ past) outputs new point h v batch k =
-    one_of (is_output e) (Proceeds c me past (e ∷ outputs) new h.0) (Owes c me past e outputs (reverse outputs ++ e ∷ past) h.0 new × Proceeds c me past [] h.0 h.0) ⊥ h.2
+    one_of (is_output e) (HistoryIsPrompt c me past (e ∷ outputs) new h.0) (Owes c me past e outputs (reverse outputs ++ e ∷ past) h.0 new × HistoryIsPrompt c me past [] h.0 h.0) ⊥ h.2
     (λ p. none_is_left c me past (e ∷ outputs) new h.0 p v batch (subst (λ (xs : List Entry). Committed c me xs v (suc new.state.number) batch) (next_output outputs past e) k))
     (λ p. p.0.executes v batch k)

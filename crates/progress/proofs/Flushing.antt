@@ -8,9 +8,9 @@ use Rattle.quorum.specs.Votes.{or_else}
 use Rattle.protocol.specs.System.Configuration.{Configuration, is_correct}
 use Rattle.protocol.specs.System.Trace.{Entry, Has}
 use Rattle.protocol.specs.System.Trace.Entry.{Invoke, Got, Tick, Sent}
-use Rattle.protocol.specs.System.Schedule.{Step, Made, World, Goes, AtInput, new_world, made_by, with_entry, with_frame, is_delivered, next_receiver, next_pair, pending, sealed_bytes, signed_bytes}
+use Rattle.protocol.specs.System.Schedule.{Step, Made, World, StepsLead, AtInput, new_world, made_by, with_entry, with_frame, is_delivered, next_receiver, next_pair, pending, sealed_bytes, signed_bytes}
 use Rattle.protocol.specs.System.Schedule.Step.{calls, deliver, feed, seal, sign, ticks, flush}
-use Rattle.protocol.specs.System.Schedule.Goes.{ends, gives, called, delivers, gets, ticked, seals, signs, flushes, flushed}
+use Rattle.protocol.specs.System.Schedule.StepsLead.{ends, gives, called, delivers, gets, ticked, seals, signs, flushes, flushed}
 use Rattle.protocol.proofs.Words.Options.{some_injective}
 use Rattle.protocol.proofs.Words.Elements.{some_of_has, has_reverse, has_reversed}
 use Rattle.evidence.proofs.RefusingRunsSchedules.{get_left}
@@ -22,7 +22,7 @@ use Rattle.progress.specs.Flushed.{IsReached, EndsInFlush, FlushesDeliverAll}
 grown : (w v : World) (entries : List Entry) (e : Entry) → v.past ≡ reverse entries ++ e ∷ w.past → v.past ≡ reverse (e ∷ entries) ++ w.past
 grown w v entries e is = is ∙ sym (append_assoc (reverse entries) (e ∷ []) w.past) ∙ ap (λ (xs : List Entry). xs ++ w.past) (sym (reverse_onto entries e []))
 
-pub past_grows : (c : Configuration) (w v : World) (steps : List Step) (entries : List Entry) → Goes c w steps entries v → v.past ≡ reverse entries ++ w.past
+pub past_grows : (c : Configuration) (w v : World) (steps : List Step) (entries : List Entry) → StepsLead c w steps entries v → v.past ≡ reverse entries ++ w.past
 past_grows c w v _ _ ends = refl
 past_grows c w v _ _ (gives {entries = entries} {e = e} o g) = grown w v entries e (past_grows c _ v _ _ g)
 past_grows c w v _ _ (called {entries = entries} {client = k} {timestamp = t} {op = op} a g) = grown w v entries (Invoke k t op) (past_grows c _ v _ _ g)
@@ -57,7 +57,7 @@ grows_by w u more is = record {
 grows_same : (w : World) → Grows w w
 grows_same w = record { frames = λ i made h. h; many = omega arith }
 
-frames_grow : (c : Configuration) (w v : World) (steps : List Step) (entries : List Entry) → Goes c w steps entries v → Grows w v
+frames_grow : (c : Configuration) (w v : World) (steps : List Step) (entries : List Entry) → StepsLead c w steps entries v → Grows w v
 frames_grow c w v _ _ ends = grows_same w
 frames_grow c w v _ _ (gives {e = e} o g) = grows_on w (with_entry c w e) v (grows_by w (with_entry c w e) (made_by c e) refl) (frames_grow c _ v _ _ g)
 frames_grow c w v _ _ (called {client = k} {timestamp = t} {op = op} a g) = grows_on w (with_entry c w (Invoke k t op)) v (grows_by w (with_entry c w (Invoke k t op)) [] refl) (frames_grow c _ v _ _ g)
@@ -88,7 +88,7 @@ pub record MadeSince (c : Configuration) (w v : World) (p : ℕ) (bytes : List �
 earlier : (c : Configuration) (w u v : World) (p : ℕ) (bytes : List ℕ) → Grows w u → MadeSince c u v p bytes → MadeSince c w v p bytes
 earlier c w u v p bytes grows m = let a = grows.many in let b = m.since in record { index = m.index; since = omega arith; is = m.is }
 
-pub made_since : (c : Configuration) (w v : World) (steps : List Step) (entries : List Entry) (p : ℕ) (bytes : List ℕ) → Goes c w steps entries v → HasEntry (Sent p bytes) entries → MadeSince c w v p bytes
+pub made_since : (c : Configuration) (w v : World) (steps : List Step) (entries : List Entry) (p : ℕ) (bytes : List ℕ) → StepsLead c w steps entries v → HasEntry (Sent p bytes) entries → MadeSince c w v p bytes
 made_since c w v _ _ p bytes ends h = absurd h
 made_since c w v _ _ p bytes (gives {e = e} o g) (inl is) = record { index = length w.frames; since = omega arith; is = (frames_grow c _ v _ _ g).frames (length w.frames) (frame_sent c p bytes) there }
   where
@@ -132,7 +132,7 @@ got_more w u v e entries same h i q made d is = go (h i q made d is)
     go (inl k) = inl (subst (λ (xs : List (ℕ × ℕ)). Has (λ x. x ≡ (i, q)) xs) same k)
     go (inr k) = inr (inr k)
 
-got_since : (c : Configuration) (w v : World) (steps : List Step) (entries : List Entry) → Goes c w steps entries v → GotSince w v entries
+got_since : (c : Configuration) (w v : World) (steps : List Step) (entries : List Entry) → StepsLead c w steps entries v → GotSince w v entries
 got_since c w v _ _ ends i q made d is = inl d
 got_since c w v _ _ (gives {entries = entries} {e = e} o g) i q made d is = got_more w (with_entry c w e) v e entries refl (got_since c _ v _ _ g) i q made d is
 got_since c w v _ _ (called {entries = entries} {client = k} {timestamp = t} {op = op} a g) i q made d is = got_more w (with_entry c w (Invoke k t op)) v (Invoke k t op) entries refl (got_since c _ v _ _ g) i q made d is
@@ -158,7 +158,7 @@ got_since c w v _ _ (flushed j p g) i q made d is = got_since c _ v _ _ g i q ma
 still_made : (w u : World) → u.delivered ≡ w.delivered → Grows w u → AreMade w → AreMade u
 still_made w u same grows are i q d = let l = are i q (subst (λ (xs : List (ℕ × ℕ)). Has (λ x. x ≡ (i, q)) xs) same d) in let m = grows.many in omega arith
 
-made_first : (c : Configuration) (w v : World) (steps : List Step) (entries : List Entry) → Goes c w steps entries v → AreMade w → AreMade v
+made_first : (c : Configuration) (w v : World) (steps : List Step) (entries : List Entry) → StepsLead c w steps entries v → AreMade w → AreMade v
 made_first c w v _ _ ends are = are
 made_first c w v _ _ (gives {e = e} o g) are = made_first c _ v _ _ g (still_made w (with_entry c w e) refl (grows_by w (with_entry c w e) (made_by c e) refl) are)
 made_first c w v _ _ (called {client = k} {timestamp = t} {op = op} a g) are = made_first c _ v _ _ g (still_made w (with_entry c w (Invoke k t op)) refl (grows_by w (with_entry c w (Invoke k t op)) [] refl) are)
@@ -200,7 +200,7 @@ next_step (sign r l rs b) [] other h = absurd h
 next_step (ticks p) [] other h = absurd h
 next_step step (next ∷ steps) other h = h
 
-none_left : (c : Configuration) (w v : World) (steps : List Step) (entries : List Entry) → Goes c w steps entries v → EndsInFlush steps → pending c v ≡ None
+none_left : (c : Configuration) (w v : World) (steps : List Step) (entries : List Entry) → StepsLead c w steps entries v → EndsInFlush steps → pending c v ≡ None
 none_left c w v _ _ ends h = absurd h
 none_left c w v _ _ (gives o g) h = none_left c _ v _ _ g h
 none_left c w v _ _ (called {steps = steps} {client = k} {op = op} a g) h = none_left c _ v _ _ g (next_step (calls k op) steps (λ e. cc) h)
@@ -212,7 +212,7 @@ none_left c w v _ _ (signs {steps = steps} {replica = r} {leaf = l} {receivers =
 none_left c w v _ _ (flushes p g) h = none_left c _ v _ _ g h
 none_left c w v _ _ (flushed {steps = []} j p g) h = last w _ _ g refl j p
   where
-    last : (w : World) (steps : List Step) (entries : List Entry) → Goes c w steps entries v → steps ≡ [] → AtInput entries → pending c w ≡ None → pending c v ≡ None
+    last : (w : World) (steps : List Step) (entries : List Entry) → StepsLead c w steps entries v → steps ≡ [] → AtInput entries → pending c w ≡ None → pending c v ≡ None
     last w _ _ ends none j p = p
     last w _ _ (gives {e = e} o g) none j p = let bad : false ≡ true = sym j ∙ o in absurd cc
     last w _ _ _ none j p = absurd cc

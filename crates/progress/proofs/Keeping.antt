@@ -10,7 +10,7 @@ use Rattle.protocol.specs.System.Configuration.{Configuration, IsConfiguration, 
 use Rattle.protocol.specs.System.Trace.{Entry, history_of, Has}
 use Rattle.protocol.specs.System.Trace.Entry.{Invoke, Accepted}
 use Rattle.protocol.specs.Replica.State.{State, Call, Ran, opening, runs, run_call, ran_call, call_of, run_frame, execute, ran_in, kept_of, last_time}
-use Rattle.protocol.specs.Replica.RightReplica.{Leaves}
+use Rattle.protocol.specs.Replica.RightReplica.{HistoryReaches}
 use Rattle.protocol.specs.Client.RightClient.{OpenCall, open_call, last_call, SafeClient}
 use Rattle.protocol.specs.Space.Linear.{batch_of, reached}
 use Rattle.progress.specs.Answered.{KeepsReply}
@@ -104,7 +104,7 @@ open_positive c p (Accepted x y z ∷ past) call r h = absurd cc
 open_positive c p (_ ∷ past) call r h = open_positive c p past call r.1 h
 
 -- the state of a correct replica at some time
-pub by_at : (c : Configuration) (trace : List Entry) → Run c trace → (r : ℕ) (later past : List Entry) (point : RightReplica.Point) → is_correct_replica c r ≡ true → history_of r trace ≡ later ++ past → Leaves c r past point
+pub by_at : (c : Configuration) (trace : List Entry) → Run c trace → (r : ℕ) (later past : List Entry) (point : RightReplica.Point) → is_correct_replica c r ≡ true → history_of r trace ≡ later ++ past → HistoryReaches c r past point
     → IsBy c trace point.state
 by_at c trace run r later past point correct splits leaves =
     is_by c trace point.state run
@@ -117,7 +117,7 @@ later_reached r (e ∷ middle) past = let a = later_reached r middle past in let
 
 -- last timestamps never fall at a correct replica
 pub times_grow : (c : Configuration) (trace : List Entry) → Run c trace → (r : ℕ) (later middle past : List Entry) (old new : RightReplica.Point) (cl : ℕ) → is_correct_replica c r ≡ true
-    → history_of r trace ≡ later ++ (middle ++ past) → Leaves c r past old → Leaves c r (middle ++ past) new → last_time old.state cl ≤ last_time new.state cl
+    → history_of r trace ≡ later ++ (middle ++ past) → HistoryReaches c r past old → HistoryReaches c r (middle ++ past) new → last_time old.state cl ≤ last_time new.state cl
 times_grow c trace run r later middle past old new cl correct splits before behind =
     let first = by_at c trace run r (later ++ middle) past old correct (splits ∙ sym (append_assoc later middle past)) before in
     let second = by_at c trace run r later (middle ++ past) new correct splits behind in
@@ -157,7 +157,7 @@ module _ (c : Configuration) (trace : List Entry) (run : Run c trace) (k : ℕ) 
       omega arith
 
   -- a correct replica whose state has the call's timestamp, or a later one, keeps its reply
-  pub keeps_reply : (r : ℕ) (later past : List Entry) (point : RightReplica.Point) → is_correct_replica c r ≡ true → history_of r trace ≡ later ++ past → Leaves c r past point
+  pub keeps_reply : (r : ℕ) (later past : List Entry) (point : RightReplica.Point) → is_correct_replica c r ≡ true → history_of r trace ≡ later ++ past → HistoryReaches c r past point
       → call.timestamp ≤ last_time point.state k → KeepsReply c r past k call.timestamp
   keeps_reply r later past point correct splits leaves l = go (kept_of point.state k) refl
     where
@@ -173,7 +173,7 @@ module _ (c : Configuration) (trace : List Entry) (run : Run c trace) (k : ℕ) 
 
   -- a reply that was kept of the open call is still kept later
   pub kept_stays : (r : ℕ) (later middle past : List Entry) (old new : RightReplica.Point) (kept : Kept) → is_correct_replica c r ≡ true → history_of r trace ≡ later ++ (middle ++ past)
-      → Leaves c r past old → Leaves c r (middle ++ past) new → kept_of old.state k ≡ Some kept → kept.timestamp ≡ call.timestamp
+      → HistoryReaches c r past old → HistoryReaches c r (middle ++ past) new → kept_of old.state k ≡ Some kept → kept.timestamp ≡ call.timestamp
       → (still : Kept) × (kept_of new.state k ≡ Some still) × (still.timestamp ≡ call.timestamp)
   kept_stays r later middle past old new kept correct splits before behind is time = go (kept_of new.state k) refl
     where

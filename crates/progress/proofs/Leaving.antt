@@ -13,8 +13,8 @@ use Rattle.protocol.specs.System.Trace.{Entry, is_output, history_of, Once}
 use Rattle.protocol.specs.System.Trace.Entry.{Got, Tick, Sent}
 use Rattle.protocol.specs.Replica.Selection.{is_within, change_in, signed_change, changes_of}
 use Rattle.protocol.specs.Replica.Certificates.{view, target}
-use Rattle.protocol.specs.Replica.RightReplica.{Point, Leaves, MaySend, sought_view, IsNewViewChange, SafeReplica}
-use Rattle.protocol.specs.Replica.Owed.{Owes, Proceeds, HasToMove, IsSaying, AreKeysSpent, BringsChange, HasLatestChange, HasBatch, CanBeginView}
+use Rattle.protocol.specs.Replica.RightReplica.{Point, HistoryReaches, MaySend, sought_view, IsNewViewChange, SafeReplica}
+use Rattle.protocol.specs.Replica.Owed.{Owes, HistoryIsPrompt, HasToMove, IsSaying, AreKeysSpent, BringsChange, HasLatestChange, HasBatch, CanBeginView}
 use Rattle.evidence.specs.RefusedMarks.{SpellsChange}
 use Rattle.protocol.proofs.Words.Options.{some_injective, and_then_some}
 use Rattle.protocol.proofs.Words.Reacting.{one_of, proceeds_leaves, is_replica_right}
@@ -39,7 +39,7 @@ pub record EventAt (c : Configuration) (me : ℕ) (input : Entry) (before whole 
   pub outs : List Entry
   pub old : Point
   pub new : Point
-  pub leaves : Leaves c me before old
+  pub leaves : HistoryReaches c me before old
   pub owes : Owes c me before input outs (reverse outs ++ input ∷ before) old new
   pub newer : List Entry
   pub is : whole ≡ newer ++ (reverse outs ++ input ∷ before)
@@ -55,15 +55,15 @@ event_behind c me input before front past f = record {
   is = ap (λ (xs : List Entry). front ++ xs) f.is ∙ sym (append_assoc front f.newer (reverse f.outs ++ input ∷ before));
 }
 
-pub event_at : (c : Configuration) (me : ℕ) (input : Entry) → is_output input ≡ false → (later before outputs : List Entry) (new point : Point) → Proceeds c me (later ++ input ∷ before) outputs new point
+pub event_at : (c : Configuration) (me : ℕ) (input : Entry) → is_output input ≡ false → (later before outputs : List Entry) (new point : Point) → HistoryIsPrompt c me (later ++ input ∷ before) outputs new point
     → EventAt c me input before (reverse outputs ++ (later ++ input ∷ before))
 event_at c me input is [] before outputs new point h =
-    let event = when_false (is_output input) (Proceeds c me before (input ∷ outputs) new h.0)
-    (Owes c me before input outputs (reverse outputs ++ input ∷ before) h.0 new × Proceeds c me before [] h.0 h.0) is h.2 in
+    let event = when_false (is_output input) (HistoryIsPrompt c me before (input ∷ outputs) new h.0)
+    (Owes c me before input outputs (reverse outputs ++ input ∷ before) h.0 new × HistoryIsPrompt c me before [] h.0 h.0) is h.2 in
     record { outs = outputs; old = h.0; new = new; leaves = proceeds_leaves c me before [] h.0 h.0 event.1; owes = event.0; newer = []; is = refl }
 event_at c me input is (e ∷ later) before outputs new point h =
-    one_of (is_output e) (Proceeds c me (later ++ input ∷ before) (e ∷ outputs) new h.0)
-    (Owes c me (later ++ input ∷ before) e outputs (reverse outputs ++ e ∷ (later ++ input ∷ before)) h.0 new × Proceeds c me (later ++ input ∷ before) [] h.0 h.0)
+    one_of (is_output e) (HistoryIsPrompt c me (later ++ input ∷ before) (e ∷ outputs) new h.0)
+    (Owes c me (later ++ input ∷ before) e outputs (reverse outputs ++ e ∷ (later ++ input ∷ before)) h.0 new × HistoryIsPrompt c me (later ++ input ∷ before) [] h.0 h.0)
     (EventAt c me input before (reverse outputs ++ e ∷ (later ++ input ∷ before))) h.2
     (λ k. subst (EventAt c me input before) (sym (next_output outputs (later ++ input ∷ before) e)) (event_at c me input is later before (e ∷ outputs) new h.0 k))
     (λ k. subst (EventAt c me input before) (append_assoc (reverse outputs) (e ∷ []) (later ++ input ∷ before))
@@ -87,13 +87,13 @@ waiting_replicas_leave c setting r later start run goes unforged correct small w
     splits = history_append r later (Tick r ∷ start)
         ∙ ap (λ (b : Bool). history_of r later ++ cond b (Tick r ∷ history_of r start) (history_of r start)) (eq-eqb r r refl)
 
-    proceeds : Proceeds c r (history_of r later ++ Tick r ∷ history_of r start) [] (goes.replicas r correct refl).0 (goes.replicas r correct refl).0
-    proceeds = subst (λ (xs : List Entry). Proceeds c r xs [] (goes.replicas r correct refl).0 (goes.replicas r correct refl).0) splits (goes.replicas r correct refl).1
+    proceeds : HistoryIsPrompt c r (history_of r later ++ Tick r ∷ history_of r start) [] (goes.replicas r correct refl).0 (goes.replicas r correct refl).0
+    proceeds = subst (λ (xs : List Entry). HistoryIsPrompt c r xs [] (goes.replicas r correct refl).0 (goes.replicas r correct refl).0) splits (goes.replicas r correct refl).1
 
     event : EventAt c r (Tick r) (history_of r start) (history_of r later ++ Tick r ∷ history_of r start)
     event = event_at c r (Tick r) refl (history_of r later) (history_of r start) [] (goes.replicas r correct refl).0 (goes.replicas r correct refl).0 proceeds
 
-    behind : (first : Point) × Leaves c r (Tick r ∷ history_of r start) first
+    behind : (first : Point) × HistoryReaches c r (Tick r ∷ history_of r start) first
     behind = leaves_behind c r (history_of r later) (Tick r ∷ history_of r start) (goes.replicas r correct refl).0
         (proceeds_leaves c r (history_of r later ++ Tick r ∷ history_of r start) [] (goes.replicas r correct refl).0 (goes.replicas r correct refl).0 proceeds)
 
@@ -139,10 +139,10 @@ waiting_replicas_leave c setting r later start run goes unforged correct small w
 none_there : (c : Configuration) (me : ℕ) (new : NewViewData) → CanBeginView c me [] new → ⊥
 none_there c me new can = let l = can.left in absurd (omega arith)
 
-pub all_begun : (c : Configuration) (me : ℕ) (made : NewViewData) (xs outputs : List Entry) (new point : Point) → Proceeds c me xs outputs new point → CanBeginView c me (reverse outputs ++ xs) made → AreKeysSpent (reverse outputs ++ xs)
+pub all_begun : (c : Configuration) (me : ℕ) (made : NewViewData) (xs outputs : List Entry) (new point : Point) → HistoryIsPrompt c me xs outputs new point → CanBeginView c me (reverse outputs ++ xs) made → AreKeysSpent (reverse outputs ++ xs)
 all_begun c me made [] outputs new point h can = absurd (none_there c me made (subst (λ (o : List Entry). CanBeginView c me (reverse o ++ []) made) h.1 can))
 all_begun c me made (e ∷ past) outputs new point h can =
-    one_of (is_output e) (Proceeds c me past (e ∷ outputs) new h.0) (Owes c me past e outputs (reverse outputs ++ e ∷ past) h.0 new × Proceeds c me past [] h.0 h.0)
+    one_of (is_output e) (HistoryIsPrompt c me past (e ∷ outputs) new h.0) (Owes c me past e outputs (reverse outputs ++ e ∷ past) h.0 new × HistoryIsPrompt c me past [] h.0 h.0)
     (AreKeysSpent (reverse outputs ++ e ∷ past)) h.2
     (λ p. subst AreKeysSpent (sym (next_output outputs past e)) (all_begun c me made past (e ∷ outputs) new h.0 p (subst (λ (xs : List Entry). CanBeginView c me xs made) (next_output outputs past e) can)))
     (λ p. p.0.new_views made can)
@@ -206,7 +206,7 @@ came_bytes c s vc (e ∷ past) (inr h) = came_bytes c s vc past h
 came_bytes c s vc (Got p bytes ∷ past) (inl h) = record { bytes = bytes; signed = change_bytes c s vc bytes h.0 }
 came_bytes c s vc (_ ∷ past) (inl h) = absurd h
 
-pub own_bytes : (c : Configuration) (me : ℕ) (vc : ViewChangeData) (xs : List Entry) (point : Point) → is_replica c me ≡ true → Leaves c me xs point → Once (λ earlier e. IsSaying me (ViewChange vc) e) xs → Bytes c me vc
+pub own_bytes : (c : Configuration) (me : ℕ) (vc : ViewChangeData) (xs : List Entry) (point : Point) → is_replica c me ≡ true → HistoryReaches c me xs point → Once (λ earlier e. IsSaying me (ViewChange vc) e) xs → Bytes c me vc
 own_bytes c me vc [] point known leaves h = absurd h
 own_bytes c me vc (e ∷ past) point known leaves (inr h) = own_bytes c me vc past leaves.0 known leaves.1 h
 own_bytes c me vc (Sent p bytes ∷ past) point known leaves (inl h) =

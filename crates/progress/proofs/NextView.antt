@@ -12,7 +12,7 @@ use Rattle.protocol.specs.System.Texts.{NoCollision}
 use Rattle.protocol.specs.System.Run.{IsRun, OnlyTheseStopped}
 use Rattle.protocol.specs.Replica.Certificates.{low, logged, Committed}
 use Rattle.protocol.specs.Replica.State.{State, opening, last_time}
-use Rattle.protocol.specs.Replica.RightReplica.{Point, Leaves, IsFree}
+use Rattle.protocol.specs.Replica.RightReplica.{Point, HistoryReaches, IsFree}
 use Rattle.protocol.specs.Replica.Owed.{IsOfView, IsNumbered}
 use Rattle.protocol.specs.Client.RightClient.{OpenCall, open_call}
 use Rattle.protocol.specs.Space.Linear.{reached}
@@ -118,7 +118,7 @@ module _ (c : Configuration) (setting : IsConfiguration c) (again later start : 
           its : Point
           its = (goes.replicas r correct refl).0
 
-          leaves_r : Leaves c r (history_of r middle) its
+          leaves_r : HistoryReaches c r (history_of r middle) its
           leaves_r = proceeds_leaves c r (history_of r middle) [] (goes.replicas r correct refl).0 (goes.replicas r correct refl).0 (goes.replicas r correct refl).1
 
           by : IsBy c middle its.state

@@ -11,7 +11,7 @@ use Rattle.protocol.specs.System.Texts.{NoCollision}
 use Rattle.protocol.specs.System.Run.{IsRun, OnlyTheseStopped}
 use Rattle.protocol.specs.Replica.Certificates.{Committed}
 use Rattle.protocol.specs.Replica.State.{State, Call, opening, runs, run_call, ran_call, call_of, run_frame, execute, last_time}
-use Rattle.protocol.specs.Replica.RightReplica.{Point, Leaves}
+use Rattle.protocol.specs.Replica.RightReplica.{Point, HistoryReaches}
 use Rattle.protocol.specs.Replica.Owed.{HasRequest}
 use Rattle.protocol.specs.Client.RightClient.{OpenCall, open_call, SafeClient}
 use Rattle.protocol.specs.Space.Linear.{reached, batch_of}
@@ -102,7 +102,7 @@ module _ (c : Configuration) (setting : IsConfiguration c) (again middle : List 
     point : Point
     point = (goes.replicas r correct refl).0
 
-    leaves : Leaves c r (history_of r middle) point
+    leaves : HistoryReaches c r (history_of r middle) point
     unfolding point
     leaves = proceeds_leaves c r (history_of r middle) [] (goes.replicas r correct refl).0 (goes.replicas r correct refl).0 (goes.replicas r correct refl).1
 

@@ -9,8 +9,8 @@ use Rattle.protocol.specs.System.Texts.{NoCollision}
 use Rattle.protocol.specs.System.Run.{IsRun, OnlyTheseStopped}
 use Rattle.protocol.specs.Replica.State.{Call, last_time}
 use Rattle.protocol.specs.Replica.Certificates.{is_active_in}
-use Rattle.protocol.specs.Replica.RightReplica.{Point, Leaves, IsFree}
-use Rattle.protocol.specs.Replica.Owed.{Proceeds}
+use Rattle.protocol.specs.Replica.RightReplica.{Point, HistoryReaches, IsFree}
+use Rattle.protocol.specs.Replica.Owed.{HistoryIsPrompt}
 use Rattle.protocol.specs.Client.RightClient.{OpenCall, open_call}
 use Rattle.protocol.specs.Space.Linear.{reached}
 use Rattle.protocol.proofs.Words.Reacting.{proceeds_leaves}
@@ -59,17 +59,17 @@ module _ (c : Configuration) (setting : IsConfiguration c) (later start : List E
   point : Point
   point = (goes.replicas p0 correct refl).0
 
-  proceeds : Proceeds c p0 whole [] point point
+  proceeds : HistoryIsPrompt c p0 whole [] point point
   unfolding point
   proceeds = (goes.replicas p0 correct refl).1
 
-  leaves : Leaves c p0 whole point
+  leaves : HistoryReaches c p0 whole point
   leaves = proceeds_leaves c p0 whole [] point point proceeds
 
   waits : Has (λ x. x ≡ (let y : Call = record { client = k; timestamp = call.timestamp; op = call.op } in y)) point.waiting ⊎ (call.timestamp ≤ last_time point.state k)
   waits =
       waits_since c trace run k client call still p0 correct request.bytes (hears_request c setting later start is_run goes unforged apart k call client opened all none modes.Ordered request p0 correct).hears
-      [] at.newer (at.middle ++ history_of p0 start) point splits (subst (λ (xs : List Entry). Leaves c p0 xs point) splits leaves)
+      [] at.newer (at.middle ++ history_of p0 start) point splits (subst (λ (xs : List Entry). HistoryReaches c p0 xs point) splits leaves)
 
   stands_at : StandsAtPrimary c v k call.timestamp trace
   stands_at = go waits

@@ -9,8 +9,8 @@ use Rattle.protocol.specs.System.Trace.{Entry, party_of, history_of, Unforged}
 use Rattle.protocol.specs.System.Trace.Entry.{Invoke, Got, Sent}
 use Rattle.protocol.specs.System.Run.{IsRun, OnlyTheseStopped}
 use Rattle.protocol.specs.Replica.Certificates.{view, taken, is_active_in, low, is_in_marks, are_genuine, brought, batch_begun, begun_proposal, entry_proposal, proposal, logged, first_given, Committed}
-use Rattle.protocol.specs.Replica.RightReplica.{Point, Leaves, MaySend, MaySay}
-use Rattle.protocol.specs.Replica.Owed.{Proceeds}
+use Rattle.protocol.specs.Replica.RightReplica.{Point, HistoryReaches, MaySend, MaySay}
+use Rattle.protocol.specs.Replica.Owed.{HistoryIsPrompt}
 use Rattle.protocol.specs.Space.Linear.{reached}
 use Rattle.protocol.specs.Laws.Histories.{AreReplicasSafe}
 use Rattle.protocol.proofs.Words.Options.{some_injective, and_then_some, or_else_cases}
@@ -76,15 +76,15 @@ module _ (c : Configuration) (setting : IsConfiguration c) (later start : List E
     point : Point
     point = (goes.replicas q correct refl).0
 
-    proceeds : Proceeds c q (whole q) [] point point
+    proceeds : HistoryIsPrompt c q (whole q) [] point point
     unfolding point
     proceeds = (goes.replicas q correct refl).1
 
-    leaves : Leaves c q (whole q) point
+    leaves : HistoryReaches c q (whole q) point
     leaves = proceeds_leaves c q (whole q) [] point point proceeds
 
-    leaves_parts : Leaves c q (part q ++ first q) point
-    leaves_parts = subst (λ (xs : List Entry). Leaves c q xs point) (parts q) leaves
+    leaves_parts : HistoryReaches c q (part q ++ first q) point
+    leaves_parts = subst (λ (xs : List Entry). HistoryReaches c q xs point) (parts q) leaves
 
   -- ---- each message about the number comes to each
 
@@ -214,7 +214,7 @@ module _ (c : Configuration) (setting : IsConfiguration c) (later start : List E
   -- ---- each commits it
 
   active : (q : ℕ) → is_correct_replica c q ≡ true → (newer now : List Entry) (b : List ℕ) → whole q ≡ newer ++ now → logged c q now v i ≡ Some b → is_active_in c now v ≡ true
-  active q one newer now b is h = active_once c q v i newer now b (point q one) (subst (λ (xs : List Entry). Leaves c q xs (point q one)) is (leaves q one)) (subst (λ (xs : List Entry). is_active_in c xs v ≡ true) is (steady q one).0.active_last) h
+  active q one newer now b is h = active_once c q v i newer now b (point q one) (subst (λ (xs : List Entry). HistoryReaches c q xs (point q one)) is (leaves q one)) (subst (λ (xs : List Entry). is_active_in c xs v ≡ true) is (steady q one).0.active_last) h
 
   pub committed : (s : ℕ) → is_correct_replica c s ≡ true → Committed c s (whole s) v i batch
   committed s other = committed_by c setting trace goes safe unforged v i batch from active (λ x h. inr (λ q one message of shared. comes q x one h message of shared)) begins shared_batch (λ q h. (steady q h).1) s other

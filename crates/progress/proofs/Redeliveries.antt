@@ -4,9 +4,9 @@ use Rattle.std.specs.Prelude.{filter}
 use Rattle.protocol.specs.System.Configuration.{Configuration, is_correct}
 use Rattle.protocol.specs.System.Trace.{Entry, Has}
 use Rattle.protocol.specs.System.Trace.Entry.{Invoke, Got, Tick, Sent}
-use Rattle.protocol.specs.System.Schedule.{Step, Made, World, Goes, new_world, made_by, with_entry, with_frame, sealed_bytes, signed_bytes}
+use Rattle.protocol.specs.System.Schedule.{Step, Made, World, StepsLead, new_world, made_by, with_entry, with_frame, sealed_bytes, signed_bytes}
 use Rattle.protocol.specs.System.Schedule.Step.{calls, deliver, feed, seal, sign, ticks, flush}
-use Rattle.protocol.specs.System.Schedule.Goes.{ends, gives, called, delivers, gets, ticked, seals, signs, flushes, flushed}
+use Rattle.protocol.specs.System.Schedule.StepsLead.{ends, gives, called, delivers, gets, ticked, seals, signs, flushes, flushed}
 use Rattle.protocol.proofs.Words.Options.{some_injective}
 use Rattle.protocol.proofs.Words.Elements.{has_either, has_left, has_right, has_mapped, has_filtered, has_weaker, has_reversed}
 use Rattle.progress.specs.Delivery.{HasEntry}
@@ -17,7 +17,7 @@ use Rattle.progress.proofs.Flushing.{grows_by, made_since, frame_sent, flushes_d
 -- ---- a delivery that is among the steps is fed
 
 module _ (c : Configuration) (i q : ℕ) (made : Made) where
-  delivers_fed : (w v : World) (steps : List Step) (entries : List Entry) → Goes c w steps entries v → Has (λ x. x ≡ deliver i q) steps → slice_get w.frames i ≡ Some made → HasEntry (Got q made.bytes) entries
+  delivers_fed : (w v : World) (steps : List Step) (entries : List Entry) → StepsLead c w steps entries v → Has (λ x. x ≡ deliver i q) steps → slice_get w.frames i ≡ Some made → HasEntry (Got q made.bytes) entries
   delivers_fed w v _ _ ends h is = absurd h
   delivers_fed w v _ _ (gives {e = e} o g) h is = inr (delivers_fed _ v _ _ g h ((grows_by w (with_entry c w e) (made_by c e) refl).frames i made is))
   delivers_fed w v _ _ (called a g) (inl same) is = absurd cc

@@ -9,8 +9,8 @@ use Rattle.protocol.specs.System.Trace.{Entry, history_of, Once, SendsBody, Unfo
 use Rattle.protocol.specs.System.Trace.Entry.{Got, Sent}
 use Rattle.protocol.specs.System.Run.{IsRun, OnlyTheseStopped}
 use Rattle.protocol.specs.Replica.Certificates.{is_active_in, low, is_in_marks, are_genuine, logged, Committed}
-use Rattle.protocol.specs.Replica.RightReplica.{Point, Leaves, MaySay}
-use Rattle.protocol.specs.Replica.Owed.{Proceeds}
+use Rattle.protocol.specs.Replica.RightReplica.{Point, HistoryReaches, MaySay}
+use Rattle.protocol.specs.Replica.Owed.{HistoryIsPrompt}
 use Rattle.protocol.specs.Space.Linear.{reached}
 use Rattle.protocol.specs.Laws.Histories.{AreReplicasSafe}
 use Rattle.protocol.proofs.Words.Options.{some_injective}
@@ -70,15 +70,15 @@ module _ (c : Configuration) (setting : IsConfiguration c) (later start : List E
     point : Point
     point = (goes.replicas q correct refl).0
 
-    proceeds : Proceeds c q (whole q) [] point point
+    proceeds : HistoryIsPrompt c q (whole q) [] point point
     unfolding point
     proceeds = (goes.replicas q correct refl).1
 
-    leaves : Leaves c q (whole q) point
+    leaves : HistoryReaches c q (whole q) point
     leaves = proceeds_leaves c q (whole q) [] point point proceeds
 
   pub active : (i q : ℕ) → is_correct_replica c q ≡ true → (newer now : List Entry) (b : List ℕ) → whole q ≡ newer ++ now → logged c q now v i ≡ Some b → is_active_in c now v ≡ true
-  active i q one newer now b is h = active_once c q v i newer now b (point q one) (subst (λ (xs : List Entry). Leaves c q xs (point q one)) is (leaves q one)) (subst (λ (xs : List Entry). is_active_in c xs v ≡ true) is (stays q one).last) h
+  active i q one newer now b is h = active_once c q v i newer now b (point q one) (subst (λ (xs : List Entry). HistoryReaches c q xs (point q one)) is (leaves q one)) (subst (λ (xs : List Entry). is_active_in c xs v ≡ true) is (stays q one).last) h
 
   -- ---- one number
 

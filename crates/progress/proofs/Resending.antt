@@ -7,7 +7,7 @@ use Rattle.protocol.specs.System.Texts.{NoCollision}
 use Rattle.protocol.specs.System.Trace.{Entry, Unforged}
 use Rattle.protocol.specs.System.Trace.Entry.{Tick, Accepted}
 use Rattle.protocol.specs.System.Run.{IsRun, OnlyTheseStopped}
-use Rattle.protocol.specs.System.Schedule.{World, Goes, AtInput, new_world}
+use Rattle.protocol.specs.System.Schedule.{World, StepsLead, AtInput, new_world}
 use Rattle.protocol.specs.System.Schedule.Step.{ticks, flush}
 use Rattle.protocol.proofs.Words.Elements.{has_either, has_left, has_right, has_reverse, has_reversed}
 use Rattle.evidence.proofs.Feeding.{joins}
@@ -20,13 +20,13 @@ use Rattle.progress.proofs.Redeliveries.{redeliveries_deliver_all}
 use Rattle.progress.proofs.GivenCalls.{given_calls_are_accepted}
 
 -- the world after steps that begin with an input is reached too
-reached_on : (c : Configuration) (w u : World) (entries : List Entry) → IsReached c w → Goes c w (redelivery c w) entries u → AtInput entries → IsReached c u
+reached_on : (c : Configuration) (w u : World) (entries : List Entry) → IsReached c w → StepsLead c w (redelivery c w) entries u → AtInput entries → IsReached c u
 reached_on c w u entries reached goes at =
     let is : u.past ≡ reverse entries ++ w.past = past_grows c w u (redelivery c w) entries goes in
     let oldest : reverse u.past ≡ reverse w.past ++ entries =
     ap reverse is ∙ reverse-append (reverse entries) w.past ∙ ap (λ (xs : List Entry). reverse w.past ++ xs) (reverse-reverse entries) in
     let g = joins c new_world w u reached.0 (reverse w.past) reached.1 (redelivery c w) entries at goes in
-    (reached.0 ++ redelivery c w, subst (λ (es : List Entry). Goes c new_world (reached.0 ++ redelivery c w) es u) (sym oldest) g)
+    (reached.0 ++ redelivery c w, subst (λ (es : List Entry). StepsLead c new_world (reached.0 ++ redelivery c w) es u) (sym oldest) g)
 
 pub redeliveries_bring_answers : RedeliveriesBringAnswers
 redeliveries_bring_answers c setting w u x first more reached goes at k call asks run stopped whole whole_stopped unforged apart v m from stays each client opened i positive small given has =

@@ -19,7 +19,7 @@ use Rattle.protocol.specs.System.Run.{IsRun, OnlyTheseStopped}
 use Rattle.protocol.specs.Replica.Selection.{changes_of, passes_by, change_by, count_in, is_quorum, is_weak_quorum}
 use Rattle.protocol.specs.Replica.Certificates.{view, target, taken, is_active_in, low, is_in_marks, batch_begun, begun_proposal, entry_proposal, proposal, brought, first_given, logged, Committed}
 use Rattle.protocol.specs.Replica.State.{State, Call, opening, last_time}
-use Rattle.protocol.specs.Replica.RightReplica.{Point, Leaves, IsStep, IsFree, May, Moves, MaySay, MayPrePrepare, SendsBytes, SentBefore, checkpoint_of, kept_states}
+use Rattle.protocol.specs.Replica.RightReplica.{Point, HistoryReaches, IsStep, IsFree, May, Moves, MaySay, MayPrePrepare, SendsBytes, SentBefore, checkpoint_of, kept_states}
 use Rattle.protocol.specs.Replica.Owed.{BeginsViewWith, IsOfView, IsNumbered, AreKeysSpent}
 use Rattle.protocol.specs.Client.RightClient.{OpenCall, open_call, SafeClient}
 use Rattle.protocol.specs.Space.Linear.{reached}
@@ -79,7 +79,7 @@ record Untouched (point : Point) : Type 0 where
   opened : point.snapshots ≡ opening ∷ []
 
 -- in a silent first view with no installation the state is the opening one
-untouched : (c : Configuration) (q : ℕ) (xs : List Entry) (point : Point) → Leaves c q xs point → view c xs ≡ 0 → ((i : ℕ) (b : List ℕ) → logged c q xs 0 i ≡ Some b → ⊥)
+untouched : (c : Configuration) (q : ℕ) (xs : List Entry) (point : Point) → HistoryReaches c q xs point → view c xs ≡ 0 → ((i : ℕ) (b : List ℕ) → logged c q xs 0 i ≡ Some b → ⊥)
     → ((r k : ℕ) (root : List ℕ) → HasEntry (Installed r k root) xs → ⊥) → Untouched point
 untouched c q [] point leaves first silent none = record { number = ap (λ (p : Point). p.state.number) leaves; opened = ap (λ (p : Point). p.snapshots) leaves }
 untouched c q (e ∷ past) point leaves first silent none =
@@ -109,7 +109,7 @@ untouched c q (e ∷ past) point leaves first silent none =
 
 -- ---- low marks if each new view starts at 0
 
-low_started : (c : Configuration) (me : ℕ) (xs : List Entry) (point : Point) → Leaves c me xs point → ((new : NewViewData) → Once (Takes c new) xs → new.start ≡ 0) → low c me xs ≤ reached xs me
+low_started : (c : Configuration) (me : ℕ) (xs : List Entry) (point : Point) → HistoryReaches c me xs point → ((new : NewViewData) → Once (Takes c new) xs → new.start ≡ 0) → low c me xs ≤ reached xs me
 unfolding low
 low_started c me [] point leaves zeros = omega arith
 low_started c me (e ∷ past) point leaves zeros =
@@ -199,7 +199,7 @@ module _ (c : Configuration) (setting : IsConfiguration c) (later start : List E
 
   -- ---- a past of a correct replica
 
-  module _ (q : ℕ) (correct : is_correct_replica c q ≡ true) (newer xs : List Entry) (splits : history_of q (later ++ start) ≡ newer ++ xs) (point : Point) (leaves : Leaves c q xs point) where
+  module _ (q : ℕ) (correct : is_correct_replica c q ≡ true) (newer xs : List Entry) (splits : history_of q (later ++ start) ≡ newer ++ xs) (point : Point) (leaves : HistoryReaches c q xs point) where
     pub low_here : low c q xs ≤ reached xs q
     low_here = low_started c q xs point leaves (λ new h. starts_zero q correct new (subst (λ (ys : List Entry). Once (Takes c new) ys) (sym splits) (once_append (Takes c new) newer xs h)))
 
@@ -239,7 +239,7 @@ module _ (c : Configuration) (setting : IsConfiguration c) (later start : List E
     sends : SendsBody (giving c i batch) past e
     may : MayPrePrepare c (primary c 1) past old e 1 i batch
 
-  gave : (i : ℕ) (batch : List ℕ) (newer : List Entry) (e : Entry) (past : List Entry) → history_of (primary c 1) (later ++ start) ≡ newer ++ e ∷ past → (point : Point) (leaves : Leaves c (primary c 1) (e ∷ past) point)
+  gave : (i : ℕ) (batch : List ℕ) (newer : List Entry) (e : Entry) (past : List Entry) → history_of (primary c 1) (later ++ start) ≡ newer ++ e ∷ past → (point : Point) (leaves : HistoryReaches c (primary c 1) (e ∷ past) point)
       → proposal c (primary c 1) past e 1 i ≡ Some batch → Gave i batch e past leaves.0
   gave i batch newer e past splits point leaves h = go e leaves.2 brings
     where
@@ -274,7 +274,7 @@ module _ (c : Configuration) (setting : IsConfiguration c) (later start : List E
     pub positive : 1 ≤ i
     pub number : is_number i ≡ true
 
-  was_given : (i : ℕ) (batch : List ℕ) (newer xs : List Entry) → history_of (primary c 1) (later ++ start) ≡ newer ++ xs → (point : Point) → Leaves c (primary c 1) xs point → logged c (primary c 1) xs 1 i ≡ Some batch
+  was_given : (i : ℕ) (batch : List ℕ) (newer xs : List Entry) → history_of (primary c 1) (later ++ start) ≡ newer ++ xs → (point : Point) → HistoryReaches c (primary c 1) xs point → logged c (primary c 1) xs 1 i ≡ Some batch
       → WasGiven i batch xs
   unfolding logged
   was_given i batch newer [] splits point leaves h = absurd (none_logged c (primary c 1) 1 i batch h)
@@ -296,7 +296,7 @@ module _ (c : Configuration) (setting : IsConfiguration c) (later start : List E
   is_there (Some d) h = (d, refl)
 
   -- without gaps
-  filled : (newer xs : List Entry) → history_of (primary c 1) (later ++ start) ≡ newer ++ xs → (point : Point) → Leaves c (primary c 1) xs point → (i j : ℕ) (b : List ℕ) → logged c (primary c 1) xs 1 i ≡ Some b
+  filled : (newer xs : List Entry) → history_of (primary c 1) (later ++ start) ≡ newer ++ xs → (point : Point) → HistoryReaches c (primary c 1) xs point → (i j : ℕ) (b : List ℕ) → logged c (primary c 1) xs 1 i ≡ Some b
       → 1 ≤ j → j < i → (d : List ℕ) × (logged c (primary c 1) xs 1 j ≡ Some d)
   unfolding logged
   filled newer [] splits point leaves i j b h one l = absurd (none_logged c (primary c 1) 1 i b h)
@@ -335,7 +335,7 @@ module _ (c : Configuration) (setting : IsConfiguration c) (later start : List E
     point : Point
     point = (goes.replicas q correct refl).0
 
-    leaves : Leaves c q (history_of q (later ++ start)) point
+    leaves : HistoryReaches c q (history_of q (later ++ start)) point
     unfolding point
     leaves = proceeds_leaves c q (history_of q (later ++ start)) [] (goes.replicas q correct refl).0 (goes.replicas q correct refl).0 (goes.replicas q correct refl).1
 
@@ -477,7 +477,7 @@ module _ (c : Configuration) (setting : IsConfiguration c) (again later start : 
           its : Point
           its = (goes.replicas r correct refl).0
 
-          leaves_r : Leaves c r (history_of r middle) its
+          leaves_r : HistoryReaches c r (history_of r middle) its
           leaves_r = proceeds_leaves c r (history_of r middle) [] (goes.replicas r correct refl).0 (goes.replicas r correct refl).0 (goes.replicas r correct refl).1
 
           by : IsBy c middle its.state
@@ -593,14 +593,14 @@ module _ (c : Configuration) (setting : IsConfiguration c) (asks start : List En
   point_then : Point
   point_then = (goes.replicas r correct refl).0
 
-  leaves_then : Leaves c r (history_of r (asks ++ start)) point_then
+  leaves_then : HistoryReaches c r (history_of r (asks ++ start)) point_then
   unfolding point_then
   leaves_then = proceeds_leaves c r (history_of r (asks ++ start)) [] (goes.replicas r correct refl).0 (goes.replicas r correct refl).0 (goes.replicas r correct refl).1
 
   waits : Has (λ x. x ≡ (let y : Call = record { client = k; timestamp = call.timestamp; op = call.op } in y)) point_then.waiting ⊎ (call.timestamp ≤ last_time point_then.state k)
   waits =
       waits_since c (asks ++ start) run_then k client call still r correct request.bytes (hears_request c setting asks start is_run goes unforged apart k call client opened all none modes.Ordered request r correct).hears
-      [] at.newer (at.middle ++ history_of r start) point_then splits (subst (λ (xs : List Entry). Leaves c r xs point_then) splits leaves_then)
+      [] at.newer (at.middle ++ history_of r start) point_then splits (subst (λ (xs : List Entry). HistoryReaches c r xs point_then) splits leaves_then)
 
   some_there : (xs : List Call) (y : Call) → Has (λ x. x ≡ y) xs → xs ≢ []
   some_there [] y h is = h

@@ -16,7 +16,7 @@ use Rattle.protocol.specs.System.Run.{IsRun, OnlyTheseStopped}
 use Rattle.protocol.specs.Replica.Selection.{is_within, signed_change, changes_of, change_by, passes_by, count_in, may_select}
 use Rattle.protocol.specs.Replica.Certificates.{view, view_after, target, change_sent, change_from, is_later, taken, new_view_in, new_view_from, brought, is_active_in, low, logged, change_taken, change_at, latest_change}
 use Rattle.protocol.specs.Replica.State.{State, opening, Call, call_in, last_time}
-use Rattle.protocol.specs.Replica.RightReplica.{Point, Leaves, May, Moves, MaySay, SafeReplica, checkpoint_of, kept_states, with_waiting, is_newer, SentBefore}
+use Rattle.protocol.specs.Replica.RightReplica.{Point, HistoryReaches, May, Moves, MaySay, SafeReplica, checkpoint_of, kept_states, with_waiting, is_newer, SentBefore}
 use Rattle.protocol.specs.Replica.Owed.{BringsChange}
 use Rattle.protocol.specs.Laws.Bounds.{IsCheckpointBounded}
 use Rattle.protocol.specs.Laws.Histories.{AreReplicasSafe, Takes, ExecutesBatch}
@@ -326,7 +326,7 @@ module _ (c : Configuration) (setting : IsConfiguration c) (trace : List Entry) 
 
     -- ---- some past of a correct replica
 
-    module _ (q : ℕ) (correct : is_correct_replica c q ≡ true) (newer xs : List Entry) (splits : history_of q trace ≡ newer ++ xs) (point : Point) (leaves : Leaves c q xs point) where
+    module _ (q : ℕ) (correct : is_correct_replica c q ≡ true) (newer xs : List Entry) (splits : history_of q trace ≡ newer ++ xs) (point : Point) (leaves : HistoryReaches c q xs point) where
       pub first_view : view c xs ≡ 0
       first_view =
           let g = view_later c newer xs in
@@ -365,7 +365,7 @@ module _ (c : Configuration) (setting : IsConfiguration c) (trace : List Entry) 
 
     module _ (q : ℕ) (correct : is_correct_replica c q ≡ true) where
       -- the opening state stays the only snapshot
-      pub opened : (newer xs : List Entry) → history_of q trace ≡ newer ++ xs → (point : Point) → Leaves c q xs point → point.snapshots ≡ opening ∷ []
+      pub opened : (newer xs : List Entry) → history_of q trace ≡ newer ++ xs → (point : Point) → HistoryReaches c q xs point → point.snapshots ≡ opening ∷ []
       opened newer [] splits point leaves = ap (λ (p : Point). p.snapshots) leaves
       opened newer (e ∷ past) splits point leaves = go e leaves.2.may leaves.2.moves (opened (newer ++ e ∷ []) past (splits ∙ sym (append_assoc newer (e ∷ []) past)) leaves.0 leaves.1)
         where
@@ -400,7 +400,7 @@ module _ (c : Configuration) (setting : IsConfiguration c) (trace : List Entry) 
       waits_behind st waiting None some h = some h
       waits_behind st waiting (Some call) some h = waits_more st waiting call some h
 
-      pub waits_on : (newer middle past : List Entry) → history_of q trace ≡ newer ++ (middle ++ past) → (old new : Point) → Leaves c q past old → Leaves c q (middle ++ past) new → old.waiting ≢ [] → new.waiting ≢ []
+      pub waits_on : (newer middle past : List Entry) → history_of q trace ≡ newer ++ (middle ++ past) → (old new : Point) → HistoryReaches c q past old → HistoryReaches c q (middle ++ past) new → old.waiting ≢ [] → new.waiting ≢ []
       waits_on newer [] past splits old new before behind some =
           subst (λ (p : Point). p.waiting ≢ []) (points_are_one c q past old new before behind) some
       waits_on newer (e ∷ middle) past splits old new before behind some =

@@ -19,8 +19,8 @@ use Rattle.protocol.specs.System.Schedule.{signed_bytes}
 use Rattle.protocol.specs.Replica.Selection.{change_in}
 use Rattle.protocol.specs.Replica.Certificates.{view, target, is_active_in, low, latest_change}
 use Rattle.protocol.specs.Replica.State.{State, opening, root_of}
-use Rattle.protocol.specs.Replica.RightReplica.{Point, Leaves, SafeReplica, MaySend, SendsBytes, SentBefore, checkpoint_of, kept_states, IsPreparedList, IsPrePreparedList, sought_view}
-use Rattle.protocol.specs.Replica.Owed.{Proceeds, HasToMove, AreKeysSpent, BringsChange, HasLatestChange, IsSaying}
+use Rattle.protocol.specs.Replica.RightReplica.{Point, HistoryReaches, SafeReplica, MaySend, SendsBytes, SentBefore, checkpoint_of, kept_states, IsPreparedList, IsPrePreparedList, sought_view}
+use Rattle.protocol.specs.Replica.Owed.{HistoryIsPrompt, HasToMove, AreKeysSpent, BringsChange, HasLatestChange, IsSaying}
 use Rattle.evidence.specs.ExamplesOfChanges.{beginning_change}
 use Rattle.evidence.proofs.FirstFrames.{is_digest}
 use Rattle.evidence.proofs.RefusingStepsSigned.{signed_frames_are_heard}
@@ -137,7 +137,7 @@ module _ (c : Configuration) (setting : IsConfiguration c) (trace : List Entry) 
   module _ (none : view c (history_of (primary c 1) trace) ≡ 0) where
     module _ (q : ℕ) (correct : is_correct_replica c q ≡ true) where
       -- the first view change may be sent at a tick, while one waits
-      can : (newer past : List Entry) → history_of q trace ≡ newer ++ Tick q ∷ past → (point behind : Point) → Leaves c q past point → Leaves c q (Tick q ∷ past) behind → point.waiting ≢ [] → target past ≡ 0
+      can : (newer past : List Entry) → history_of q trace ≡ newer ++ Tick q ∷ past → (point behind : Point) → HistoryReaches c q past point → HistoryReaches c q (Tick q ∷ past) behind → point.waiting ≢ [] → target past ≡ 0
           → CanChange c q (Tick q ∷ past) point (suc (sought_view c past))
       can newer past splits point behind leaves leaves_behind waits unmoved = record {
         change = beginning_change;
@@ -297,8 +297,8 @@ module _ (c : Configuration) (setting : IsConfiguration c) (later start : List E
       point : Point
       point = (goes.replicas q correct refl).0
 
-      proceeds : Proceeds c q (at.newer ++ Tick q ∷ past) [] point point
-      proceeds = subst (λ (xs : List Entry). Proceeds c q xs [] (goes.replicas q correct refl).0 (goes.replicas q correct refl).0) at.whole (goes.replicas q correct refl).1
+      proceeds : HistoryIsPrompt c q (at.newer ++ Tick q ∷ past) [] point point
+      proceeds = subst (λ (xs : List Entry). HistoryIsPrompt c q xs [] (goes.replicas q correct refl).0 (goes.replicas q correct refl).0) at.whole (goes.replicas q correct refl).1
 
       event : EventAt c q (Tick q) past (at.newer ++ Tick q ∷ past)
       event = event_at c q (Tick q) refl at.newer past [] point point proceeds
@@ -309,7 +309,7 @@ module _ (c : Configuration) (setting : IsConfiguration c) (later start : List E
           let same : target (history_of q (later ++ start)) ≡ target ((at.newer ++ Tick q ∷ []) ++ past) = ap target (at.whole ∙ sym (append_assoc at.newer (Tick q ∷ []) past)) in
           omega arith
 
-      behind : (first : Point) × Leaves c q (Tick q ∷ past) first
+      behind : (first : Point) × HistoryReaches c q (Tick q ∷ past) first
       behind = leaves_behind c q at.newer (Tick q ∷ past) point (proceeds_leaves c q (at.newer ++ Tick q ∷ past) [] point point proceeds)
 
       some_waits : SomeWaits c q (history_of q start) ⊎ (1 ≤ reached start q) → event.old.waiting ≢ []

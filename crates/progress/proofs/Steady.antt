@@ -12,7 +12,7 @@ use Rattle.protocol.specs.System.Frames.{IsSealed}
 use Rattle.protocol.specs.System.Trace.{Entry, Has, Once}
 use Rattle.protocol.specs.System.Trace.Entry.{Sent}
 use Rattle.protocol.specs.Replica.Certificates.{view, target, is_active_in, low, is_in_marks, logged, first_given}
-use Rattle.protocol.specs.Replica.RightReplica.{Point, Leaves, IsStep, MaySend, IsFor, IsAddressed, others}
+use Rattle.protocol.specs.Replica.RightReplica.{Point, HistoryReaches, IsStep, MaySend, IsFor, IsAddressed, others}
 use Rattle.quorum.specs.Votes.{or_else}
 use Rattle.protocol.proofs.Words.Options.{some_injective}
 use Rattle.protocol.proofs.Words.Elements.{has_either, has_filtered}
@@ -42,7 +42,7 @@ pub logged_later : (c : Configuration) (me v i : ℕ) (batch : List ℕ) (later 
 logged_later c me v i batch [] past h = h
 logged_later c me v i batch (e ∷ later) past h = logged_stays c me v i batch e (later ++ past) (logged_later c me v i batch later past h)
 
-pub leaves_behind : (c : Configuration) (me : ℕ) (part start : List Entry) (point : Point) → Leaves c me (part ++ start) point → (first : Point) × Leaves c me start first
+pub leaves_behind : (c : Configuration) (me : ℕ) (part start : List Entry) (point : Point) → HistoryReaches c me (part ++ start) point → (first : Point) × HistoryReaches c me start first
 leaves_behind c me [] start point leaves = (point, leaves)
 leaves_behind c me (e ∷ part) start point leaves = leaves_behind c me part start leaves.0 leaves.1
 
@@ -69,7 +69,7 @@ active_between c v newer middle past first last =
     and_from (view c (middle ++ past) == v) (nat_le (target (middle ++ past)) v) (eq-eqb (view c (middle ++ past)) v is) (le-leb (target (middle ++ past)) v most)
 
 -- if something is logged for the view, a replica that is active in it at last is active
-pub active_once : (c : Configuration) (me v i : ℕ) (newer now : List Entry) (batch : List ℕ) (point : Point) → Leaves c me (newer ++ now) point → is_active_in c (newer ++ now) v ≡ true → logged c me now v i ≡ Some batch
+pub active_once : (c : Configuration) (me v i : ℕ) (newer now : List Entry) (batch : List ℕ) (point : Point) → HistoryReaches c me (newer ++ now) point → is_active_in c (newer ++ now) v ≡ true → logged c me now v i ≡ Some batch
     → is_active_in c now v ≡ true
 active_once c me v i newer now batch point leaves last h =
     let first = leaves_behind c me newer now point leaves in
@@ -146,7 +146,7 @@ pub record SentAt (c : Configuration) (me p : ℕ) (bytes : List ℕ) (history :
   pub own : p ≡ me
   pub may : MaySend c me past point (Sent p bytes) bytes
 
-pub sent_at : (c : Configuration) (me p : ℕ) (bytes : List ℕ) (history : List Entry) (point : Point) → Leaves c me history point → HasEntry (Sent p bytes) history → SentAt c me p bytes history
+pub sent_at : (c : Configuration) (me p : ℕ) (bytes : List ℕ) (history : List Entry) (point : Point) → HistoryReaches c me history point → HasEntry (Sent p bytes) history → SentAt c me p bytes history
 sent_at c me p bytes [] point leaves h = absurd h
 sent_at c me p bytes (e ∷ past) point leaves (inl is) =
     let step = subst (λ (x : Entry). IsStep c me past leaves.0 x point) is leaves.2 in
@@ -156,7 +156,7 @@ sent_at c me p bytes (e ∷ past) point leaves (inr h) =
     record { newer = e ∷ below.newer; past = below.past; splits = ap (λ (xs : List Entry). e ∷ xs) below.splits; point = below.point; own = below.own; may = below.may }
 
 -- a frame about a number for which nothing was logged at first is sent in the part
-pub sent_in_part : (c : Configuration) (me p v i : ℕ) (bytes : List ℕ) (part start : List Entry) (point : Point) → Leaves c me (part ++ start) point → logged c me start v i ≡ None
+pub sent_in_part : (c : Configuration) (me p v i : ℕ) (bytes : List ℕ) (part start : List Entry) (point : Point) → HistoryReaches c me (part ++ start) point → logged c me start v i ≡ None
     → ((past : List Entry) (at : Point) → MaySend c me past at (Sent p bytes) bytes → (batch : List ℕ) × (logged c me (Sent p bytes ∷ past) v i ≡ Some batch))
     → HasEntry (Sent p bytes) (part ++ start) → HasEntry (Sent p bytes) part
 sent_in_part c me p v i bytes part start point leaves none says h = go (has_either (λ x. x ≡ Sent p bytes) part start h)

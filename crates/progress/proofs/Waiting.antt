@@ -12,9 +12,9 @@ use Rattle.protocol.specs.System.Configuration.{Configuration, primary, is_clien
 use Rattle.protocol.specs.System.Trace.{Entry, is_output, history_of, Once, Has, Hears}
 use Rattle.protocol.specs.System.Trace.Entry.{Invoke, Got, Tick, Executed, Installed, Sent, Accepted}
 use Rattle.protocol.specs.Replica.State.{State, Call, call_in, call_of, execute, last_time}
-use Rattle.protocol.specs.Replica.RightReplica.{Point, Leaves, Moves, IsFree, is_newer, with_waiting, still_waiting}
+use Rattle.protocol.specs.Replica.RightReplica.{Point, HistoryReaches, Moves, IsFree, is_newer, with_waiting, still_waiting}
 use Rattle.protocol.specs.Replica.Certificates.{is_active_in}
-use Rattle.protocol.specs.Replica.Owed.{Owes, Proceeds, IsNumbered}
+use Rattle.protocol.specs.Replica.Owed.{Owes, HistoryIsPrompt, IsNumbered}
 use Rattle.protocol.specs.Client.RightClient.{OpenCall, open_call, SafeClient}
 use Rattle.protocol.specs.Space.Linear.{Invokes}
 use Rattle.protocol.proofs.Words.Elements.{has_filter, has_filtered, has_either, has_left, has_right, every_has}
@@ -51,7 +51,7 @@ with_cases st waiting call other h = go (nat_lt (last_time st call.client) call.
     go true k = one (has_either (λ x. x ≡ other) (filter (λ x. not (x.client == call.client)) waiting) (call ∷ []) k)
     go false k = inl k
 
-waits_heard : (c : Configuration) (me : ℕ) (xs : List Entry) (point : Point) → Leaves c me xs point → (other : Call) → Has (λ x. x ≡ other) point.waiting
+waits_heard : (c : Configuration) (me : ℕ) (xs : List Entry) (point : Point) → HistoryReaches c me xs point → (other : Call) → Has (λ x. x ≡ other) point.waiting
     → Once (Hears c me (asking (256 + other.client) other.timestamp modes.Ordered other.op)) xs
 waits_heard c me [] point leaves other h = absurd (subst (λ (p : Point). Has (λ x. x ≡ other) p.waiting) leaves h)
 waits_heard c me (e ∷ past) point leaves other h = go e leaves.2.moves (waits_heard c me past leaves.0 leaves.1 other)
@@ -86,13 +86,13 @@ waits_heard c me (e ∷ past) point leaves other h = go e leaves.2.moves (waits_
 
 -- ---- at the end of a history an active primary has numbered all waiting requests, while a number is free
 
-pub all_numbered : (c : Configuration) (me v n : ℕ) (call : Call) → primary c v ≡ me → (xs outputs : List Entry) (new point : Point) → (outputs ≡ [] → new ≡ point) → Proceeds c me xs outputs new point
+pub all_numbered : (c : Configuration) (me v n : ℕ) (call : Call) → primary c v ≡ me → (xs outputs : List Entry) (new point : Point) → (outputs ≡ [] → new ≡ point) → HistoryIsPrompt c me xs outputs new point
     → is_active_in c (reverse outputs ++ xs) v ≡ true → Has (λ x. x ≡ call) new.waiting → IsFree c me (reverse outputs ++ xs) new.state.number v n
     → IsNumbered c me (reverse outputs ++ xs) v call.client call.timestamp
 all_numbered c me v n call own [] outputs new point ending h active waits free =
     absurd (subst (λ (p : Point). Has (λ x. x ≡ call) p.waiting) (ending h.1 ∙ h.0) waits)
 all_numbered c me v n call own (e ∷ past) outputs new point ending h active waits free =
-    one_of (is_output e) (Proceeds c me past (e ∷ outputs) new h.0) (Owes c me past e outputs (reverse outputs ++ e ∷ past) h.0 new × Proceeds c me past [] h.0 h.0)
+    one_of (is_output e) (HistoryIsPrompt c me past (e ∷ outputs) new h.0) (Owes c me past e outputs (reverse outputs ++ e ∷ past) h.0 new × HistoryIsPrompt c me past [] h.0 h.0)
     (IsNumbered c me (reverse outputs ++ e ∷ past) v call.client call.timestamp) h.2
     (λ p. subst (λ (xs : List Entry). IsNumbered c me xs v call.client call.timestamp) (sym (next_output outputs past e))
     (all_numbered c me v n call own past (e ∷ outputs) new h.0 (λ none. absurd cc) p (subst (λ (xs : List Entry). is_active_in c xs v ≡ true) (next_output outputs past e) active) waits
@@ -127,7 +127,7 @@ module _ (c : Configuration) (trace : List Entry) (run : Run c trace) (k : ℕ) 
   Waits point = Has (λ x. x ≡ its) point.waiting ⊎ (call.timestamp ≤ last_time point.state k)
 
   -- its client's waiting request is not later
-  waiting_most : (later past : List Entry) (point : Point) → history_of r trace ≡ later ++ past → Leaves c r past point → (other : Call) → Has (λ x. x ≡ other) point.waiting → other.client ≡ k
+  waiting_most : (later past : List Entry) (point : Point) → history_of r trace ≡ later ++ past → HistoryReaches c r past point → (other : Call) → Has (λ x. x ≡ other) point.waiting → other.client ≡ k
       → (other.timestamp ≤ call.timestamp) × (other.timestamp ≡ call.timestamp → other ≡ its)
   waiting_most later past point splits leaves other h own =
       let there = waits_heard c r past point leaves other h in
@@ -202,7 +202,7 @@ module _ (c : Configuration) (trace : List Entry) (run : Run c trace) (k : ℕ) 
       go true e = inl (has_filtered (λ x. x ≡ its) (λ x. nat_lt (last_time st x.client) x.timestamp) (λ x same. ap (λ (y : Call). nat_lt (last_time st y.client) y.timestamp) same ∙ e) waiting h)
       go false e = inr (ltb-false (last_time st k) call.timestamp e)
 
-  one_more : (newer past : List Entry) (e : Entry) (old point : Point) → history_of r trace ≡ newer ++ e ∷ past → Leaves c r past old → Leaves c r (e ∷ past) point → Moves c r past old e point → Waits old → Waits point
+  one_more : (newer past : List Entry) (e : Entry) (old point : Point) → history_of r trace ≡ newer ++ e ∷ past → HistoryReaches c r past old → HistoryReaches c r (e ∷ past) point → Moves c r past old e point → Waits old → Waits point
   one_more newer past e old point splits before behind move (inr l) =
       let grows = times_grow c trace run r newer (e ∷ []) past old point k correct splits before behind in
       inr (omega arith)
@@ -241,7 +241,7 @@ module _ (c : Configuration) (trace : List Entry) (run : Run c trace) (k : ℕ) 
       ∙ ap (λ (x : ℕ). let y : Call = record { client = x; timestamp = call.timestamp; op = call.op } in Some y) number
 
   pub waits_since : (request : List ℕ) → heard (members c) r request ≡ Some (asking me call.timestamp modes.Ordered call.op)
-      → (newer middle past : List Entry) (point : Point) → history_of r trace ≡ newer ++ (middle ++ Got r request ∷ past) → Leaves c r (middle ++ Got r request ∷ past) point
+      → (newer middle past : List Entry) (point : Point) → history_of r trace ≡ newer ++ (middle ++ Got r request ∷ past) → HistoryReaches c r (middle ++ Got r request ∷ past) point
       → Has (λ x. x ≡ its) point.waiting ⊎ (call.timestamp ≤ last_time point.state k)
   waits_since request hears newer [] past point splits leaves =
       subst Waits (sym leaves.2.moves)

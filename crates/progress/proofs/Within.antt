@@ -15,7 +15,7 @@ use Rattle.protocol.specs.System.Run.{IsRun}
 use Rattle.protocol.specs.Replica.Selection.{is_quorum, is_weak_quorum, is_within, changes_of, passes_by, count_in}
 use Rattle.protocol.specs.Replica.Certificates.{taken, brought, checkpoint_from, checkpoint_in, with_checkpoint, insert_checkpoint, checkpoints_of, says_checkpoint, count_checkpoints, is_stable, installed_at, low, logged}
 use Rattle.protocol.specs.Replica.State.{State, execute}
-use Rattle.protocol.specs.Replica.RightReplica.{Point, Leaves, May, Moves, MaySay, MayCheckpoint, IsRootWanted, HadQuorum, StartsAt, checkpoint_of, kept_states, IsNewViewChange}
+use Rattle.protocol.specs.Replica.RightReplica.{Point, HistoryReaches, May, Moves, MaySay, MayCheckpoint, IsRootWanted, HadQuorum, StartsAt, checkpoint_of, kept_states, IsNewViewChange}
 use Rattle.protocol.specs.Laws.Bounds.{IsBatchEntryBounded, IsCheckpointBounded}
 use Rattle.protocol.specs.Laws.Histories.{AreReplicasSafe}
 use Rattle.protocol.proofs.Words.Bounds.{bounded, within_of_bounded}
@@ -188,7 +188,7 @@ module _ (c : Configuration) (setting : IsConfiguration c) (trace : List Entry) 
   unfolding low
   installed_low p k root past = omega arith
 
-  snapshots_fit : (newer xs : List Entry) → history_of r trace ≡ newer ++ xs → (point : Point) → Leaves c r xs point → Each (Fits xs) point.snapshots
+  snapshots_fit : (newer xs : List Entry) → history_of r trace ≡ newer ++ xs → (point : Point) → HistoryReaches c r xs point → Each (Fits xs) point.snapshots
   snapshots_fit newer [] splits point leaves = subst (λ (p : Point). Each (Fits []) p.snapshots) (sym leaves) ((zero-mod c.period, omega arith, omega arith), tt)
   snapshots_fit newer (e ∷ past) splits point leaves =
       go e leaves.2.may leaves.2.moves beside
@@ -242,7 +242,7 @@ module _ (c : Configuration) (setting : IsConfiguration c) (trace : List Entry) 
 
   -- ---- the low mark is a number
 
-  low_number : (newer xs : List Entry) → history_of r trace ≡ newer ++ xs → (point : Point) → Leaves c r xs point → low c r xs < 2 ^ 48
+  low_number : (newer xs : List Entry) → history_of r trace ≡ newer ++ xs → (point : Point) → HistoryReaches c r xs point → low c r xs < 2 ^ 48
   unfolding low
   low_number newer [] splits point leaves = omega arith
   low_number newer (e ∷ past) splits point leaves =
@@ -277,7 +277,7 @@ module _ (c : Configuration) (setting : IsConfiguration c) (trace : List Entry) 
 
   -- ---- the whole
 
-  pub is_inside : (newer past : List Entry) → history_of r trace ≡ newer ++ past → (point behind : Point) → Leaves c r past behind → behind.snapshots ≡ point.snapshots → (vc : ViewChangeData) → IsNewViewChange c r past point vc → is_within c vc ≡ true
+  pub is_inside : (newer past : List Entry) → history_of r trace ≡ newer ++ past → (point behind : Point) → HistoryReaches c r past behind → behind.snapshots ≡ point.snapshots → (vc : ViewChangeData) → IsNewViewChange c r past point vc → is_within c vc ≡ true
   is_inside newer past splits point behind leaves same vc is_new = within_of_bounded c vc (record { view = view_small; low = low_small; prepared = prepared; pre_prepared = proposed; checkpoints = checkpoints })
     where
       view_small : vc.view < 2 ^ 48

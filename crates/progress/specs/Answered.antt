@@ -12,7 +12,7 @@ use Rattle.protocol.specs.System.Texts.{NoCollision}
 use Rattle.protocol.specs.System.Run.{IsRun, OnlyTheseStopped}
 use Rattle.reply_cache.specs.Replies.{Kept}
 use Rattle.protocol.specs.Replica.State.{kept_of}
-use Rattle.protocol.specs.Replica.RightReplica.{Point, Leaves}
+use Rattle.protocol.specs.Replica.RightReplica.{Point, HistoryReaches}
 use Rattle.protocol.specs.Client.RightClient.{OpenCall, open_call, Vote, count_alike, IsPromptClient}
 use Rattle.progress.specs.Delivery.{HasEntry, AllDelivered}
 
@@ -44,7 +44,7 @@ OpenCallsLackQuorums =
 -- that client.
 pub record KeepsReply (c : Configuration) (r : ℕ) (history : List Entry) (client timestamp : ℕ) : Type 0 where
   pub point : Point
-  pub leaves : Leaves c r history point
+  pub leaves : HistoryReaches c r history point
   pub kept : Kept
   pub is_kept : kept_of point.state client ≡ Some kept
   pub time : kept.timestamp ≡ timestamp

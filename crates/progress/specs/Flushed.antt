@@ -7,14 +7,14 @@ use Rattle.protocol.specs.System.Trace.{Entry, history_of, Unforged}
 use Rattle.protocol.specs.System.Trace.Entry.{Accepted}
 use Rattle.protocol.specs.System.Texts.{NoCollision}
 use Rattle.protocol.specs.System.Run.{IsRun, OnlyTheseStopped}
-use Rattle.protocol.specs.System.Schedule.{Step, ticks, flush, World, Goes, new_world}
+use Rattle.protocol.specs.System.Schedule.{Step, ticks, flush, World, StepsLead, new_world}
 use Rattle.protocol.specs.Client.RightClient.{OpenCall, open_call}
 use Rattle.progress.specs.Delivery.{HasEntry, AllDelivered}
 use Rattle.progress.specs.Answered.{KeepsReply}
 
 -- some schedule makes the world
 abbrev pub IsReached : Configuration → World → Type 0
-IsReached c w = (steps : List Step) × Goes c new_world steps (reverse w.past) w
+IsReached c w = (steps : List Step) × StepsLead c new_world steps (reverse w.past) w
 
 -- the last step is a flush
 abbrev pub EndsInFlush : List Step → Type 0
@@ -28,12 +28,12 @@ EndsInFlush (step ∷ next ∷ steps) = EndsInFlush (next ∷ steps)
 abbrev pub FlushesDeliverAll : Type 0
 FlushesDeliverAll =
     (c : Configuration) (w v : World) (steps : List Step) (entries : List Entry)
-    → IsReached c w → Goes c w steps entries v → EndsInFlush steps
+    → IsReached c w → StepsLead c w steps entries v → EndsInFlush steps
     → (v.past ≡ reverse entries ++ w.past) × AllDelivered c (reverse entries)
 
 -- The world that a tick of the client and a flush make.
 abbrev pub AsksAndFlushes : Configuration → ℕ → World → List Entry → World → Type 0
-AsksAndFlushes c client w entries v = Goes c w (ticks (256 + client) ∷ flush ∷ []) entries v
+AsksAndFlushes c client w entries v = StepsLead c w (ticks (256 + client) ∷ flush ∷ []) entries v
 
 -- From any world that is reached, let a correct client have a call open to which 2f + 1 correct replicas keep the
 -- reply. The client's tick and a flush make it accept, if nobody has stopped at the end.

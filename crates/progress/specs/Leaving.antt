@@ -11,7 +11,7 @@ use Rattle.protocol.specs.System.Trace.Entry.{Tick}
 use Rattle.protocol.specs.System.Run.{IsRun, OnlyTheseStopped}
 use Rattle.protocol.specs.Replica.Selection.{is_within, changes_of, may_select}
 use Rattle.protocol.specs.Replica.Certificates.{view, target, Prepared}
-use Rattle.protocol.specs.Replica.RightReplica.{Point, Leaves, sought_view, TimesOut, JoinsOthers, IsNewViewChange}
+use Rattle.protocol.specs.Replica.RightReplica.{Point, HistoryReaches, sought_view, TimesOut, JoinsOthers, IsNewViewChange}
 use Rattle.protocol.specs.Replica.Owed.{AreKeysSpent, HasLatestChange, HasBatch}
 use Rattle.progress.specs.Delivery.{AllDelivered}
 
@@ -21,7 +21,7 @@ use Rattle.progress.specs.Delivery.{AllDelivered}
 -- those that it left for, if it has a reason.
 abbrev pub ViewChangesExist : Type 0
 ViewChangesExist =
-    (c : Configuration) (me : ℕ) (past : List Entry) (point behind : Point) → Leaves c me past behind → (v : ℕ)
+    (c : Configuration) (me : ℕ) (past : List Entry) (point behind : Point) → HistoryReaches c me past behind → (v : ℕ)
     → view c past < v → target past < v → is_number v ≡ true
     → TimesOut c me past point.waiting v ⊎ JoinsOthers c me past v
     → (vc : ViewChangeData) × (vc.view ≡ v) × IsNewViewChange c me past point vc
@@ -32,7 +32,7 @@ abbrev pub ViewChangesAreWithin : Type 0
 ViewChangesAreWithin =
     (c : Configuration) → IsConfiguration c → (trace : List Entry) → IsRun c trace → Unforged c trace
     → (r : ℕ) → is_correct_replica c r ≡ true → (later past : List Entry) → history_of r trace ≡ later ++ past
-    → (point behind : Point) → Leaves c r past behind → behind.snapshots ≡ point.snapshots
+    → (point behind : Point) → HistoryReaches c r past behind → behind.snapshots ≡ point.snapshots
     → (vc : ViewChangeData) → IsNewViewChange c r past point vc → is_within c vc ≡ true
 
 -- A frame has room for each new view change for the view that the replica may send: some bytes say it.
@@ -53,7 +53,7 @@ WaitingReplicasLeave =
     (c : Configuration) → IsConfiguration c → (r : ℕ) (later start : List Entry) → IsRun c (later ++ Tick r ∷ start)
     → OnlyTheseStopped c [] (later ++ Tick r ∷ start) → Unforged c (later ++ Tick r ∷ start)
     → is_correct_replica c r ≡ true → is_number (suc (sought_view c (history_of r start))) ≡ true
-    → ((point : Point) → Leaves c r (history_of r start) point
+    → ((point : Point) → HistoryReaches c r (history_of r start) point
     → IsWaiting c (history_of r start) point
     × HasRoom c r (Tick r ∷ history_of r start) point (suc (sought_view c (history_of r start))))
     → (sought_view c (history_of r start) < target (history_of r (later ++ Tick r ∷ start)))

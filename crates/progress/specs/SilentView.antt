@@ -10,7 +10,7 @@ use Rattle.protocol.specs.System.Trace.Entry.{Got, Tick}
 use Rattle.protocol.specs.System.Texts.{NoCollision}
 use Rattle.protocol.specs.System.Run.{IsRun, OnlyTheseStopped}
 use Rattle.protocol.specs.Replica.Certificates.{target, is_active_in, logged}
-use Rattle.protocol.specs.Replica.RightReplica.{Point, Leaves}
+use Rattle.protocol.specs.Replica.RightReplica.{Point, HistoryReaches}
 use Rattle.protocol.specs.Replica.Owed.{AreKeysSpent}
 use Rattle.progress.specs.Delivery.{HasEntry, AllDelivered}
 
@@ -29,7 +29,7 @@ pub record SecondIsNext (c : Configuration) (trace : List Entry) : Type 0 where
 
 -- some request waits at the replica
 abbrev pub SomeWaits : Configuration → ℕ → List Entry → Type 0
-SomeWaits c q history = (point : Point) × Leaves c q history point × (point.waiting ≢ [])
+SomeWaits c q history = (point : Point) × HistoryReaches c q history point × (point.waiting ≢ [])
 
 -- Time goes by at the replica in this part of a trace, or it has left the first view anyway.
 abbrev pub TicksOrLeft : ℕ → List Entry → List Entry → Type 0

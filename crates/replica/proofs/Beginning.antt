@@ -58,8 +58,8 @@ use Rattle.replica_histories.proofs.Resting.{held_are_settled}
 use Rattle.replica_histories.proofs.Counting.{batches_count, batches_drop, prepares_count, prepares_drop, commits_count, commits_drop, others_drop, mapped_none}
 use Rattle.replica.specs.declared.taking.Touched.TheVariants as touched
 use Rattle.replica.specs.State.{OrdererData, JoinedData, AreOne}
-use Rattle.replica.specs.Desks.{Stands, FitsEvent, changes_of}
-use Rattle.replica.specs.Going.{IsSameLog, IsVotedBut, Rests}
+use Rattle.replica.specs.Desks.{PartsFitEvent, FitsEvent, changes_of}
+use Rattle.replica.specs.Going.{IsSameLog, IsVotedBut, NothingIsLeft}
 use Rattle.replica.specs.Taking.{TakesBatch, TakesPrepare, TakesCommit}
 use Rattle.replica.specs.Joined.{Runs, me_of}
 use Rattle.replica.specs.Entering.{event_of, TakesBytes, TakesMessage}
@@ -71,7 +71,7 @@ use Rattle.replica.proofs.Rows.{due_prepare_elsewhere, due_commit_elsewhere}
 -- ---- between events
 
 -- no message is left to send, and no batch to execute
-pub rests : (c : Configuration) (r : JoinedData) (past : List Entry) → Runs c r past → Rests r
+pub rests : (c : Configuration) (r : JoinedData) (past : List Entry) → Runs c r past → NothingIsLeft r
 rests c r past runs =
     let settled = held_are_settled c (me_of r) runs.desk r.orderer.log past runs.holds in (
       (λ i. (runs.holds.of_log.prepares i, runs.holds.of_log.commits i)),
@@ -122,7 +122,7 @@ module _ (r : JoinedData) (one : AreOne r.orderer r.desk) where
   pub begins_with : (c : Configuration) (past : List Entry) (runs : Runs c r past) (bytes : List ℕ) (after : LogData) (claims : ClaimsData)
       → IsSameLog r.orderer.log after → Takes c (me_of r) (heard (members c) (me_of r) bytes) r.orderer.log after → IsNoCall c (heard (members c) (me_of r) bytes)
       → ChangesFit r c past bytes after claims
-      → Stands c (event_of c r past runs bytes) (record r.orderer { log = after; claims = claims }) r.desk [] []
+      → PartsFitEvent c (event_of c r past runs bytes) (record r.orderer { log = after; claims = claims }) r.desk [] []
   begins_with c past runs bytes after claims same takes none changes = record {
     desk = runs.desk;
     is = runs.is_desk;

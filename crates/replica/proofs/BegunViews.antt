@@ -30,7 +30,7 @@ use Rattle.replica.specs.State.{OrdererData, JoinedData}
 use Rattle.desk.specs.State.{DeskData, OpenData}
 use Rattle.desk.specs.Waiting.{with_view}
 use Rattle.desk.specs.Desking.{desk_above}
-use Rattle.replica.specs.Desks.{given, IsCallOf, AreCallsOf, AreOfDifferentClients, IsDeskOf, FitsEvent, Stands}
+use Rattle.replica.specs.Desks.{given, IsCallOf, AreCallsOf, AreOfDifferentClients, IsDeskOf, FitsEvent, PartsFitEvent}
 use Rattle.replica.specs.EnteringViews.{Enters, FetchesStart, SaysVotesOf, entering}
 use Rattle.desk.specs.Begun.{AreBegun}
 use Rattle.replica.specs.Fetching.{SaysFetch}
@@ -245,7 +245,7 @@ module _ (new : NewViewData) (own : Option (List ℕ)) (r : JoinedData) (before 
     with_due b e = subst (λ (due : List Message). FitsEvent c me s the_orderer later (with_view k.calls r.desk.waiting) due before) (due_is b e) f
 
     -- the fetch is sent
-    aimed : (said : List Output) → aimed_at r.desk < new.start → Says the_orderer (fetch_of (aim_of (start_of new) the_desk).transfer) before said → Stands c s the_orderer (aiming (start_of new) the_desk) [] said
+    aimed : (said : List Output) → aimed_at r.desk < new.start → Says the_orderer (fetch_of (aim_of (start_of new) the_desk).transfer) before said → PartsFitEvent c s the_orderer (aiming (start_of new) the_desk) [] said
     aimed said ahead says = record {
       desk = record later { transfer = Some (aim_of (start_of new) the_desk).transfer };
       is = aims_desk c s the_orderer the_desk later (with_view k.calls r.desk.waiting) (start_of new) before said later_is;
@@ -254,27 +254,27 @@ module _ (new : NewViewData) (own : Option (List ℕ)) (r : JoinedData) (before 
     }
 
     -- or there is none
-    unaimed : new.start ≤ aimed_at r.desk → Stands c s the_orderer the_desk [] before
+    unaimed : new.start ≤ aimed_at r.desk → PartsFitEvent c s the_orderer the_desk [] before
     unaimed least = record {
       desk = later;
       is = later_is;
       fits = subst (λ (m : ℕ). FitsEvent c m s the_orderer later (with_view k.calls r.desk.waiting) [] before) (sym own_me) (with_due false (le-ltb (aimed_at r.desk) new.start least));
     }
 
-    says_it : (said : List Output) → aimed_at r.desk < new.start → SaysFetch (record mid { desk = aiming (start_of new) the_desk }) before said → Stands c s the_orderer (aiming (start_of new) the_desk) [] said
+    says_it : (said : List Output) → aimed_at r.desk < new.start → SaysFetch (record mid { desk = aiming (start_of new) the_desk }) before said → PartsFitEvent c s the_orderer (aiming (start_of new) the_desk) [] said
     says_it said ahead (inl h) = absurd (let bad : Some (aim_of (start_of new) the_desk) ≡ None = h.0 in cc)
     says_it said ahead (inr h) =
         aimed said ahead (subst (λ (o : OpenData). Says the_orderer (fetch_of o.transfer) before said) (sym (some_injective (aim_of (start_of new) the_desk) h.0 h.1)) h.2)
 
-    at_start : (fetched : JoinedData) (said : List Output) → FetchesStart (start_of new) mid before fetched said → Stands c s the_orderer fetched.desk [] said
+    at_start : (fetched : JoinedData) (said : List Output) → FetchesStart (start_of new) mid before fetched said → PartsFitEvent c s the_orderer fetched.desk [] said
     at_start fetched said (inl h) =
         let same : fetched ≡ record mid { desk = aiming (start_of new) the_desk } = h.2 ∙ ap (λ (d : DeskData). let y : JoinedData = record mid { desk = d } in y) h.1.1 in
-        subst (λ (x : JoinedData). Stands c s the_orderer x.desk [] said) (sym same) (says_it said h.1.0 (subst (λ (x : JoinedData). SaysFetch x before said) same h.3))
+        subst (λ (x : JoinedData). PartsFitEvent c s the_orderer x.desk [] said) (sym same) (says_it said h.1.0 (subst (λ (x : JoinedData). SaysFetch x before said) same h.3))
     at_start fetched said (inr h) =
-        subst (λ (x : JoinedData). Stands c s the_orderer x.desk [] said) (sym h.1) (subst (λ (outs : List Output). Stands c s the_orderer the_desk [] outs) (sym h.2) (unaimed h.0))
+        subst (λ (x : JoinedData). PartsFitEvent c s the_orderer x.desk [] said) (sym h.1) (subst (λ (outs : List Output). PartsFitEvent c s the_orderer the_desk [] outs) (sym h.2) (unaimed h.0))
 
-    pub begun_stands : Stands c s n.orderer n.desk [] after
-    begun_stands = subst (λ (x : JoinedData). Stands c s x.orderer x.desk [] after) (sym k.new_is) (record {
+    pub begun_stands : PartsFitEvent c s n.orderer n.desk [] after
+    begun_stands = subst (λ (x : JoinedData). PartsFitEvent c s x.orderer x.desk [] after) (sym k.new_is) (record {
       desk = st.desk;
       is = st.is;
       fits = subst (λ (m : ℕ). FitsEvent c m s k.orderer st.desk k.fetched.desk.waiting [] after) (sym named)
@@ -282,7 +282,7 @@ module _ (new : NewViewData) (own : Option (List ℕ)) (r : JoinedData) (before 
           (subst (λ (m : ℕ). FitsEvent c m s the_orderer st.desk k.fetched.desk.waiting [] k.said) named st.fits));
     })
       where
-        st : Stands c s the_orderer k.fetched.desk [] k.said
+        st : PartsFitEvent c s the_orderer k.fetched.desk [] k.said
         st = at_start k.fetched k.said k.fetches
 
         named : k.fetched.desk.me ≡ me

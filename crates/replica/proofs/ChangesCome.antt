@@ -51,10 +51,10 @@ use Rattle.replica.specs.State.{OrdererData, JoinedData, AreOne, IsOrderer}
 use Rattle.desk.specs.State.{DeskData}
 use Rattle.replica.specs.Beginning.{BeginsView, MayBegin, HasNoView}
 use Rattle.replica.specs.Changing.{ChangesView, IsJoinedBy, IsJoinedByNone, IsUnsayable, aimed_view, change_for}
-use Rattle.replica.specs.Desks.{given, Stands, FitsEvent, changes_of}
+use Rattle.replica.specs.Desks.{given, PartsFitEvent, FitsEvent, changes_of}
 use Rattle.replica.specs.Entering.{event_of, event_with, TakesBytes, TakesInput}
 use Rattle.replica.specs.Joined.{Runs, me_of}
-use Rattle.replica.specs.Going.{IsOneParty, Rests}
+use Rattle.replica.specs.Going.{IsOneParty, NothingIsLeft}
 use Rattle.replica.specs.Numbering.{IsAllNumbered}
 use Rattle.replica.specs.Receiving.{JudgesAlike, Receives}
 use Rattle.replica.proofs.Unsayable.{unsaid_spent}
@@ -151,7 +151,7 @@ module _ (r : JoinedData) (one : AreOne r.orderer r.desk) (bytes : List ℕ) whe
     passes = inputs_enter c me runs.desk runs.desk r.orderer.log r.orderer.log [] past e runs.holds enters
 
     stands : (held : List (Option HeldData)) → FitsChanges c me r.orderer.log (record (changes_of r.orderer) { held = held }) (e ∷ past)
-        → Stands c (event_of c r past runs bytes) (holding held) r.desk [] []
+        → PartsFitEvent c (event_of c r past runs bytes) (holding held) r.desk [] []
     stands held changes = record {
       desk = runs.desk;
       is = runs.is_desk;
@@ -269,7 +269,7 @@ IsTakenPartless c me s = IsTaken c me s × (brings_part c me s.input ≡ false)
 record Comes (input : Entry) (old new : JoinedData) (outs : List Output) : Type 0 where
   party : IsOneParty old new
   begins : (c : Configuration) (past : List Entry) (runs : Runs c old past) → members c ≡ old.desk.membership
-      → Stands c (event_with c old past runs input) new.orderer new.desk [] outs × Rests new × IsAllNumbered new × IsTakenPartless c (me_of new) (event_with c old past runs input)
+      → PartsFitEvent c (event_with c old past runs input) new.orderer new.desk [] outs × NothingIsLeft new × IsAllNumbered new × IsTakenPartless c (me_of new) (event_with c old past runs input)
 
 -- If the replica has to move and its target is this view, the event has what it owes.
 abbrev MovesAt : Entry → JoinedData → ℕ → Type 0

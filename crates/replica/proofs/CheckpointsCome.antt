@@ -36,12 +36,12 @@ use Rattle.claims.specs.ClaimsView.{ClaimsData}
 use Rattle.replica.specs.State.{OrdererData, JoinedData, AreOne}
 use Rattle.desk.specs.State.{DeskData}
 use Rattle.replica.specs.Checkpoints.{StartsTransferIfBehind, Settles, TakesCheckpoint, counting, said_entry}
-use Rattle.replica.specs.Desks.{given, FitsEvent, Stands, changes_of}
+use Rattle.replica.specs.Desks.{given, FitsEvent, PartsFitEvent, changes_of}
 use Rattle.replica.specs.Beginning.{CannotBegin}
-use Rattle.replica.specs.Entering.{event_of, IsTakenAlone, IsTakenBeside, Leaves, TakesBytes, TakesMessage}
+use Rattle.replica.specs.Entering.{event_of, IsTakenAlone, IsTakenBeside, IsLeftToDo, TakesBytes, TakesMessage}
 use Rattle.desk.specs.Fetching.{aimed_at, aiming}
 use Rattle.replica.specs.Joined.{Runs, me_of}
-use Rattle.replica.specs.Going.{CommitsNoMore, IsExecuted, IsOneParty, IsSameLog, IsVotedAll, Rests}
+use Rattle.replica.specs.Going.{CommitsNoMore, IsExecuted, IsOneParty, IsSameLog, IsVotedAll, NothingIsLeft}
 use Rattle.replica.specs.Saying.{Says}
 use Rattle.replica.proofs.Beginning.{IsNoCall, drops, heard_by, none_taken, rests, some_fault}
 use Rattle.replica.proofs.DueCheckpoints.{cut_commits, cut_voted, either, same_cut, settled_claims, settled_desk, settled_orderer, settled_snapshots}
@@ -123,8 +123,8 @@ module _ (r : JoinedData) (one : AreOne r.orderer r.desk) (s : ℕ) (entry : Che
   early_dropped early = record {
     party = counted_party;
     begins = λ c past runs known.
-        subst (λ (log : LogData). let o : OrdererData = record r.orderer { log = log } in Stands c (event_of c r past runs bytes) o r.desk [] []
-        × Leaves c (event_of c r past runs bytes) touched.Nothing (record r { orderer = o }) [] × CannotBegin c o)
+        subst (λ (log : LogData). let o : OrdererData = record r.orderer { log = log } in PartsFitEvent c (event_of c r past runs bytes) o r.desk [] []
+        × IsLeftToDo c (event_of c r past runs bytes) touched.Nothing (record r { orderer = o }) [] × CannotBegin c o)
         (sym (early_checkpoints_drop c (me_of r) r.orderer.log past s entry bytes runs.holds.of_log.fits (hears c known) early).0)
         ((drops r one bytes (λ d before held same.
         ((early_checkpoints_drop d (me_of r) r.orderer.log before s entry bytes held.holds.of_log.fits (hears d same) early).1, no_call d same))).begins c past runs known);
@@ -196,10 +196,10 @@ module _ (r : JoinedData) (one : AreOne r.orderer r.desk) (s : ℕ) (entry : Che
       desk_is = settled_desk entry with_it n b settles
 
       stands : (c : Configuration) (past : List Entry) (runs : Runs c r past) → members c ≡ r.desk.membership
-          → Stands c (event_of c r past runs bytes) n.orderer n.desk (fetch_due runs.desk counted entry) []
+          → PartsFitEvent c (event_of c r past runs bytes) n.orderer n.desk (fetch_due runs.desk counted entry) []
       stands c past runs known =
-          subst (λ (k : OrdererData). Stands c (event_of c r past runs bytes) k n.desk (fetch_due runs.desk counted entry) []) (sym orderer_is)
-          (subst (λ (k : DeskData). Stands c (event_of c r past runs bytes) (checked n.orderer.claims) k (fetch_due runs.desk counted entry) []) (sym desk_is) (record {
+          subst (λ (k : OrdererData). PartsFitEvent c (event_of c r past runs bytes) k n.desk (fetch_due runs.desk counted entry) []) (sym orderer_is)
+          (subst (λ (k : DeskData). PartsFitEvent c (event_of c r past runs bytes) (checked n.orderer.claims) k (fetch_due runs.desk counted entry) []) (sym desk_is) (record {
             desk = desk_from after.low runs.desk;
             is = record {
               members_are = runs.is_desk.members_are;
@@ -223,7 +223,7 @@ module _ (r : JoinedData) (one : AreOne r.orderer r.desk) (s : ℕ) (entry : Che
         membership = ap (λ (d : DeskData). d.membership) desk_is;
       }
 
-      rests_on : (c : Configuration) (past : List Entry) (runs : Runs c r past) → Rests n
+      rests_on : (c : Configuration) (past : List Entry) (runs : Runs c r past) → NothingIsLeft n
       rests_on c past runs =
           let before = rests c r past runs in
           let is_log = counted_is_log r.orderer.log s entry runs.holds.of_log.fits.is_log in (
@@ -239,7 +239,7 @@ module _ (r : JoinedData) (one : AreOne r.orderer r.desk) (s : ℕ) (entry : Che
     settled n settles = record {
       party = party n true settles;
       begins = λ c past runs known. (
-        subst (λ (due : List Message). Stands c (event_of c r past runs bytes) n.orderer n.desk due []) (none_for_stable runs.desk counted entry settles.0) (stands n true settles c past runs known),
+        subst (λ (due : List Message). PartsFitEvent c (event_of c r past runs bytes) n.orderer n.desk due []) (none_for_stable runs.desk counted entry settles.0) (stands n true settles c past runs known),
         (rests_on n true settles c past runs, subst (λ (k : OrdererData). IsTakenAlone c k.endpoint.me (event_of c r past runs bytes)) (sym (orderer_is n true settles)) (alone c past runs known)),
         begun_stays c r.orderer n.orderer (subst (λ (k : OrdererData). IsSameLog r.orderer.log k.log) (sym (orderer_is n true settles)) (same_counted r.orderer.log s entry))
             (ap (λ (k : OrdererData). k.target) (orderer_is n true settles))
@@ -262,7 +262,7 @@ module _ (r : JoinedData) (one : AreOne r.orderer r.desk) (s : ℕ) (entry : Che
       waits why = record {
         party = counted_party;
         begins = λ c past runs known. (
-          subst (λ (due : List Message). Stands c (event_of c r past runs bytes) with_it.orderer r.desk due []) (none_now c past runs why) (stands with_it false (unstable, refl) c past runs known),
+          subst (λ (due : List Message). PartsFitEvent c (event_of c r past runs bytes) with_it.orderer r.desk due []) (none_now c past runs why) (stands with_it false (unstable, refl) c past runs known),
           (rests c r past runs, runs.all, others_owe_none c (me_of r) past (Got (me_of r) bytes) [] runs.holds.of_desk.point r.desk.executed.state.number (no_call c known).parts, inl refl),
           still_begun c runs.begun,
         );
@@ -288,10 +288,10 @@ module _ (r : JoinedData) (one : AreOne r.orderer r.desk) (s : ℕ) (entry : Che
           over = (checkpoint_free r.orderer.log s entry.number entry.digest none).above
 
           asked : (c : Configuration) (past : List Entry) (runs : Runs c r past) → members c ≡ r.desk.membership
-              → Stands c (event_of c r past runs bytes) with_it.orderer (aiming entry r.desk) [] outs
+              → PartsFitEvent c (event_of c r past runs bytes) with_it.orderer (aiming entry r.desk) [] outs
           asked c past runs known =
               let due = one_ahead runs.desk counted entry unstable quorum (subst (λ (k : ℕ). k < entry.number) (sym (aimed_is c r.desk runs.desk runs.is_desk)) ahead) in
-              let st = subst (λ (due : List Message). Stands c (event_of c r past runs bytes) with_it.orderer r.desk due []) due (stands with_it false (unstable, refl) c past runs known) in
+              let st = subst (λ (due : List Message). PartsFitEvent c (event_of c r past runs bytes) with_it.orderer r.desk due []) due (stands with_it false (unstable, refl) c past runs known) in
               record {
                 desk = record st.desk { transfer = Some (aim_of entry r.desk).transfer };
                 is = aims_desk c (event_of c r past runs bytes) with_it.orderer r.desk st.desk r.desk.waiting entry [] outs st.is;

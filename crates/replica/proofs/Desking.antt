@@ -34,7 +34,7 @@ use Rattle.replica.specs.State.{OrdererData}
 use Rattle.desk.specs.State.{DeskData, IsDesk}
 use Rattle.desk.specs.Waiting.{frames_of, is_new, forgotten}
 use Rattle.replica.specs.Flags.{FitsFlags}
-use Rattle.replica.specs.Desks.{AreCallsOf, FitsWaiting, FitsEvent, IsDeskOf, given, Stands}
+use Rattle.replica.specs.Desks.{AreCallsOf, FitsWaiting, FitsEvent, IsDeskOf, given, PartsFitEvent}
 use Rattle.desk.specs.Desking.{RepliesAgain, RepliesToAll, RunsBatch, RunsWhole, SaysReply, snapshots_with}
 use Rattle.desk.proofs.Running.{behind_run}
 use Rattle.replica.proofs.Given.{GivesOne, gives_one}
@@ -49,8 +49,8 @@ use Rattle.replica.proofs.Closing.{above_same, rests_above}
 -- If an event stands with the messages `due`, it stands with `rest` after these outputs, whatever the orderer.
 abbrev pub Pays : DeskData → List Message → List Output → List Message → List Output → Type 0
 Pays d due before rest after =
-    (c : Configuration) (s : Start) (o : OrdererData) → members c ≡ d.membership → Stands c s o d due before
-    → Stands c s o d rest after
+    (c : Configuration) (s : Start) (o : OrdererData) → members c ≡ d.membership → PartsFitEvent c s o d due before
+    → PartsFitEvent c s o d rest after
 
 -- the reply to a request that ran
 abbrev reply_for : ℕ × Kept → Message
@@ -76,7 +76,7 @@ pays_one d client kept before after r rest c s o known st = record {
 
 -- The desk sends each due reply, before all else that is due.
 pays_all : (d : DeskData) (ran : List Ran) (x y : List Output) → RepliesToAll d ran x y → (rest : List Message) → Pays d (replies_for ran ++ rest) x rest y
-pays_all d [] x y same rest c s o known st = subst (λ (outs : List Output). Stands c s o d rest outs) (sym same) st
+pays_all d [] x y same rest c s o known st = subst (λ (outs : List Output). PartsFitEvent c s o d rest outs) (sym same) st
 pays_all d (r ∷ ran) x y (between, says, replies) rest c s o known st =
     pays_all d ran between y replies rest c s o known (pays_one d r.client (told r).1 x between says (replies_for ran ++ rest) c s o known st)
 
@@ -87,7 +87,7 @@ PaysAgain d client timestamp before after =
 
 pays_again : (d : DeskData) (client : ClientId) (t : ℕ) (kept : Kept) (x y : List Output) → kept_of d.executed.state client.number ≡ Some kept → kept.timestamp ≡ t → SaysReply d client kept x y
     → Pays d (again_for client.number t (kept_of d.executed.state client.number)) x [] y
-pays_again d client t kept x y has same r c s o known st = pays_one d client kept x y r [] c s o known (subst (λ (ms : List Message). Stands c s o d ms x) due st)
+pays_again d client t kept x y has same r c s o known st = pays_one d client kept x y r [] c s o known (subst (λ (ms : List Message). PartsFitEvent c s o d ms x) due st)
   where
     due : again_for client.number t (kept_of d.executed.state client.number) ≡ reply_of client.number kept ∷ []
     due = rw (has, eq-eqb kept.timestamp t same) refl
@@ -202,8 +202,8 @@ executions_meant c me number text _ e = tt
 
 run_stands : (d : DeskData) (executed : ExecutedData) (text : List ℕ) (ran : List Ran) (output : Output) (before after : List Output) (c : Configuration) (s : Start) (o : OrdererData) → IsDesk d → IsReplicatedState d.executed.state → c.clients ≤ 256 → AreFew d.snapshots → IsAfter c d.executed text (map told ran) executed
     → executed.state.number ≡ suc d.executed.state.number → entry_of d.me output ≡ Executed d.me (suc d.executed.state.number) text → after ≡ before ++ output ∷ []
-    → logs.committed_batch o.log (suc d.executed.state.number) ≡ Some text → Stands c s o d [] before
-    → Stands c s o (behind_run d executed) (replies_for ran ++ checkpoint_due c executed.state) after
+    → logs.committed_batch o.log (suc d.executed.state.number) ≡ Some text → PartsFitEvent c s o d [] before
+    → PartsFitEvent c s o (behind_run d executed) (replies_for ran ++ checkpoint_due c executed.state) after
 run_stands d executed text ran output before after c s o own is_state clients few ex number entry more committed st = record {
   desk = run_desk c d text ran executed st.desk run;
   is = run_is c d text ran executed st.desk run;
@@ -217,9 +217,9 @@ run_stands d executed text ran output before after c s o own is_state clients fe
     run = record { is = st.is; ex = ex; number = number; kept = all_kept c s o d before text executed.state own few number committed st; is_state = is_state; few = clients }
 
 runs_batch : (old new : DeskData) (text : List ℕ) (ran : List Ran) (before after : List Output) → RunsBatch old text before new ran after → (c : Configuration) (s : Start) (o : OrdererData) → members c ≡ old.membership
-    → logs.committed_batch o.log (suc old.executed.state.number) ≡ Some text → Stands c s o old [] before → Stands c s o new (replies_for ran ++ checkpoint_due c new.executed.state) after
+    → logs.committed_batch o.log (suc old.executed.state.number) ≡ Some text → PartsFitEvent c s o old [] before → PartsFitEvent c s o new (replies_for ran ++ checkpoint_due c new.executed.state) after
 runs_batch old new text ran before after r c s o known committed st =
-    subst (λ (d : DeskData). Stands c s o d (replies_for ran ++ checkpoint_due c new.executed.state) after) (sym r.same)
+    subst (λ (d : DeskData). PartsFitEvent c s o d (replies_for ran ++ checkpoint_due c new.executed.state) after) (sym r.same)
     (run_stands old new.executed text ran r.output before after c s o r.held.is r.held.is_state (subst (λ (n : ℕ). n ≤ 256) (sym clients) r.held.clients) r.held.few (r.executes c clients) r.number r.entry_is r.given_is committed st)
   where
     clients : c.clients ≡ old.executed.clients
@@ -232,8 +232,8 @@ pub record RunsOn (old : DeskData) (text : List ℕ) (before : List Output) (new
   pub waiting : new.waiting ≡ forgotten new.executed.state old.waiting
   pub number : new.executed.state.number ≡ suc old.executed.state.number
   pub stands : (c : Configuration) (s : Start) (o : OrdererData) → members c ≡ old.membership
-      → logs.committed_batch o.log (suc old.executed.state.number) ≡ Some text → Stands c s o old [] before
-      → Stands c s o new (checkpoint_due c new.executed.state) after
+      → logs.committed_batch o.log (suc old.executed.state.number) ≡ Some text → PartsFitEvent c s o old [] before
+      → PartsFitEvent c s o new (checkpoint_due c new.executed.state) after
 
 pub runs_on : (old new : DeskData) (text : List ℕ) (before after : List Output) → RunsWhole old text before new after → RunsOn old text before new after
 runs_on old new text before after r = record {

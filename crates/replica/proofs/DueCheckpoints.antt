@@ -33,7 +33,7 @@ use Rattle.claims.specs.ClaimsView.{ClaimsData}
 use Rattle.replica.specs.State.{OrdererData, JoinedData, AreOne}
 use Rattle.desk.specs.State.{DeskData}
 use Rattle.desk.specs.Waiting.{WaitingData}
-use Rattle.replica.specs.Desks.{given, FitsWaiting, FitsEvent, Stands, changes_of}
+use Rattle.replica.specs.Desks.{given, FitsWaiting, FitsEvent, PartsFitEvent, changes_of}
 use Rattle.replica.specs.Going.{CommitsNoMore, IsSameLog, IsSameOrderer, IsVotedAll, KeepsChoice}
 use Rattle.replica.proofs.Choosing.{settled_choice}
 use Rattle.desk.specs.Desking.{due_entry, is_due, newest_entry}
@@ -229,10 +229,10 @@ module _ (a : JoinedData) (o : OrdererData) (n : JoinedData) (entry : Checkpoint
       }
 
   due_stands : (c : Configuration) (s : Start) → members c ≡ a.desk.membership → IsVotedAll a.orderer.log
-      → Stands c s a.orderer a.desk (checkpoint_due c a.desk.executed.state) x → Stands c s n.orderer n.desk [] y
+      → PartsFitEvent c s a.orderer a.desk (checkpoint_due c a.desk.executed.state) x → PartsFitEvent c s n.orderer n.desk [] y
   due_stands c s known voted st =
-      subst (λ (k : OrdererData). Stands c s k n.desk [] y) (sym orderer_is)
-      (subst (λ (k : DeskData). Stands c s (checking a.orderer entry n.orderer.claims) k [] y) (sym desk_is) (record {
+      subst (λ (k : OrdererData). PartsFitEvent c s k n.desk [] y) (sym orderer_is)
+      (subst (λ (k : DeskData). PartsFitEvent c s (checking a.orderer entry n.orderer.claims) k [] y) (sym desk_is) (record {
         desk = desk_from (checking a.orderer entry n.orderer.claims).log.low st.desk;
         is = record {
           members_are = st.is.members_are;

@@ -7,7 +7,7 @@ use Rattle.desk.specs.declared.waiting.WaitingRequest.{WaitingRequest}
 use Rattle.replica.specs.State.{JoinedData}
 use Rattle.desk.specs.State.{DeskData}
 use Rattle.desk.specs.Waiting.{WaitingData, all_unnumbered, count_unnumbered, keeping, is_new}
-use Rattle.replica.specs.Going.{Proceeds, CommitsNoMore, ExecutesAll, ExecutesNext, IsExecuted, IsSameParty, IsVotedAll}
+use Rattle.replica.specs.Going.{FitIsKept, CommitsNoMore, ExecutesAll, ExecutesNext, IsExecuted, IsSameParty, IsVotedAll}
 use Rattle.desk.specs.Desking.{RunsWhole}
 use Rattle.replica.specs.Checkpoints.{SaysDueCheckpoint}
 use Rattle.replica.proofs.Desking.{RunsOn, runs_on}
@@ -91,7 +91,7 @@ executes_next a d n text x y z whole h e =
 
 -- so many are executed
 pub record ExecutesSoFar (count : ℕ) (old : JoinedData) (before : List Output) (new : JoinedData) (after : List Output) : Type 0 where
-  pub proceeds : IsVotedAll old.orderer.log → Proceeds old before new after
+  pub proceeds : IsVotedAll old.orderer.log → FitIsKept old before new after
   pub party : IsSameParty old new
   pub used : new.orderer.used ≡ old.orderer.used
   pub waiting : count_unnumbered new.desk.waiting ≤ count_unnumbered old.desk.waiting

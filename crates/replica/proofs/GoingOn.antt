@@ -6,13 +6,13 @@ use Rattle.ordering.specs.Log.{LogData}
 use Rattle.replica.specs.State.{OrdererData, JoinedData, AreOne}
 use Rattle.protocol.specs.System.Configuration.{Configuration, members}
 use Rattle.replica_histories.specs.Events.{Start}
-use Rattle.replica.specs.Desks.{FitsEvent, Stands}
-use Rattle.replica.specs.Going.{Proceeds, ExecutesAll, GoesOnWith, GoesOn, IsVoted, IsVotedBut, IsVotedAll}
+use Rattle.replica.specs.Desks.{FitsEvent, PartsFitEvent}
+use Rattle.replica.specs.Going.{FitIsKept, ExecutesAll, GoesOnWith, GoesOn, IsVoted, IsVotedBut, IsVotedAll}
 use Rattle.replica.specs.Saying.{GoesAgain, SaysVotes}
 use Rattle.replica.proofs.Parties.{orderers_twice}
 
 -- what the orderer sends stands on the same desk
-pub said_stands : (a : JoinedData) (o : OrdererData) (x y : List Output) → AreOne a.orderer a.desk → GoesOn a.orderer x o y → Proceeds a x (record a { orderer = o }) y
+pub said_stands : (a : JoinedData) (o : OrdererData) (x y : List Output) → AreOne a.orderer a.desk → GoesOn a.orderer x o y → FitIsKept a x (record a { orderer = o }) y
 said_stands a o x y one goes c s known st = record {
   desk = st.desk;
   is = st.is;
@@ -21,8 +21,8 @@ said_stands a o x y one goes c s known st = record {
 }
 
 -- what the replica sends again, from the event's beginning on
-pub again_stands : (a : JoinedData) (y : List Output) → AreOne a.orderer a.desk → GoesAgain 0 a.orderer [] a.orderer y → (c : Configuration) (s : Start) → members c ≡ a.desk.membership → Stands c s a.orderer a.desk [] []
-    → Stands c s a.orderer a.desk [] y
+pub again_stands : (a : JoinedData) (y : List Output) → AreOne a.orderer a.desk → GoesAgain 0 a.orderer [] a.orderer y → (c : Configuration) (s : Start) → members c ≡ a.desk.membership → PartsFitEvent c s a.orderer a.desk [] []
+    → PartsFitEvent c s a.orderer a.desk [] y
 again_stands a y one goes c s known st = record {
   desk = st.desk;
   is = st.is;

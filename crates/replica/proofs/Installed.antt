@@ -30,7 +30,7 @@ use Rattle.claims.specs.ClaimsView.{ClaimsData}
 use Rattle.replica.specs.State.{OrdererData, JoinedData, AreOne}
 use Rattle.desk.specs.State.{OpenData, DeskData}
 use Rattle.desk.specs.Waiting.{forgotten, frames_of, is_new}
-use Rattle.replica.specs.Desks.{given, FitsWaiting, FitsEvent, IsDeskOf, Stands}
+use Rattle.replica.specs.Desks.{given, FitsWaiting, FitsEvent, IsDeskOf, PartsFitEvent}
 use Rattle.desk.specs.Desking.{desk_above}
 use Rattle.replica.specs.Fetching.{InstallsFetched}
 use Rattle.desk.specs.Fetching.{Installs}
@@ -217,14 +217,14 @@ moved_party a b m before after there (d, number, root, installs, gives, moves) =
 
 -- The replica installs the fetched state.
 pub installs_fetched : (c : Configuration) (s : Start) (a b : JoinedData) (desk : Desk) (m : OpenData) (before after : List Output) → AreOne a.orderer a.desk → IsFetched c s a desk m before → IsVotedAll a.orderer.log
-    → InstallsFetched a before b after true → Stands c s b.orderer b.desk [] after × IsVotedAll b.orderer.log
+    → InstallsFetched a before b after true → PartsFitEvent c s b.orderer b.desk [] after × IsVotedAll b.orderer.log
 installs_fetched c s a b desk m before after one g voted (d, number, root, installs, gives, moves) =
     let i = installs_so a b d m number root g.is_open installs moves in
     let st = d.executed.state in
     let is : GivesOne c (me_of a) before after (Installed (me_of a) m.transfer.number m.transfer.root) =
     gives_one c (me_of a) before after (outputs.Installed number root) (Installed (me_of a) m.transfer.number m.transfer.root) gives
     (ap (λ (n : ℕ). Installed (me_of a) n root) i.number_is ∙ ap (λ (r : List ℕ). Installed (me_of a) m.transfer.number r) i.root_is) tt in
-    subst (λ (r : JoinedData). Stands c s r.orderer r.desk [] after × IsVotedAll r.orderer.log) (sym i.new_is) (
+    subst (λ (r : JoinedData). PartsFitEvent c s r.orderer r.desk [] after × IsVotedAll r.orderer.log) (sym i.new_is) (
       record {
         desk = installed_desk desk st (frames_of (forgotten st a.desk.waiting));
         is = installed_is c s a desk m before after st g i.has i.falls i.below voted i.claims i.cuts is;

@@ -38,7 +38,7 @@ use Rattle.replica_histories.proofs.Questions.{others_owe_none}
 use Rattle.replica_histories.proofs.ChangesMade.{not_mine}
 use Rattle.replica.specs.declared.taking.Touched.TheVariants as touched
 use Rattle.replica.specs.State.{JoinedData, AreOne, IsOrderer}
-use Rattle.replica.specs.Desks.{FitsEvent, Stands}
+use Rattle.replica.specs.Desks.{FitsEvent, PartsFitEvent}
 use Rattle.replica.specs.Entering.{event_of, IsTakenAnswered, TakesBytes, TakesMessage}
 use Rattle.replica.specs.Joined.{Runs}
 use Rattle.replica.proofs.Beginning.{changes_kept, heard_by, rests}
@@ -140,7 +140,7 @@ module _ (judge : NewViewsAreJudged) (decide : SizesDecide) (r : JoinedData) (on
       meant = tt;
     }
 
-    untaken_stands : Stands c (event_of c r past runs bytes) r.orderer r.desk [] []
+    untaken_stands : PartsFitEvent c (event_of c r past runs bytes) r.orderer r.desk [] []
     untaken_stands = record {
       desk = runs.desk;
       is = runs.is_desk;
@@ -167,7 +167,7 @@ module _ (judge : NewViewsAreJudged) (decide : SizesDecide) (r : JoinedData) (on
     passes : Passes c me past e r.orderer.log (begun_log r.orderer.log new)
     passes = inputs_enter c me runs.desk (desk_from (begun_log r.orderer.log new).low runs.desk) r.orderer.log (begun_log r.orderer.log new) (start_due runs.desk new) past e runs.holds begins_it
 
-    taken_stands : Stands c (event_of c r past runs bytes) n.orderer n.desk [] outs
+    taken_stands : PartsFitEvent c (event_of c r past runs bytes) n.orderer n.desk [] outs
     taken_stands = entered_stands c (event_of c r past runs bytes) r runs.desk new None [] past e sender one clients runs.is_desk refl tt begins_it passes t (hears c known) (not_mine c me past sender new bytes (hears c known) t) (omega arith, λ sent leaf is now. absurd now, λ leaf l. inl l) runs.said runs.changes n outs x
 
     taken_answered : IsTakenAnswered c n (event_of c r past runs bytes)

@@ -15,7 +15,7 @@ use Rattle.replica_histories.proofs.Giving.{kept_are_above}
 use Rattle.replica_histories.proofs.Words.{passed}
 use Rattle.replica.specs.State.{OrdererData}
 use Rattle.desk.specs.State.{DeskData, IsDesk}
-use Rattle.replica.specs.Desks.{Stands, given}
+use Rattle.replica.specs.Desks.{PartsFitEvent, given}
 use Rattle.desk.specs.Desking.{snapshots_with}
 use Rattle.desk.specs.Keeping.{Descend, AreFew, AreKept, newest_with}
 
@@ -61,7 +61,7 @@ abbrev pub all_with : ℕ → State → List Snapshot → List Snapshot
 all_with period st snapshots = cond (st.number % period == 0) (snapshot_of st ∷ snapshots) snapshots
 
 pub all_kept : (c : Configuration) (s : Start) (o : OrdererData) (d : DeskData) (before : List Output) (text : List ℕ) (st : State) → IsDesk d → AreFew d.snapshots → st.number ≡ suc d.executed.state.number
-    → logs.committed_batch o.log (suc d.executed.state.number) ≡ Some text → Stands c s o d [] before → snapshots_with d.period st d.snapshots ≡ all_with d.period st d.snapshots
+    → logs.committed_batch o.log (suc d.executed.state.number) ≡ Some text → PartsFitEvent c s o d [] before → snapshots_with d.period st d.snapshots ≡ all_with d.period st d.snapshots
 all_kept c s o d before text st is few next committed stands = go (st.number % d.period == 0) refl
   where
     log : LogData

@@ -31,8 +31,8 @@ use Rattle.desk.specs.State.{DeskData}
 use Rattle.desk.specs.Waiting.{WaitingData, texts, frames_of, all_unnumbered, unnumbered, count_unnumbered, all_numbered, with_numbered}
 use Rattle.replica.specs.Flags.{FitsFlags, flagged}
 use Rattle.desk.specs.Begun.{begun_of}
-use Rattle.replica.specs.Desks.{AreCallsOf, AreOfDifferentClients, given, FitsEvent, Stands}
-use Rattle.replica.specs.Going.{GoesOnWith, IsSameLog, IsSameOrderer, IsSameParty, IsVoted, IsVotedBut, IsVotedAll, Proceeds, Rests}
+use Rattle.replica.specs.Desks.{AreCallsOf, AreOfDifferentClients, given, FitsEvent, PartsFitEvent}
+use Rattle.replica.specs.Going.{GoesOnWith, IsSameLog, IsSameOrderer, IsSameParty, IsVoted, IsVotedBut, IsVotedAll, FitIsKept, NothingIsLeft}
 use Rattle.replica.specs.Numbering.{next_number, IsAllNumbered}
 use Rattle.replica.specs.NumbersNext.{NumbersNext, GivesNumber, NumbersWaiting}
 use Rattle.desk.proofs.WaitingKept.{few_unnumbered}
@@ -183,7 +183,7 @@ module _ (number : ℕ) (a b : JoinedData) (x y : List Output) (one : AreOne a.o
       let few = few_unnumbered w in
       reads_requests (texts (unnumbered w)) (omega (arith, same, few)) n.carried
 
-  module _ (c : Configuration) (s : Start) (known : members c ≡ a.desk.membership) (st : Stands c s a.orderer a.desk [] x) where
+  module _ (c : Configuration) (s : Start) (known : members c ≡ a.desk.membership) (st : PartsFitEvent c s a.orderer a.desk [] x) where
     abbrev me : ℕ
     me = a.orderer.endpoint.me
 
@@ -211,8 +211,8 @@ module _ (number : ℕ) (a b : JoinedData) (x y : List Output) (one : AreOne a.o
         n.says.goes c s st.desk w [] (known ∙ one.1) st.is.waiting reads
         (may_number c me number a.orderer.used a.orderer.log text w st.desk past inside active primary free reads st.is.frames st.is.waiting fits.fits.of_log (fits.numbers primary)) fits
 
-    next_stands : Stands c s b.orderer b.desk [] y
-    next_stands = subst (λ (d : DeskData). Stands c s b.orderer d [] y) (sym n.waits) (record {
+    next_stands : PartsFitEvent c s b.orderer b.desk [] y
+    next_stands = subst (λ (d : DeskData). PartsFitEvent c s b.orderer d [] y) (sym n.waits) (record {
       desk = st.desk;
       is = record {
         members_are = st.is.members_are;
@@ -265,10 +265,10 @@ module _ (number : ℕ) (a b : JoinedData) (x y : List Output) (one : AreOne a.o
 
 -- so many numbers are assigned
 pub record NumbersSoFar (count : ℕ) (old : JoinedData) (before : List Output) (new : JoinedData) (after : List Output) : Type 0 where
-  pub proceeds : Rests old → Proceeds old before new after
+  pub proceeds : NothingIsLeft old → FitIsKept old before new after
   pub party : IsSameParty old new
   pub rises : old.desk.executed.state.number ≤ new.desk.executed.state.number
-  pub rests : Rests old → Rests new
+  pub rests : NothingIsLeft old → NothingIsLeft new
   pub fewer : count_unnumbered new.desk.waiting + count ≤ count_unnumbered old.desk.waiting
 
 pub none_given : (a : JoinedData) (x : List Output) → NumbersSoFar 0 a x a x

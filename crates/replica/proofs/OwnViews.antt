@@ -48,10 +48,10 @@ use Rattle.replica.specs.State.{OrdererData, JoinedData, IsOrderer, AreOne}
 use Rattle.desk.specs.Waiting.{with_view}
 use Rattle.replica.specs.Beginning.{BeginsView}
 use Rattle.replica.specs.Claiming.{SaysFrame}
-use Rattle.replica.specs.Desks.{given, changes_of, IsDeskOf, FitsEvent, FitsWaiting, Stands}
+use Rattle.replica.specs.Desks.{given, changes_of, IsDeskOf, FitsEvent, FitsWaiting, PartsFitEvent}
 use Rattle.replica.specs.EnteringViews.{Enters, IsSelection, MaySignView, SignsView, new_view_of}
 use Rattle.replica.specs.Flags.{FitsFlags}
-use Rattle.replica.specs.Going.{Rests}
+use Rattle.replica.specs.Going.{NothingIsLeft}
 use Rattle.replica.proofs.BegunViews.{Begins, begins, begun_orderer, begun_stands, calls_differ, all_voted, one_active, one_party, one_target, start_of}
 use Rattle.replica.proofs.Flags.{flags_begun}
 use Rattle.replica.proofs.Given.{GivesOne, gives_one}
@@ -178,7 +178,7 @@ module _ (decide : SizesDecide) (r : JoinedData) (start : ℕ) (root frame : Lis
   abbrev low : ℕ
   low = (begun_log o.log its).low
 
-  module _ (c : Configuration) (s : Start) (desk : Desk) (known : members c ≡ r.desk.membership) (rests : Rests r) (is : IsDeskOf c r.desk desk) (f : FitsEvent c mine s o desk r.desk.waiting [] before) where
+  module _ (c : Configuration) (s : Start) (desk : Desk) (known : members c ≡ r.desk.membership) (rests : NothingIsLeft r) (is : IsDeskOf c r.desk desk) (f : FitsEvent c mine s o desk r.desk.waiting [] before) where
     abbrev past : List Entry
     past = after_outputs s (given mine before)
 
@@ -231,7 +231,7 @@ module _ (decide : SizesDecide) (r : JoinedData) (start : ℕ) (root frame : Lis
     once : Once (λ earlier x. taken c earlier x ≡ Some its) (after_outputs s (given mine said))
     once = subst (λ (es : List Entry). Once (λ earlier x. taken c earlier x ≡ Some its) (after_outputs s es)) (sym gives.is) (inl takes)
 
-    stands : Stands c s n.orderer n.desk [] after
+    stands : PartsFitEvent c s n.orderer n.desk [] after
     stands = begun_stands its (Some frame) (signing r) said n after k c s desk to one.0 is once fits
 
   pub own_view_begins : BeginsView r before n after

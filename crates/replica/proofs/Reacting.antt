@@ -28,16 +28,16 @@ use Rattle.replica.specs.declared.taking.Touched.{Touched}
 use Rattle.replica.specs.declared.taking.Touched.TheVariants as touched
 use Rattle.replica.specs.State.{JoinedData, AreOne}
 use Rattle.replica.specs.Beginning.{CannotBegin}
-use Rattle.replica.specs.Desks.{given, Stands, FitsEvent, FitsWaiting, WasSaid, IsDeskOf, changes_of}
+use Rattle.replica.specs.Desks.{given, PartsFitEvent, FitsEvent, FitsWaiting, WasSaid, IsDeskOf, changes_of}
 use Rattle.desk.specs.Waiting.{count_unnumbered}
-use Rattle.replica.specs.Going.{IsSameParty, IsOneParty, Rests}
+use Rattle.replica.specs.Going.{IsSameParty, IsOneParty, NothingIsLeft}
 use Rattle.replica.specs.Numbering.{next_number, IsAllNumbered}
 use Rattle.replica.specs.NumbersNext.{NumbersWaiting}
 use Rattle.replica.specs.FollowingUp.{FollowsUp, ExecutesAndNumbers}
 use Rattle.replica.specs.declared.replica.Event.{Event}
 use Rattle.replica.specs.declared.replica.Event.TheVariants as events
 use Rattle.replica.specs.Inputs.{input_of}
-use Rattle.replica.specs.Joined.{Runs, Fits, Leads, me_of}
+use Rattle.replica.specs.Joined.{Runs, Fits, HistoryStaysRight, me_of}
 use Rattle.replica.specs.Entering.{event_with, IsAnswered, IsTakenBeside, TakesInput}
 use Rattle.replica.proofs.Choosing.{begun_same}
 use Rattle.replica.proofs.Flags.{flags_given}
@@ -59,7 +59,7 @@ next_free c me used executed log history fits next = rw (fits.span, sym fits.low
 -- ---- settled
 
 pub settled : (c : Configuration) (me : ℕ) (r : JoinedData) (desk : Desk) (history : List Entry) → IsDeskOf c r.desk desk → FitsLog c me r.orderer.log history
-    → FitsWaiting c me r.orderer r.desk.waiting desk history → Rests r → IsAllNumbered r → IsSettled c me desk r.orderer.log history
+    → FitsWaiting c me r.orderer r.desk.waiting desk history → NothingIsLeft r → IsAllNumbered r → IsSettled c me desk r.orderer.log history
 settled c me r desk history is fits count rest all = record {
   prepares = λ i. (rest.0 i).0;
   commits = λ i. (rest.0 i).1;
@@ -79,7 +79,7 @@ settled c me r desk history is fits count rest all = record {
 
 module _ (old new : JoinedData) (one : AreOne old.orderer old.desk) (party : IsOneParty old new) where
   pub ends : (c : Configuration) (past : List Entry) (input : Entry) (outs : List Output) (f : Fits c old past) (runs : Runs c old past) → is_output input ≡ false
-      → Stands c (start_at c (me_of old) runs.desk old.orderer.log past runs.holds input) new.orderer new.desk [] outs → Rests new → IsAllNumbered new
+      → PartsFitEvent c (start_at c (me_of old) runs.desk old.orderer.log past runs.holds input) new.orderer new.desk [] outs → NothingIsLeft new → IsAllNumbered new
       → AnswersInput c (me_of old) past input (given (me_of old) outs) runs.holds.of_desk.point new.desk.executed.state.number → CannotBegin c new.orderer
       → (outs ≡ []) ⊎ IsTaken c (me_of old) (start_at c (me_of old) runs.desk old.orderer.log past runs.holds input)
       → Fits c new (after_event (me_of old) input outs past) × AreSentAsMeant c (me_of old) outs
@@ -148,8 +148,8 @@ module _ (input : Entry) (old : JoinedData) (one : AreOne old.orderer old.desk) 
 
   -- an event that ends with numbers for waiting requests
   ends_numbered : (c : Configuration) (past : List Entry) (mid before new : JoinedData) (x outs : List Output) (f : Fits c old past) (runs : Runs c old past)
-      → IsOneParty old mid → IsSameParty mid before → NumbersWaiting before x new outs → mid.desk.executed.state.number ≤ before.desk.executed.state.number → Rests before
-      → Stands c (event_with c old past runs input) before.orderer before.desk [] x → CannotBegin c mid.orderer
+      → IsOneParty old mid → IsSameParty mid before → NumbersWaiting before x new outs → mid.desk.executed.state.number ≤ before.desk.executed.state.number → NothingIsLeft before
+      → PartsFitEvent c (event_with c old past runs input) before.orderer before.desk [] x → CannotBegin c mid.orderer
       → IsTaken c (me_of mid) (event_with c old past runs input) × IsAnswered c (me_of mid) (event_with c old past runs input) mid.desk.executed.state.number
       → Fits c new (after_event (me_of old) input outs past) × AreSentAsMeant c (me_of old) outs
   ends_numbered c past mid before new x outs f runs first then n above rest st begun t =
@@ -161,7 +161,7 @@ module _ (input : Entry) (old : JoinedData) (one : AreOne old.orderer old.desk) 
       (begun_same c before.orderer new.orderer n.party.orderer (begun_same c mid.orderer before.orderer then.orderer begun)) (inr (taken_then c (event_with c old past runs input) mid first t.0))
 
   -- The event's own part, and then what follows by what it touched.
-  leads_nothing : (new : JoinedData) (outs : List Output) → TakesInput input old touched.Nothing new outs → Leads old input outs new
+  leads_nothing : (new : JoinedData) (outs : List Output) → TakesInput input old touched.Nothing new outs → HistoryStaysRight old input outs new
   leads_nothing new outs t c past f =
       let runs = f.runs in
       let b = t.begins c past runs (known c past f) in
@@ -169,13 +169,13 @@ module _ (input : Entry) (old : JoinedData) (one : AreOne old.orderer old.desk) 
       (subst (λ (e : EndpointState). AnswersInput c e.me past input (given e.me outs) runs.holds.of_desk.point new.desk.executed.state.number) t.party.endpoint b.1.2) b.2
       (why c (event_with c old past runs input) new outs t.party b.1.3)
 
-  leads_waiting : (mid new : JoinedData) (x outs : List Output) → TakesInput input old touched.Waiting mid x → NumbersWaiting mid x new outs → Leads old input outs new
+  leads_waiting : (mid new : JoinedData) (x outs : List Output) → TakesInput input old touched.Waiting mid x → NumbersWaiting mid x new outs → HistoryStaysRight old input outs new
   leads_waiting mid new x outs t n c past f =
       let runs = f.runs in
       let b = t.begins c past runs (known c past f) in
       ends_numbered c past mid mid new x outs f runs t.party (same_party mid) n (omega arith) b.1.0 b.0 b.2 (b.1.1.0, λ outputs executed above. b.1.1.1 outputs executed)
 
-  leads_row : (number : Number) (mid new : JoinedData) (x outs : List Output) → TakesInput input old (touched.Row number) mid x → FollowsUp (touched.Row number) mid x new outs → Leads old input outs new
+  leads_row : (number : Number) (mid new : JoinedData) (x outs : List Output) → TakesInput input old (touched.Row number) mid x → FollowsUp (touched.Row number) mid x new outs → HistoryStaysRight old input outs new
   leads_row number mid new x outs t (voted, y, g, n) c past f =
       let runs = f.runs in
       let b = t.begins c past runs (known c past f) in
@@ -183,14 +183,14 @@ module _ (input : Entry) (old : JoinedData) (one : AreOne old.orderer old.desk) 
       ends_numbered c past mid voted new y outs f runs t.party g.party n g.rises (g.rests b.1.0) st b.2
       (beside_answered c (me_of mid) (event_with c old past runs input) mid.desk.executed.state.number b.1.1)
 
-  leads_state : (mid new : JoinedData) (x outs : List Output) → TakesInput input old touched.State mid x → ExecutesAndNumbers mid x new outs → Leads old input outs new
+  leads_state : (mid new : JoinedData) (x outs : List Output) → TakesInput input old touched.State mid x → ExecutesAndNumbers mid x new outs → HistoryStaysRight old input outs new
   leads_state mid new x outs t (run, y, g, n) c past f =
       let runs = f.runs in
       let b = t.begins c past runs (known c past f) in
       let st = g.proceeds b.1.0 c (event_with c old past runs input) (known c past f ∙ sym t.party.membership) b.0 in
       ends_numbered c past mid run new y outs f runs t.party g.party n g.rises (g.rests b.1.0) st b.2 (b.1.1, b.1.2)
 
-  leads_view : (mid new : JoinedData) (x outs : List Output) → TakesInput input old touched.View mid x → ExecutesAndNumbers mid x new outs → Leads old input outs new
+  leads_view : (mid new : JoinedData) (x outs : List Output) → TakesInput input old touched.View mid x → ExecutesAndNumbers mid x new outs → HistoryStaysRight old input outs new
   leads_view mid new x outs t (run, y, g, n) c past f =
       let runs = f.runs in
       let b = t.begins c past runs (known c past f) in
@@ -208,9 +208,9 @@ module _ (input : Entry) (old : JoinedData) (one : AreOne old.orderer old.desk) 
       (inr (taken_then c s mid t.party b.1.1.0))
 
   -- whatever it touched
-  pub leads_on : (what : Touched) (mid new : JoinedData) (x outs : List Output) → TakesInput input old what mid x → FollowsUp what mid x new outs → Leads old input outs new
+  pub leads_on : (what : Touched) (mid new : JoinedData) (x outs : List Output) → TakesInput input old what mid x → FollowsUp what mid x new outs → HistoryStaysRight old input outs new
   leads_on touched.Nothing mid new x outs t (same, still) =
-      subst (λ (a : JoinedData). Leads old input outs a) (sym same) (subst (λ (os : List Output). Leads old input os mid) (sym still) (leads_nothing mid x t))
+      subst (λ (a : JoinedData). HistoryStaysRight old input outs a) (sym same) (subst (λ (os : List Output). HistoryStaysRight old input os mid) (sym still) (leads_nothing mid x t))
   leads_on touched.Waiting mid new x outs t n = leads_waiting mid new x outs t n
   leads_on (touched.Row number) mid new x outs t u = leads_row number mid new x outs t u
   leads_on touched.State mid new x outs t u = leads_state mid new x outs t u

@@ -19,7 +19,7 @@ use Rattle.protocol.specs.Replica.Certificates.{view, low, is_in_marks}
 use Rattle.protocol.specs.Replica.State.{Call, call_in, tuples}
 use Rattle.protocol.specs.Replica.RightReplica.{Point, MaySend, IsAddressed, with_waiting, waiting_after, kept_states, Executes}
 use Rattle.protocol.specs.Replica.Transfers.{fetching}
-use Rattle.protocol.specs.Replica.Owed.{StartsAhead, Owes, Proceeds, IsNumbered}
+use Rattle.protocol.specs.Replica.Owed.{StartsAhead, Owes, HistoryIsPrompt, IsNumbered}
 use Rattle.protocol.proofs.Words.Moving.{no_reason}
 use Rattle.protocol.proofs.Words.Options.{some_injective}
 use Rattle.replica_histories.specs.Questions.{read_from, read_reply, ordered_from}
@@ -66,7 +66,7 @@ addressed c me past client timestamp number a (signature s) h = tt
 
 -- ---- an answered read
 
-module _ (c : Configuration) (me : ℕ) (h : List Entry) (p : Point) (bytes answer : List ℕ) (client timestamp : ℕ) (op : Operation) (proceeds : Proceeds c me h [] p p) (fetched : QuorumsFetched c p.state.number h)
+module _ (c : Configuration) (me : ℕ) (h : List Entry) (p : Point) (bytes answer : List ℕ) (client timestamp : ℕ) (op : Operation) (proceeds : HistoryIsPrompt c me h [] p p) (fetched : QuorumsFetched c p.state.number h)
     (hears : heard (members c) me bytes ≡ Some (read_from client timestamp op)) (is_read : is_read_only op ≡ true)
     (frame : IsPosted c me (read_reply p.state client timestamp op) (client ∷ []) answer) where
   abbrev now : List Entry
@@ -159,14 +159,14 @@ module _ (c : Configuration) (me : ℕ) (h : List Entry) (p : Point) (bytes answ
     once = λ here. here;
   }
 
-  pub goes_on : Proceeds c me now [] mid mid
+  pub goes_on : HistoryIsPrompt c me now [] mid mid
   goes_on = (mid, record { own = refl; may = may_send; moves = refl }, (p, record { own = refl; may = tt; moves = refl }, (owes, proceeds)))
 
 -- ---- what the desk holds
 
 module _ (c : Configuration) (me : ℕ) (d : DeskData) (h : List Entry) (hd : HoldsDesk c me d h) where
   -- idle entries: the point stays, except for what ran
-  module _ (now : List Entry) (s : CertifySame c me h now) (later : Point) (proceeds : Proceeds c me now [] later later)
+  module _ (now : List Entry) (s : CertifySame c me h now) (later : Point) (proceeds : HistoryIsPrompt c me now [] later later)
       (same_point : later ≡ record hd.holds.point { ran = [] }) (frames : FitsFrames c me hd.desk now) (opened : FitsOpen c me hd.desk.transfer hd.desk.state.number now)
       (flags : (v used : ℕ) → FitsFlags c me v used d.waiting hd.desk.state hd.desk.waiting h → FitsFlags c me v used d.waiting hd.desk.state hd.desk.waiting now)
       (started : (k : ℕ) → Once (StartsAhead c k) now → Once (StartsAhead c k) h) where

@@ -16,7 +16,7 @@ use Rattle.protocol.specs.Replica.Selection.{is_quorum}
 use Rattle.protocol.specs.Replica.Certificates.{is_in_marks}
 use Rattle.protocol.specs.Replica.State.{Call, call_in}
 use Rattle.protocol.specs.Replica.RightReplica.{Point, with_waiting, waiting_after}
-use Rattle.protocol.specs.Replica.Owed.{StartsAhead, Owes, Proceeds, IsNumbered}
+use Rattle.protocol.specs.Replica.Owed.{StartsAhead, Owes, HistoryIsPrompt, IsNumbered}
 use Rattle.replica_histories.specs.Questions.{read_from, ordered_from}
 use Rattle.replica_histories.specs.TransfersQuorums.{QuorumsFetched}
 use Rattle.replica_histories.proofs.Resting.{Rests, rests}
@@ -33,7 +33,7 @@ no_call c s (Request t modes.ReadOnly op) h = refl
 no_call c s (Request t modes.Ordered op) h = absurd cc
 no_call c s _ h = absurd cc
 
-module _ (c : Configuration) (me : ℕ) (h : List Entry) (p : Point) (bytes : List ℕ) (proceeds : Proceeds c me h [] p p) (fetched : QuorumsFetched c p.state.number h)
+module _ (c : Configuration) (me : ℕ) (h : List Entry) (p : Point) (bytes : List ℕ) (proceeds : HistoryIsPrompt c me h [] p p) (fetched : QuorumsFetched c p.state.number h)
     (says : (body : Body) → said bytes ≡ Some body → is_read_request body ≡ true)
     (never : (client timestamp : ℕ) (op : Operation) → heard (members c) me bytes ≡ Some (read_from client timestamp op) → is_read_only op ≡ true → ⊥) where
   abbrev now : List Entry
@@ -99,5 +99,5 @@ module _ (c : Configuration) (me : ℕ) (h : List Entry) (p : Point) (bytes : Li
     dropped = λ other got drops. refl;
   }
 
-  pub goes_on : Proceeds c me now [] mid mid
+  pub goes_on : HistoryIsPrompt c me now [] mid mid
   goes_on = (p, record { own = refl; may = tt; moves = refl }, (owes, proceeds))

@@ -44,13 +44,13 @@ use Rattle.replica.specs.declared.taking.Touched.TheVariants as touched
 use Rattle.replica.specs.State.{OrdererData, JoinedData, AreOne}
 use Rattle.desk.specs.State.{DeskData}
 use Rattle.desk.specs.Waiting.{WaitingData, frames_of, is_begun, is_of, request_of, with_request, without}
-use Rattle.replica.specs.Desks.{IsCallOf, IsDeskOf, FitsWaiting, FitsEvent, Stands, given, changes_of}
+use Rattle.replica.specs.Desks.{IsCallOf, IsDeskOf, FitsWaiting, FitsEvent, PartsFitEvent, given, changes_of}
 use Rattle.replica.proofs.Desking.{PaysAgain}
 use Rattle.desk.specs.Desking.{HasReply, Waits}
 use Rattle.desk.specs.Arriving.{IsBehind, IsPast, IsWaitingAlready, IsNewer}
 use Rattle.replica.specs.Saying.{AllAgain}
 use Rattle.replica.specs.Joined.{Runs, me_of}
-use Rattle.replica.specs.Entering.{event_of, Leaves, TakesBytes, TakesRequest}
+use Rattle.replica.specs.Entering.{event_of, IsLeftToDo, TakesBytes, TakesRequest}
 use Rattle.replica.proofs.Beginning.{rests, none_taken, changes_kept}
 use Rattle.replica.proofs.GoingOn.{again_stands}
 use Rattle.replica.proofs.Parties.{one_self, same_log}
@@ -174,7 +174,7 @@ module _ (old : JoinedData) (client : ClientId) (timestamp : Timestamp) (bytes :
     stands : (desk : Desk) (d : DeskData) → d.me ≡ old.desk.me → IsDeskOf c d desk
         → Enters c (me_of old) bytes runs.desk desk old.orderer.log old.orderer.log (again_for k t (kept_of runs.desk.state k))
         → FitsWaiting c (me_of old) old.orderer d.waiting desk (input ∷ past)
-        → Stands c start old.orderer d due []
+        → PartsFitEvent c start old.orderer d due []
     stands desk d me is e counted = record {
       desk = desk;
       is = is;
@@ -191,20 +191,20 @@ module _ (old : JoinedData) (client : ClientId) (timestamp : Timestamp) (bytes :
         entered = inputs_fit c (me_of old) runs.desk desk old.orderer.log old.orderer.log (again_for k t (kept_of runs.desk.state k)) past bytes runs.holds free e
 
     -- nothing else changes, if it doesn't wait
-    stands_same : is_latest runs.desk.state runs.desk.waiting (call_for k t op) ≡ false → Stands c start old.orderer old.desk due []
+    stands_same : is_latest runs.desk.state runs.desk.waiting (call_for k t op) ≡ false → PartsFitEvent c start old.orderer old.desk due []
     stands_same early =
         stands runs.desk old.desk refl runs.is_desk
         (enters c (me_of old) bytes k t op h old.orderer.log past runs.desk runs.desk runs.holds.of_log.fits refl refl refl
         (sym (ap (λ (b : Bool). cond b (filter (λ other. not (other.client == k)) runs.desk.waiting ++ call_for k t op ∷ []) runs.desk.waiting) early)) (λ frame x. inl x))
         numbers
 
-    stands_seen : t ≤ last_time old.desk.executed.state k → Stands c start old.orderer old.desk due []
+    stands_seen : t ≤ last_time old.desk.executed.state k → PartsFitEvent c start old.orderer old.desk due []
     stands_seen le = stands_same (seen_before runs.desk.state runs.desk.waiting k t op (subst (λ (st : State). t ≤ last_time st k) (sym state_is) le))
 
-    stands_waiting : (r : WaitingRequest) → request_of k old.desk.waiting ≡ Some r → t ≤ r.timestamp.0 → Stands c start old.orderer old.desk due []
+    stands_waiting : (r : WaitingRequest) → request_of k old.desk.waiting ≡ Some r → t ≤ r.timestamp.0 → PartsFitEvent c start old.orderer old.desk due []
     stands_waiting r found le = stands_same (waits_before c runs.desk.state k t op old.desk.waiting.requests runs.desk.waiting r runs.is_desk.waiting found le)
 
-    stands_past : IsPast old.desk k t bytes → Stands c start old.orderer old.desk due []
+    stands_past : IsPast old.desk k t bytes → PartsFitEvent c start old.orderer old.desk due []
     stands_past (inl le) = stands_seen le
     stands_past (inr (r, found, behind)) = stands_waiting r found (at_most r behind)
       where
@@ -248,13 +248,13 @@ module _ (old : JoinedData) (client : ClientId) (timestamp : Timestamp) (bytes :
         not_behind c (me_of old) bytes k t op r h (found_call c k old.desk.waiting.requests runs.desk.waiting r (call_for k t op) runs.is_desk.waiting runs.is_desk.differ found has refl) behind
 
     -- if nothing is touched
-    leaves : (outs : List Output) → AnswersInput c (me_of old) past input (given (me_of old) outs) point old.desk.executed.state.number → (outs ≡ []) ⊎ IsTaken c (me_of old) start → Leaves c start touched.Nothing old outs
+    leaves : (outs : List Output) → AnswersInput c (me_of old) past input (given (me_of old) outs) point old.desk.executed.state.number → (outs ≡ []) ⊎ IsTaken c (me_of old) start → IsLeftToDo c start touched.Nothing old outs
     leaves outs answered silent = (rests c old past runs, runs.all, answered, silent)
 
   -- ---- what the replica sends for it
 
-  due_none : (d : DeskData) (c : Configuration) (s : Start) (o : OrdererData) (outs : List Output) → due ≡ [] → Stands c s o d due outs → Stands c s o d [] outs
-  due_none d c s o outs none st = subst (λ (ms : List Message). Stands c s o d ms outs) none st
+  due_none : (d : DeskData) (c : Configuration) (s : Start) (o : OrdererData) (outs : List Output) → due ≡ [] → PartsFitEvent c s o d due outs → PartsFitEvent c s o d [] outs
+  due_none d c s o outs none st = subst (λ (ms : List Message). PartsFitEvent c s o d ms outs) none st
 
   -- the kept reply goes again
   takes_kept : (outs : List Output) → PaysAgain old.desk client timestamp [] outs → HasReply old.desk client timestamp true → TakesBytes bytes old touched.Nothing old outs
@@ -273,7 +273,7 @@ module _ (old : JoinedData) (client : ClientId) (timestamp : Timestamp) (bytes :
   takes_past outs none silent is = record {
     party = one_self old;
     begins = λ c past runs known. (
-      subst (λ (xs : List Output). Stands c (start c past runs known) old.orderer old.desk [] xs) (sym silent)
+      subst (λ (xs : List Output). PartsFitEvent c (start c past runs known) old.orderer old.desk [] xs) (sym silent)
           (due_none old.desk c (start c past runs known) old.orderer [] none (stands_past c past runs known is)),
       leaves c past runs known outs (owes_none c past runs known (past_fresh c past runs known is) (given (me_of old) outs) old.desk.executed.state.number) (inl silent),
       runs.begun,
@@ -361,7 +361,7 @@ module _ (old : JoinedData) (client : ClientId) (timestamp : Timestamp) (bytes :
       new_numbers own = flags_waiting c (me_of old) old.orderer.log.view old.orderer.used old.desk.waiting runs.desk.state runs.desk.waiting (Got (me_of old) bytes ∷ past) client timestamp waits.0
           (call_for k t op) runs.is_desk.waiting refl refl is_first (numbers c past runs known own)
 
-      stands_new : Stands c (start c past runs known) old.orderer waiting_desk due []
+      stands_new : PartsFitEvent c (start c past runs known) old.orderer waiting_desk due []
       stands_new = stands c past runs known new_desk waiting_desk refl is_new
           (enters c (me_of old) bytes k t op (h c past runs known) old.orderer.log past runs.desk new_desk runs.holds.of_log.fits refl refl refl (sym waiting_is) frames_are)
           new_numbers
@@ -370,7 +370,7 @@ module _ (old : JoinedData) (client : ClientId) (timestamp : Timestamp) (bytes :
     takes_new_so = record {
       party = record { endpoint = refl; me = refl; membership = refl };
       begins = λ c past runs known. (
-        subst (λ (xs : List Output). Stands c (start c past runs known) old.orderer waiting_desk [] xs) (sym silent)
+        subst (λ (xs : List Output). PartsFitEvent c (start c past runs known) old.orderer waiting_desk [] xs) (sym silent)
             (due_none waiting_desk c (start c past runs known) old.orderer [] none (stands_new c past runs known)),
         (
           rests c old past runs,

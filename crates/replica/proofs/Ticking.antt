@@ -35,11 +35,11 @@ use Rattle.desk.specs.State.{OpenData}
 use Rattle.replica.specs.Beginning.{MayBegin, HasNoView}
 use Rattle.desk.specs.declared.waiting.WaitingRequest.{WaitingRequest}
 use Rattle.replica.specs.Changing.{ChangesView, HasReason, IsDue, IsNotDue, IsUnsayable, LeavesView, aimed_view, change_for}
-use Rattle.replica.specs.Desks.{given, AreCallsOf, FitsEvent, Stands, changes_of}
-use Rattle.replica.specs.Entering.{event_with, Leaves, TakesTick}
+use Rattle.replica.specs.Desks.{given, AreCallsOf, FitsEvent, PartsFitEvent, changes_of}
+use Rattle.replica.specs.Entering.{event_with, IsLeftToDo, TakesTick}
 use Rattle.replica.specs.Fetching.{SaysFetch}
 use Rattle.replica.specs.Joined.{Runs, me_of}
-use Rattle.replica.specs.Going.{Rests}
+use Rattle.replica.specs.Going.{NothingIsLeft}
 use Rattle.replica.specs.Numbering.{IsAllNumbered}
 use Rattle.replica.specs.Receiving.{JudgesAlike}
 use Rattle.replica.proofs.Asking.{asks_again}
@@ -103,7 +103,7 @@ module _ (r : JoinedData) (one : AreOne r.orderer r.desk) where
         (subst (λ (t : Option TransferData). FitsEvent c me start o runs.desk r.desk.waiting (again_due t) []) (open_is x there) begins)
 
     stands : (outs : List Output) → members c ≡ r.desk.membership → SaysFetch r [] outs
-        → Stands c start o r.desk [] outs
+        → PartsFitEvent c start o r.desk [] outs
     stands outs known says = record {
       desk = runs.desk;
       is = runs.is_desk;
@@ -175,9 +175,9 @@ module _ (r : JoinedData) (one : AreOne r.orderer r.desk) where
     answers outputs executed moves = let parts = others_owe_no_part c me past tick outputs point executed refl in (parts.0, parts.1, parts.2, parts.3, parts.4, moves)
 
     -- if nothing more is to be done
-    leaves : (new : JoinedData) (outs : List Output) → Rests new → IsAllNumbered new
+    leaves : (new : JoinedData) (outs : List Output) → NothingIsLeft new → IsAllNumbered new
         → AnswersInput c (me_of new) past tick (given (me_of new) outs) point new.desk.executed.state.number
-        → Leaves c start touched.Nothing new outs
+        → IsLeftToDo c start touched.Nothing new outs
     leaves new outs rest all answered = (rest, all, answered, inr tt)
 
   -- ---- what a timeout does
@@ -232,14 +232,14 @@ module _ (r : JoinedData) (one : AreOne r.orderer r.desk) where
 
   module _ (v : ℕ) (due : IsDue r v) (mid : JoinedData) (x y : List Output) (says : SaysFetch r [] x) (left : LeavesView v r x mid y) where
     -- no message is left to send and no batch to execute, and a replica that isn't active assigns no number
-    at_rest : (c : Configuration) (past : List Entry) → Runs c r past → Rests mid
+    at_rest : (c : Configuration) (past : List Entry) → Runs c r past → NothingIsLeft mid
     at_rest c past runs = let rest = rests c r past runs in (left.voted, left.executed rest.1)
 
     none_numbered : IsAllNumbered mid
     none_numbered next = absurd (let active = next.3 in let inactive = left.inactive in cc)
 
     stands_left : (c : Configuration) (past : List Entry) (runs : Runs c r past) → members c ≡ r.desk.membership
-        → Stands c (start c past runs) mid.orderer mid.desk [] y
+        → PartsFitEvent c (start c past runs) mid.orderer mid.desk [] y
     stands_left c past runs known =
         left.stands c (start c past runs) known (rests c r past runs).0 (has_reason v due c past runs) (stands c past runs x known says)
 

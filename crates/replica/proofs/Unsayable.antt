@@ -11,7 +11,7 @@ use Rattle.posting.specs.Endpoint.{SignedExceeds, says}
 use Rattle.protocol.specs.System.Configuration.{Configuration}
 use Rattle.protocol.specs.System.Trace.{Entry}
 use Rattle.protocol.specs.Replica.Certificates.{view}
-use Rattle.protocol.specs.Replica.RightReplica.{Point, Leaves, IsNewViewChange, kept_states}
+use Rattle.protocol.specs.Replica.RightReplica.{Point, HistoryReaches, IsNewViewChange, kept_states}
 use Rattle.protocol.specs.Replica.Selection.{is_within}
 use Rattle.view_change.specs.declared.changes.Change.{Change}
 use Rattle.claims.specs.ClaimsView.{ClaimsData}
@@ -62,7 +62,7 @@ too_long sender vc exceeds bytes h =
 -- ---- the replica can't send its view change
 
 module _ (c : Configuration) (me : ℕ) (desk : Desk) (o : OrdererData) (history : List Entry) (point now : Point) (v : ℕ)
-    (fits : FitsLog c me o.log history) (leaves : Leaves c me history now) (voted : IsVotedAll o.log) (kept : map snapshot_of (kept_states o.log.low point.snapshots) ≡ desk.snapshots)
+    (fits : FitsLog c me o.log history) (leaves : HistoryReaches c me history now) (voted : IsVotedAll o.log) (kept : map snapshot_of (kept_states o.log.low point.snapshots) ≡ desk.snapshots)
     (f : FitsChanges c me o.log (changes_of o) history) (own : o.log.me ≡ me) (named : o.endpoint.me ≡ me) where
   abbrev its : ViewChangeData
   its = change_for v (entries_of desk.snapshots) o

@@ -41,7 +41,7 @@ use Rattle.replica.specs.State.{OrdererData, JoinedData, AreOne}
 use Rattle.desk.specs.State.{OpenData, DeskData}
 use Rattle.desk.specs.Waiting.{WaitingData, with_view}
 use Rattle.replica.specs.Flags.{FitsFlags}
-use Rattle.replica.specs.Desks.{AreCallsOf, AreOfDifferentClients, FitsEvent, FitsWaiting, IsDeskOf, Stands, WasSaid, changes_of, given}
+use Rattle.replica.specs.Desks.{AreCallsOf, AreOfDifferentClients, FitsEvent, FitsWaiting, IsDeskOf, PartsFitEvent, WasSaid, changes_of, given}
 use Rattle.desk.specs.Desking.{desk_above}
 use Rattle.replica.specs.Fetching.{SaysFetch}
 use Rattle.desk.specs.Fetching.{aimed_at, aiming, fetch_of}
@@ -173,7 +173,7 @@ module _ (c : Configuration) (s : Start) (r n : JoinedData) (later : Desk) (new 
   abbrev aimed : JoinedData
   aimed = record r { desk = aiming (start_in new) r.desk }
 
-  aimed_stands : aimed_at r.desk < new.start → SaysFetch aimed before after → Stands c s r.orderer (aiming (start_in new) r.desk) [] after
+  aimed_stands : aimed_at r.desk < new.start → SaysFetch aimed before after → PartsFitEvent c s r.orderer (aiming (start_in new) r.desk) [] after
   aimed_stands ahead (inl (none, unsaid)) = absurd (given_not (Some (aim_of (start_in new) r.desk)) (aim_of (start_in new) r.desk) refl none)
   aimed_stands ahead (inr (o, there, says)) = record {
     desk = record later { transfer = Some (aim_of (start_in new) r.desk).transfer };
@@ -184,15 +184,15 @@ module _ (c : Configuration) (s : Start) (r n : JoinedData) (later : Desk) (new 
         (subst (λ (due : List Message). FitsEvent c r.orderer.endpoint.me s r.orderer later r.desk.waiting due before) (due_ahead ahead) f));
   }
 
-  pub fetched_stands : FetchesStart (start_in new) r before n after → Stands c s n.orderer n.desk [] after
+  pub fetched_stands : FetchesStart (start_in new) r before n after → PartsFitEvent c s n.orderer n.desk [] after
   fetched_stands (inl (d, aims, same, says)) =
-      subst (λ (y : JoinedData). Stands c s y.orderer y.desk [] after) (sym at) (aimed_stands aims.0 (subst (λ (y : JoinedData). SaysFetch y before after) at says))
+      subst (λ (y : JoinedData). PartsFitEvent c s y.orderer y.desk [] after) (sym at) (aimed_stands aims.0 (subst (λ (y : JoinedData). SaysFetch y before after) at says))
     where
       at : n ≡ aimed
       at = same ∙ ap (λ (k : DeskData). let y : JoinedData = record r { desk = k } in y) aims.1
   fetched_stands (inr (behind_it, same, none)) =
-      subst (λ (y : JoinedData). Stands c s y.orderer y.desk [] after) (sym same)
-      (subst (λ (outs : List Output). Stands c s r.orderer r.desk [] outs) (sym none) (record {
+      subst (λ (y : JoinedData). PartsFitEvent c s y.orderer y.desk [] after) (sym same)
+      (subst (λ (outs : List Output). PartsFitEvent c s r.orderer r.desk [] outs) (sym none) (record {
         desk = later;
         is = is;
         fits = subst (λ (m : ℕ). FitsEvent c m s r.orderer later r.desk.waiting [] before) (sym mine)
@@ -327,7 +327,7 @@ module _ (c : Configuration) (s : Start) (r : JoinedData) (desk : Desk) (new : N
         subst (λ (h : ℕ). IsDeskOf c begun.desk (desk_from h desk)) (sym (stays log new passes.fits.is_log small).low)
         (begun_desk c r.desk desk x.calls (logs.cut_to (logs.entered log new.view) new.start).low is)
 
-    fetched : Stands c s x.fetched.orderer x.fetched.desk [] x.said
+    fetched : PartsFitEvent c s x.fetched.orderer x.fetched.desk [] x.said
     fetched =
         fetched_stands c s begun x.fetched later new before x.said (is.members_are ∙ one.1) one.0 is_later (subst (Once (λ past e. taken c past e ≡ Some new)) (sym at) (inl t))
         fits_event x.fetches
@@ -341,8 +341,8 @@ module _ (c : Configuration) (s : Start) (r : JoinedData) (desk : Desk) (new : N
     known : members c ≡ x.fetched.orderer.endpoint.membership
     known = is.members_are ∙ one.1 ∙ ap (λ (k : OrdererData). k.endpoint.membership) (sym same.orderer)
 
-    pub entered_stands : Stands c s n.orderer n.desk [] after
-    entered_stands = subst (λ (y : JoinedData). Stands c s y.orderer y.desk [] after) (sym x.new_is) (record {
+    pub entered_stands : PartsFitEvent c s n.orderer n.desk [] after
+    entered_stands = subst (λ (y : JoinedData). PartsFitEvent c s y.orderer y.desk [] after) (sym x.new_is) (record {
       desk = fetched.desk;
       is = fetched.is;
       fits = subst (λ (m : ℕ). FitsEvent c m s x.orderer fetched.desk x.fetched.desk.waiting [] after) (sym mine)

@@ -8,8 +8,8 @@ use Rattle.replica_histories.specs.Primaries.{SelectsNothing}
 use Rattle.replica.specs.declared.taking.Touched.{Touched}
 use Rattle.replica.specs.declared.taking.Touched.TheVariants as touched
 use Rattle.replica.specs.State.{OrdererData, JoinedData}
-use Rattle.replica.specs.Desks.{Stands}
-use Rattle.replica.specs.Going.{IsOneParty, IsVotedAll, Rests}
+use Rattle.replica.specs.Desks.{PartsFitEvent}
+use Rattle.replica.specs.Going.{IsOneParty, IsVotedAll, NothingIsLeft}
 
 -- The orderer can't begin the view that it moves to: it is active, or not that view's primary; or its keys are spent;
 -- or it has no selection over the stored view changes with its claims.
@@ -24,12 +24,12 @@ HasNoView r = (c : Configuration) → members c ≡ r.desk.membership → c.peri
 -- The replica begins a view by its own new view. What stood still stands, and all votes that its log asks for are sent.
 pub record BeginsView (old : JoinedData) (before : List Output) (new : JoinedData) (after : List Output) : Type 0
   where
-    pub stands : (c : Configuration) (s : Start) → members c ≡ old.desk.membership → Rests old
-        → Stands c s old.orderer old.desk [] before → Stands c s new.orderer new.desk [] after
+    pub stands : (c : Configuration) (s : Start) → members c ≡ old.desk.membership → NothingIsLeft old
+        → PartsFitEvent c s old.orderer old.desk [] before → PartsFitEvent c s new.orderer new.desk [] after
     pub party : IsOneParty old new
     pub target : new.orderer.target ≡ old.orderer.target
     pub active : new.orderer.log.active ≡ true
-    pub voted : Rests old → IsVotedAll new.orderer.log
+    pub voted : NothingIsLeft old → IsVotedAll new.orderer.log
 
 -- It begins the view and touches it; or it can't, and nothing changes.
 abbrev pub MayBegin : JoinedData → List Output → Touched → JoinedData → List Output → Type 0

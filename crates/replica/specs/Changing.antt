@@ -15,7 +15,7 @@ use Rattle.replica_histories.specs.Views.{entries_of}
 use Rattle.view_change.specs.ReceivedData.{HeldData, held_of, refusal_of, with_held, AreHeldFrom, later_views, IsJoined}
 use Rattle.view_change.specs.ReceivedView.{configuration_of}
 use Rattle.replica.specs.State.{OrdererData, JoinedData}
-use Rattle.replica.specs.Desks.{Stands}
+use Rattle.replica.specs.Desks.{PartsFitEvent}
 use Rattle.replica.specs.Going.{IsExecuted, IsOneParty, IsVotedAll}
 
 -- the greater of the current view and the last view that the replica sent a view change for
@@ -106,7 +106,8 @@ MaySignChange view checkpoints old new (Some frame) = SignsChange view checkpoin
 pub record LeavesView (v : ℕ) (old : JoinedData) (before : List Output) (new : JoinedData) (after : List Output) : Type 0
   where
     pub stands : (c : Configuration) (s : Start) → members c ≡ old.desk.membership → IsVotedAll old.orderer.log
-        → HasReason c s old v → Stands c s old.orderer old.desk [] before → Stands c s new.orderer new.desk [] after
+        → HasReason c s old v → PartsFitEvent c s old.orderer old.desk [] before
+        → PartsFitEvent c s new.orderer new.desk [] after
     pub party : IsOneParty old new
     pub target : new.orderer.target ≡ v
     pub inactive : new.orderer.log.active ≡ false

@@ -15,7 +15,7 @@ use Rattle.replica_histories.specs.Events.{Start}
 use Rattle.replica_histories.specs.Outputs.{checkpoint_due}
 use Rattle.replica.specs.State.{OrdererData, JoinedData}
 use Rattle.desk.specs.State.{DeskData}
-use Rattle.replica.specs.Desks.{Stands}
+use Rattle.replica.specs.Desks.{PartsFitEvent}
 use Rattle.desk.specs.Desking.{is_due, newest_entry}
 use Rattle.replica.specs.Marking.{MovesMarks}
 use Rattle.desk.specs.Fetching.{aimed_at, aiming}
@@ -62,8 +62,8 @@ IsDueKept d = is_due d ≡ true
 pub record SaysDueCheckpoint (old : JoinedData) (before : List Output) (new : JoinedData) (after : List Output)
     : Type 0 where
   pub stands : (c : Configuration) (s : Start) → members c ≡ old.desk.membership → IsVotedAll old.orderer.log
-      → Stands c s old.orderer old.desk (checkpoint_due c old.desk.executed.state) before
-      → Stands c s new.orderer new.desk [] after
+      → PartsFitEvent c s old.orderer old.desk (checkpoint_due c old.desk.executed.state) before
+      → PartsFitEvent c s new.orderer new.desk [] after
   pub party : IsSameParty old new
   pub used : new.orderer.used ≡ old.orderer.used
   pub desk : new.desk ≡ record old.desk { snapshots = new.desk.snapshots }

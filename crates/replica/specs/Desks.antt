@@ -93,7 +93,7 @@ pub record FitsEvent (c : Configuration) (me : ℕ) (s : Start) (o : OrdererData
   pub changes : FitsChanges c me o.log (changes_of o) (after_outputs s (given me outs))
   pub meant : AreSentAsMeant c me outs
 
-pub record Stands (c : Configuration) (s : Start) (o : OrdererData) (d : DeskData) (due : List Message)
+pub record PartsFitEvent (c : Configuration) (s : Start) (o : OrdererData) (d : DeskData) (due : List Message)
     (outs : List Output) : Type 0 where
   pub desk : Desk
   pub is : IsDeskOf c d desk

@@ -19,8 +19,8 @@ use Rattle.replica.specs.declared.taking.Touched.{Touched}
 use Rattle.replica.specs.declared.taking.Touched.TheVariants as touched
 use Rattle.replica.specs.State.{JoinedData}
 use Rattle.replica.specs.Beginning.{CannotBegin}
-use Rattle.replica.specs.Desks.{given, Stands}
-use Rattle.replica.specs.Going.{IsVotedBut, IsVotedAll, IsOneParty, Rests}
+use Rattle.replica.specs.Desks.{given, PartsFitEvent}
+use Rattle.replica.specs.Going.{IsVotedBut, IsVotedAll, IsOneParty, NothingIsLeft}
 use Rattle.replica.specs.Numbering.{IsAllNumbered}
 use Rattle.replica.specs.Joined.{Runs, me_of}
 
@@ -56,15 +56,15 @@ IsTakenAnswered c r s = IsTaken c (me_of r) s
 -- What is left to do, by what the event touched: nothing, since what was asked for is sent; numbers for waiting
 -- requests; votes for one number, and what follows; or executions, after a state was installed or a view began. An
 -- input that touches anything, or has an output, is taken.
-abbrev pub Leaves : Configuration → Start → Touched → JoinedData → List Output → Type 0
-Leaves c s touched.Nothing r outs = Rests r × IsAllNumbered r
+abbrev pub IsLeftToDo : Configuration → Start → Touched → JoinedData → List Output → Type 0
+IsLeftToDo c s touched.Nothing r outs = NothingIsLeft r × IsAllNumbered r
     × AnswersInput c (me_of r) s.before s.input (given (me_of r) outs) s.old r.desk.executed.state.number
     × ((outs ≡ []) ⊎ IsTaken c (me_of r) s)
-Leaves c s touched.Waiting r outs = Rests r × IsTakenAlone c (me_of r) s
-Leaves c s (touched.Row number) r outs = IsVotedBut number.0 r.orderer.log × IsTakenBeside c (me_of r) s
-Leaves c s touched.State r outs = IsVotedAll r.orderer.log × IsTaken c (me_of r) s
+IsLeftToDo c s touched.Waiting r outs = NothingIsLeft r × IsTakenAlone c (me_of r) s
+IsLeftToDo c s (touched.Row number) r outs = IsVotedBut number.0 r.orderer.log × IsTakenBeside c (me_of r) s
+IsLeftToDo c s touched.State r outs = IsVotedAll r.orderer.log × IsTaken c (me_of r) s
     × IsAnswered c (me_of r) s r.desk.executed.state.number
-Leaves c s touched.View r outs = IsVotedAll r.orderer.log × IsTakenAnswered c r s
+IsLeftToDo c s touched.View r outs = IsVotedAll r.orderer.log × IsTakenAnswered c r s
 
 -- In an event with this input, what fits the past fits the event with these outputs. No new view is left that the
 -- replica could send.
@@ -72,8 +72,8 @@ pub record TakesInput (input : Entry) (old : JoinedData) (touched : Touched) (ne
     (outs : List Output) : Type 0 where
   pub party : IsOneParty old new
   pub begins : (c : Configuration) (past : List Entry) (runs : Runs c old past) → members c ≡ old.desk.membership
-      → Stands c (event_with c old past runs input) new.orderer new.desk [] outs
-      × Leaves c (event_with c old past runs input) touched new outs × CannotBegin c new.orderer
+      → PartsFitEvent c (event_with c old past runs input) new.orderer new.desk [] outs
+      × IsLeftToDo c (event_with c old past runs input) touched new outs × CannotBegin c new.orderer
 
 -- the same of bytes, or of a timeout
 abbrev pub TakesBytes : List ℕ → JoinedData → Touched → JoinedData → List Output → Type 0

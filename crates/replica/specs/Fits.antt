@@ -18,14 +18,14 @@ abbrev pub Fits : Configuration → ReplicaData → List Entry → Type 0
 Fits c r history = FitBoth c (me_of r) r.orderer r.desk history
 
 -- If the replica fits a history before the event, it then fits the history with the event.
-abbrev pub Leads : ReplicaData → Entry → List Output → ReplicaData → Type 0
-Leads old input outs new =
+abbrev pub HistoryStaysRight : ReplicaData → Entry → List Output → ReplicaData → Type 0
+HistoryStaysRight old input outs new =
     (c : Configuration) (history : List Entry) → Fits c old history
     → Fits c new (after_event (me_of old) input outs history)
 
 -- the event of a step leads to its outputs
 abbrev pub EventLeads : ReplicaData → Event → List Output → ReplicaData → Type 0
-EventLeads old event outs new = Leads old (input_of (me_of old) event) outs new
+EventLeads old event outs new = HistoryStaysRight old (input_of (me_of old) event) outs new
 
 -- If the replica fits some history, each frame among the outputs goes exactly to the parties for whom it is.
 abbrev pub SendsAsMeant : ReplicaData → List Output → Type 0

@@ -11,7 +11,7 @@ use Rattle.replica_histories.specs.Events.{Start}
 use Rattle.replica.specs.State.{OrdererData, JoinedData}
 use Rattle.desk.specs.State.{DeskData}
 use Rattle.desk.specs.Waiting.{WaitingData, count_unnumbered}
-use Rattle.replica.specs.Desks.{FitsEvent, Stands}
+use Rattle.replica.specs.Desks.{FitsEvent, PartsFitEvent}
 
 -- If a history fits the earlier outputs, with the earlier orderer, it fits the later outputs with the later orderer.
 abbrev pub GoesOn : OrdererData → List Output → OrdererData → List Output → Type 0
@@ -73,24 +73,24 @@ pub record IsSameParty (old new : JoinedData) : Type 0 where
   pub membership : new.desk.membership ≡ old.desk.membership
 
 -- what stands with the earlier outputs, stands with the later ones
-abbrev pub Proceeds : JoinedData → List Output → JoinedData → List Output → Type 0
-Proceeds old before new after =
-    (c : Configuration) (s : Start) → members c ≡ old.desk.membership → Stands c s old.orderer old.desk [] before
-    → Stands c s new.orderer new.desk [] after
+abbrev pub FitIsKept : JoinedData → List Output → JoinedData → List Output → Type 0
+FitIsKept old before new after =
+    (c : Configuration) (s : Start) → members c ≡ old.desk.membership → PartsFitEvent c s old.orderer old.desk [] before
+    → PartsFitEvent c s new.orderer new.desk [] after
 
 -- no batch is committed for the next number
 abbrev pub IsExecuted : LogData → DeskData → Type 0
 IsExecuted log d = logs.committed_batch log (suc d.executed.state.number) ≡ None
 
 -- no message is left to send, and no batch to execute
-abbrev pub Rests : JoinedData → Type 0
-Rests r = IsVotedAll r.orderer.log × IsExecuted r.orderer.log r.desk
+abbrev pub NothingIsLeft : JoinedData → Type 0
+NothingIsLeft r = IsVotedAll r.orderer.log × IsExecuted r.orderer.log r.desk
 
 -- If the log asks for no vote, the replica executes the next batch and sends its checkpoint; or no batch is committed,
 -- and nothing changes.
 pub record ExecutesNext (old : JoinedData) (before : List Output) (new : JoinedData) (after : List Output) : Type 0
   where
-    pub proceeds : IsVotedAll old.orderer.log → Proceeds old before new after
+    pub proceeds : IsVotedAll old.orderer.log → FitIsKept old before new after
     pub party : IsSameParty old new
     pub used : new.orderer.used ≡ old.orderer.used
     pub number : new.desk.executed.state.number ≡ suc old.desk.executed.state.number
@@ -106,19 +106,19 @@ ExecutesTurn old before new after false = (new ≡ old) × (after ≡ before) ×
 -- If the log asks for no vote, the replica executes the committed batches, one after another.
 pub record ExecutesAll (old : JoinedData) (before : List Output) (new : JoinedData) (after : List Output) : Type 0
   where
-    pub proceeds : IsVotedAll old.orderer.log → Proceeds old before new after
+    pub proceeds : IsVotedAll old.orderer.log → FitIsKept old before new after
     pub party : IsSameParty old new
     pub rises : old.desk.executed.state.number ≤ new.desk.executed.state.number
     pub used : new.orderer.used ≡ old.orderer.used
     pub waiting : count_unnumbered new.desk.waiting ≤ count_unnumbered old.desk.waiting
-    pub rests : IsVotedAll old.orderer.log → Rests new
+    pub rests : IsVotedAll old.orderer.log → NothingIsLeft new
 
 -- The replica sends all votes that the log asks for, for one number, and executes what is committed then.
 pub record GoesOnWith (number : ℕ) (old : JoinedData) (before : List Output) (new : JoinedData)
     (after : List Output) : Type 0 where
-  pub proceeds : IsVotedBut number old.orderer.log → Proceeds old before new after
+  pub proceeds : IsVotedBut number old.orderer.log → FitIsKept old before new after
   pub party : IsSameParty old new
   pub rises : old.desk.executed.state.number ≤ new.desk.executed.state.number
   pub used : new.orderer.used ≡ old.orderer.used
   pub waiting : count_unnumbered new.desk.waiting ≤ count_unnumbered old.desk.waiting
-  pub rests : IsVotedBut number old.orderer.log → Rests new
+  pub rests : IsVotedBut number old.orderer.log → NothingIsLeft new

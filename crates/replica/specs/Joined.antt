@@ -43,11 +43,11 @@ pub record Fits (c : Configuration) (r : JoinedData) (history : List Entry) : Ty
 
 -- If the replica fits a history before the event, it then fits the history with the event. Each frame that it sends
 -- goes exactly to the parties for whom it is.
-abbrev pub Leads : JoinedData → Entry → List Output → JoinedData → Type 0
-Leads old input outs new =
+abbrev pub HistoryStaysRight : JoinedData → Entry → List Output → JoinedData → Type 0
+HistoryStaysRight old input outs new =
     (c : Configuration) (history : List Entry) → Fits c old history
     → Fits c new (after_event (me_of old) input outs history) × AreSentAsMeant c (me_of old) outs
 
 -- the event of a step leads to its outputs
 abbrev pub EventLeads : JoinedData → Event → List Output → JoinedData → Type 0
-EventLeads old event outs new = Leads old (input_of (me_of old) event) outs new
+EventLeads old event outs new = HistoryStaysRight old (input_of (me_of old) event) outs new

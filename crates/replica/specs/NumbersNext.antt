@@ -6,7 +6,7 @@ use Rattle.events.specs.declared.output.Output.{Output}
 use Rattle.replica.specs.State.{JoinedData}
 use Rattle.desk.specs.Waiting.{texts, unnumbered, with_numbered, count_unnumbered}
 use Rattle.replica.specs.Saying.{SaysBatch}
-use Rattle.replica.specs.Going.{IsSameParty, Proceeds, Rests}
+use Rattle.replica.specs.Going.{IsSameParty, FitIsKept, NothingIsLeft}
 use Rattle.replica.specs.Numbering.{IsAllNumbered}
 
 -- The primary assigns this number to the oldest requests without one, in a batch that it multicasts.
@@ -22,10 +22,10 @@ pub record NumbersNext (number : ℕ) (old : JoinedData) (before : List Output) 
 -- The primary assigns the next number, and goes on with it. Fewer requests are left without one.
 pub record GivesNumber (old : JoinedData) (before : List Output) (new : JoinedData) (after : List Output) : Type 0
   where
-    pub proceeds : Rests old → Proceeds old before new after
+    pub proceeds : NothingIsLeft old → FitIsKept old before new after
     pub party : IsSameParty old new
     pub rises : old.desk.executed.state.number ≤ new.desk.executed.state.number
-    pub rests : Rests old → Rests new
+    pub rests : NothingIsLeft old → NothingIsLeft new
     pub fewer : count_unnumbered new.desk.waiting < count_unnumbered old.desk.waiting
 
 -- The primary assigns one number; or there is no free number, or no request without one, and nothing changes.
@@ -37,8 +37,8 @@ NumbersTurn old before new after false = (new ≡ old) × (after ≡ before) × 
 -- or to assign.
 pub record NumbersWaiting (old : JoinedData) (before : List Output) (new : JoinedData)
     (after : List Output) : Type 0 where
-  pub proceeds : Rests old → Proceeds old before new after
+  pub proceeds : NothingIsLeft old → FitIsKept old before new after
   pub party : IsSameParty old new
   pub rises : old.desk.executed.state.number ≤ new.desk.executed.state.number
-  pub rests : Rests old → Rests new
+  pub rests : NothingIsLeft old → NothingIsLeft new
   pub all : IsAllNumbered new

@@ -36,10 +36,10 @@ impl Joined {
             return Ok(Touched::Nothing);
         }
         let entry = entry_in(message);
-        if self.settle(&entry) {
+        if self.try_stabilize(&entry) {
             return Ok(Touched::Waiting);
         }
-        self.follow(alloc, &entry, outputs)?;
+        self.start_transfer_if_behind(alloc, &entry, outputs)?;
         Ok(Touched::Nothing)
     }
 
@@ -60,13 +60,13 @@ impl Joined {
         };
         self.orderer.say_checkpoint(alloc, entry, outputs)?;
         self.orderer.keeps();
-        self.settle(&entry);
+        self.try_stabilize(&entry);
         Ok(())
     }
 
     // Moves the marks to this checkpoint if it is stable, and returns whether it is. Only the checkpoint that was
     // counted last can have become stable.
-    fn settle(&mut self, entry: &CheckpointEntry) -> bool
+    fn try_stabilize(&mut self, entry: &CheckpointEntry) -> bool
         requires { entry.now.number.0 < 2 ^ 48 }
         ensures settles { Settles (checkpoint_entry_data entry.now) self.old self.new result }
         ensures endpoint { self.new.orderer.endpoint ≡ self.old.orderer.endpoint }
@@ -90,7 +90,7 @@ impl Joined {
 
     // Starts a state transfer to a checkpoint that a quorum sent, if it is ahead of the executed state and of an open
     // transfer.
-    fn follow(
+    fn start_transfer_if_behind(
         &mut self,
         alloc: Global,
         entry: &CheckpointEntry,
@@ -100,7 +100,7 @@ impl Joined {
             outputs.new.items) }
         ensures endpoint { self.new.orderer.endpoint ≡ self.old.orderer.endpoint }
     {
-        if !self.orderer.has_quorum(entry) || !self.desk.aim(alloc, entry)? {
+        if !self.orderer.has_quorum(entry) || !self.desk.set_target(alloc, entry)? {
             return Ok(());
         }
         self.say_fetch(alloc, outputs)

@@ -62,7 +62,7 @@ impl Joined {
             self.new outputs.new.items) }
         ensures orderer { self.new.orderer ≡ self.old.orderer }
     {
-        if !self.desk.aim(alloc, start)? {
+        if !self.desk.set_target(alloc, start)? {
             return Ok(());
         }
         self.say_fetch(alloc, outputs)

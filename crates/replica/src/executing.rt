@@ -11,7 +11,7 @@ use terms::Number;
 
 impl Joined {
     /// Multicasts the votes that the log asks for, for one number, and executes all that is committed then.
-    pub(crate) fn go_on(
+    pub(crate) fn advance(
         &mut self,
         alloc: Global,
         number: Number,

@@ -71,7 +71,7 @@ impl Joined {
         self.are_one();
         let mut outputs = Vec::new(alloc);
         let touched = self.begin(alloc, event, &mut outputs)?;
-        self.follow_up(alloc, touched, &mut outputs)?;
+        self.finish_event(alloc, touched, &mut outputs)?;
         Ok(outputs)
     }
 
@@ -94,7 +94,7 @@ impl Joined {
     }
 
     // Emits what follows, by what the event touched.
-    fn follow_up(
+    fn finish_event(
         &mut self,
         alloc: Global,
         touched: Touched,
@@ -107,7 +107,7 @@ impl Joined {
             Touched::Nothing => Ok(()),
             Touched::Waiting => self.number_waiting(alloc, outputs),
             Touched::Row(number) => {
-                self.go_on(alloc, number, outputs)?;
+                self.advance(alloc, number, outputs)?;
                 self.number_waiting(alloc, outputs)
             }
             Touched::State | Touched::View => self.execute_and_number(alloc, outputs),

@@ -81,19 +81,19 @@
 //! - An orderer has, beside endpoint and log, the number used last and the checkpoint sent last. For view changes it
 //!   has the target, the claims, the view changes that came, and its own new view.
 //! - The contracts are relations that any history passes through. If a history fitted the outputs before the call, it
-//!   fits those after it: `GoesOn` of the orderer, `Proceeds` of both parts. So two calls compose, and a loop's
+//!   fits those after it: `GoesOn` of the orderer, `FitIsKept` of both parts. So two calls compose, and a loop's
 //!   invariant is its contract.
-//! - Within an event `Stands` ties both parts, with the messages that are still due, to that history. Between events
-//!   `Fits` ties a replica to a history, and `Leads` hands every such history on.
+//! - Within an event `PartsFitEvent` ties both parts, with the messages that are still due, to that history.
+//!   Between events `Fits` ties a replica to a history, and `HistoryStaysRight` hands every such history on.
 //! - Each part is tied by itself (`FitsDesk`, `FitsOrderer` in `specs/Parted.antt`). The desk fits the whole history,
 //!   the orderer the history without read-only requests and their replies. So a desk that answers a read on its own
 //!   (`Desk::read`) needs no orderer.
 //! - By the law `parts_are_whole` the parts hold exactly what the joined replica holds. It rests on `reads_are_idle`:
 //!   entries beside the order bring nothing that a certificate counts, which two bytes of their frames tell
 //!   (`marks_tell_reads`).
-//! - Three facts settle the end of an event. Nothing is left to send or to execute (`Rests`). The waiting requests that
-//!   count as numbered are those to which the history gave a number (`FitsWaiting`). No free number has a request that
-//!   waits for it (`IsAllNumbered`).
+//! - Three facts settle the end of an event. Nothing is left to send or to execute (`NothingIsLeft`). The waiting
+//!   requests that count as numbered are those to which the history gave a number (`FitsWaiting`). No free number has a
+//!   request that waits for it (`IsAllNumbered`).
 #![tactic(auto)]
 
 mod changing;

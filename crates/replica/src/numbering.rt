@@ -96,7 +96,7 @@ impl Joined {
             return Ok(false);
         }
         self.number_next(alloc, number, outputs)?;
-        self.go_on(alloc, number, outputs)?;
+        self.advance(alloc, number, outputs)?;
         Ok(true)
     }
 

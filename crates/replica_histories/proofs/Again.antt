@@ -13,7 +13,7 @@ use Rattle.protocol.specs.System.Configuration.{Configuration, primary, is_numbe
 use Rattle.protocol.specs.System.Trace.{Entry, Once, Always}
 use Rattle.protocol.specs.System.Trace.Entry.{Invoke, Got, Sent}
 use Rattle.protocol.specs.Replica.Certificates.{are_genuine, counts_at, taken, checkpoint_from, with_checkpoint, insert_checkpoint, checkpoints_of, batch_from, prepare_from, commit_from, batch_begun, brought, low, is_in_marks, begun_proposal, entry_proposal, proposal, logged, prepare_of, commit_of}
-use Rattle.protocol.specs.Replica.RightReplica.{Point, Leaves, HasSeen, MayCheckpoint, others}
+use Rattle.protocol.specs.Replica.RightReplica.{Point, HistoryReaches, HasSeen, MayCheckpoint, others}
 use Rattle.protocol.specs.Replica.Owed.{NumbersOnce, IsBegunBelow}
 use Rattle.protocol.proofs.Words.Options.{some_injective, and_then_some, given_once, or_else_cases}
 use Rattle.protocol.proofs.Words.Temporal.{once_weaker, once_stays}
@@ -36,7 +36,7 @@ use Rattle.replica_histories.proofs.SaidOnce.{unsent, pays_none, pays_alone, no_
 use Rattle.replica_histories.proofs.Giving.{sent_fits, no_proposal, placed, never_rests, prepare_placed, commit_placed}
 
 leaves_now : (c : Configuration) (me : ℕ) (s : Start) (desk : Desk) (log : LogData) (due : List Message) (outputs : List Entry) (f : Fits c me s desk log due outputs)
-    → Leaves c me (after_outputs s outputs) (point_of desk f.of_desk.states f.of_desk.ran)
+    → HistoryReaches c me (after_outputs s outputs) (point_of desk f.of_desk.states f.of_desk.ran)
 leaves_now c me s desk log due outputs f = steps_leave c me s outputs (point_of desk f.of_desk.states f.of_desk.ran) f.of_desk.leaves f.of_desk.steps
 
 pub prepares_go_again : PreparesGoAgain
@@ -165,7 +165,7 @@ once_but P Q (e ∷ past) (inl h) n = inl (h, λ q. n (inl q))
 once_but P Q (e ∷ past) (inr h) n = inr (once_but P Q past h (λ q. n (inr q)))
 
 -- the replica proposed its own batch in a log that fits
-batch_proposed : (c : Configuration) (me v i : ℕ) (batch : List ℕ) (past : List Entry) (point : Point) → Leaves c me past point → primary c v ≡ me → (Once (BegunAt c v i batch) past → ⊥) → logged c me past v i ≡ Some batch
+batch_proposed : (c : Configuration) (me v i : ℕ) (batch : List ℕ) (past : List Entry) (point : Point) → HistoryReaches c me past point → primary c v ≡ me → (Once (BegunAt c v i batch) past → ⊥) → logged c me past v i ≡ Some batch
     → Proposed c me batch past
 unfolding logged
 batch_proposed c me v i batch past point leaves own none h =

@@ -13,7 +13,7 @@ use Rattle.protocol.specs.System.Trace.{Entry, Has, Hears}
 use Rattle.protocol.specs.System.Trace.Entry.{Sent}
 use Rattle.protocol.specs.Replica.Certificates.{low}
 use Rattle.protocol.specs.Replica.State.{State}
-use Rattle.protocol.specs.Replica.RightReplica.{Point, Leaves, IsFor, MaySay, kept_states}
+use Rattle.protocol.specs.Replica.RightReplica.{Point, HistoryReaches, IsFor, MaySay, kept_states}
 use Rattle.protocol.specs.Replica.Owed.{SendsMessage}
 use Rattle.protocol.proofs.Words.Elements.{has_map, has_weaker}
 use Rattle.protocol.proofs.Words.Options.{some_injective}
@@ -74,7 +74,7 @@ kept_fetches_count c me desk log past bytes asker k index level held has =
     has_weaker (λ st. st.number ≡ k) (λ st. (st.number ≡ k) × ⊤) (λ st is. (is, tt)) (kept_states (low c me past) held.of_desk.point.snapshots)
     (has_map (λ x. x.number ≡ k) snapshot_of (kept_states (low c me past) held.of_desk.point.snapshots) (subst (λ xs. Has (λ x. x.number ≡ k) xs) (sym held.of_desk.kept) has))
 
-held_leaves : (c : Configuration) (me : ℕ) (desk : Desk) (log : LogData) (past : List Entry) (held : Holds c me desk log past) → Leaves c me past held.of_desk.point
+held_leaves : (c : Configuration) (me : ℕ) (desk : Desk) (log : LogData) (past : List Entry) (held : Holds c me desk log past) → HistoryReaches c me past held.of_desk.point
 held_leaves c me desk log past held = proceeds_leaves c me past [] held.of_desk.point held.of_desk.point held.of_desk.proceeds
 
 pub parts_suffice : PartsSuffice

@@ -17,7 +17,7 @@ use Rattle.protocol.specs.System.Trace.Entry.{Invoke, Got, Executed, Installed, 
 use Rattle.protocol.specs.Replica.Selection.{is_quorum}
 use Rattle.protocol.specs.Replica.Certificates.{brought, checkpoint_from, checkpoint_in, with_checkpoint, checkpoints_of, says_checkpoint, count_checkpoints, is_stable, stable_at, low}
 use Rattle.protocol.specs.Replica.State.{State, execute, root_of}
-use Rattle.protocol.specs.Replica.RightReplica.{Point, Executes, IsStep, Leaves, May, Moves, MaySay, MayCheckpoint}
+use Rattle.protocol.specs.Replica.RightReplica.{Point, Executes, IsStep, HistoryReaches, May, Moves, MaySay, MayCheckpoint}
 use Rattle.protocol.specs.Replica.Owed.{IsSaying}
 use Rattle.protocol.proofs.Words.Options.{some_injective, and_then_some, then_some_gives}
 use Rattle.protocol.proofs.Words.Temporal.{once_weaker}
@@ -164,7 +164,7 @@ listed_brought c s m (e ∷ past) h = go (behind_says m s (checkpoint_in c e) (c
     go (inl k) below = inr (below k)
     go (inr k) below = inl (checkpoint_source c s m past e k)
 
-pub own_said : (c : Configuration) (me : ℕ) (m : CheckpointEntry) (history : List Entry) (point : Point) → Leaves c me history point → says_checkpoint m (checkpoints_of c history me) ≡ true
+pub own_said : (c : Configuration) (me : ℕ) (m : CheckpointEntry) (history : List Entry) (point : Point) → HistoryReaches c me history point → says_checkpoint m (checkpoints_of c history me) ≡ true
     → Once (λ earlier e. IsSaying me (Checkpoint m.number m.digest) e) history
 own_said c me m history point leaves h =
     once_weaker (Speaks (checking me m.number m.digest)) (λ earlier e. IsSaying me (Checkpoint m.number m.digest) e) (λ earlier e k. says me (Checkpoint m.number m.digest) earlier e k) history
@@ -196,7 +196,7 @@ saying_may c me k root past (Sent p bytes) old may h =
 saying_may c me k root past (Got p bytes) old may h = absurd h
 saying_may c me k root past _ old may h = absurd h
 
-pub said_may : (c : Configuration) (me k : ℕ) (root : List ℕ) (history : List Entry) (point : Point) → Leaves c me history point → Once (λ earlier e. IsSaying me (Checkpoint k root) e) history
+pub said_may : (c : Configuration) (me k : ℕ) (root : List ℕ) (history : List Entry) (point : Point) → HistoryReaches c me history point → Once (λ earlier e. IsSaying me (Checkpoint k root) e) history
     → MayCheckpoint c history point k root
 said_may c me k root [] point leaves h = absurd h
 said_may c me k root (e ∷ past) point leaves (inl h) = checkpoint_stays c me k root past e leaves.0 point leaves.2 (saying_may c me k root past e leaves.0 leaves.2.may h)
@@ -215,7 +215,7 @@ executes_it : (c : Configuration) (me k : ℕ) (past : List Entry) (e : Entry) (
 executes_it c me k past (Executed p i batch) old new may moves h = let n = ap (λ (q : Point). q.state.number) moves ∙ executed_number c old.state batch in let next = may.next in let same = h in omega arith
 executes_it c me k past _ old new may moves h = absurd h
 
-pub executed_at_most : (c : Configuration) (me k : ℕ) (history : List Entry) (point : Point) → Leaves c me history point → Once (Executes k) history → k ≤ point.state.number
+pub executed_at_most : (c : Configuration) (me k : ℕ) (history : List Entry) (point : Point) → HistoryReaches c me history point → Once (Executes k) history → k ≤ point.state.number
 executed_at_most c me k [] point leaves h = absurd h
 executed_at_most c me k (e ∷ past) point leaves (inl h) = executes_it c me k past e leaves.0 point leaves.2.may leaves.2.moves h
 executed_at_most c me k (e ∷ past) point leaves (inr h) =
@@ -224,7 +224,7 @@ executed_at_most c me k (e ∷ past) point leaves (inr h) =
     omega arith
 
 -- the replica's own checkpoint is at most the state's number
-pub own_at_most : (c : Configuration) (me : ℕ) (m : CheckpointEntry) (history : List Entry) (point : Point) → Leaves c me history point → says_checkpoint m (checkpoints_of c history me) ≡ true → m.number ≤ point.state.number
+pub own_at_most : (c : Configuration) (me : ℕ) (m : CheckpointEntry) (history : List Entry) (point : Point) → HistoryReaches c me history point → says_checkpoint m (checkpoints_of c history me) ≡ true → m.number ≤ point.state.number
 own_at_most c me m history point leaves h =
     executed_at_most c me m.number history point leaves (said_may c me m.number m.digest history point leaves (own_said c me m history point leaves h)).executed
 

@@ -9,7 +9,7 @@ use Rattle.ordering.proofs.Reading.{above_low}
 use Rattle.protocol.specs.System.Configuration.{Configuration, span}
 use Rattle.protocol.specs.System.Trace.{Entry, Has}
 use Rattle.protocol.specs.Replica.Certificates.{low, is_in_marks, logged, commit_of, Prepared}
-use Rattle.protocol.specs.Replica.RightReplica.{Point, Leaves}
+use Rattle.protocol.specs.Replica.RightReplica.{Point, HistoryReaches}
 use Rattle.protocol.proofs.Words.Elements.{each_has, each_where}
 use Rattle.protocol.proofs.Agreement.Marks.{low_grows}
 use Rattle.protocol.proofs.Agreement.Voting.{logged_stays}
@@ -34,10 +34,10 @@ claims_begin c me = record {
 
 -- ---- a replica's commit was of a prepared batch
 
-certified : (c : Configuration) (me v i : ℕ) (digest : List ℕ) (history : List Entry) (point : Point) → Leaves c me history point → SaidCommit c me history v i digest → Certified c me v i digest history
+certified : (c : Configuration) (me v i : ℕ) (digest : List ℕ) (history : List Entry) (point : Point) → HistoryReaches c me history point → SaidCommit c me history v i digest → Certified c me v i digest history
 certified c me v i digest history point leaves said = spoken_certified c me v i digest history point leaves (commit_spoken c me v i digest history point leaves said)
 
-commit_digests : (c : Configuration) (me : ℕ) (history : List Entry) (point : Point) → Leaves c me history point → AreDigests (SaidCommit c me history)
+commit_digests : (c : Configuration) (me : ℕ) (history : List Entry) (point : Point) → HistoryReaches c me history point → AreDigests (SaidCommit c me history)
 commit_digests c me history point leaves v i digest said = let k = certified c me v i digest history point leaves said in ap length (sym k.digest_is) ∙ length-sha256 k.batch
 
 -- ---- the marks move up

@@ -14,9 +14,9 @@ use Rattle.protocol.specs.System.Trace.{Entry, is_output, Once, Has, either, Hea
 use Rattle.protocol.specs.System.Trace.Entry.{Got}
 use Rattle.protocol.specs.Replica.Certificates.{is_active_in, logged, prepare_of, commit_of, Prepared, Committed}
 use Rattle.protocol.specs.Replica.State.{State, Call, root_of, page_text}
-use Rattle.protocol.specs.Replica.RightReplica.{Point, Leaves, Executes, reply_of, KeptState, digests_at, IsFree}
+use Rattle.protocol.specs.Replica.RightReplica.{Point, HistoryReaches, Executes, reply_of, KeptState, digests_at, IsFree}
 use Rattle.protocol.specs.Replica.Transfers.{fetch_sent, fetching}
-use Rattle.protocol.specs.Replica.Owed.{IsSaying, SendsMessage, GivesTo, AtOutputs, NumbersOnce, IsNumbered, IsDropped, TransferGoesOn, Owes, Proceeds}
+use Rattle.protocol.specs.Replica.Owed.{IsSaying, SendsMessage, GivesTo, AtOutputs, NumbersOnce, IsNumbered, IsDropped, TransferGoesOn, Owes, HistoryIsPrompt}
 use Rattle.protocol.proofs.Words.Options.{some_injective}
 use Rattle.protocol.proofs.Words.Elements.{has_weaker, has_reverse, has_reversed}
 use Rattle.protocol.proofs.Words.Linking.{Speaks}
@@ -42,7 +42,7 @@ at_outputs P s [] later h k = k
 at_outputs P s (e ∷ outputs) later h k = at_outputs P s outputs (e ∷ later) h.1 (h.0, k)
 
 -- the history up to here is safe
-pub steps_leave : (c : Configuration) (me : ℕ) (s : Start) (outputs : List Entry) (point : Point) → Leaves c me s.before s.old → Steps c me s outputs point → Leaves c me (after_outputs s outputs) point
+pub steps_leave : (c : Configuration) (me : ℕ) (s : Start) (outputs : List Entry) (point : Point) → HistoryReaches c me s.before s.old → Steps c me s outputs point → HistoryReaches c me (after_outputs s outputs) point
 steps_leave c me s [] point leaves steps = (s.old, leaves, steps)
 steps_leave c me s (e ∷ outputs) point leaves steps = (steps.0, steps_leave c me s outputs steps.0 leaves steps.1, steps.2)
 
@@ -55,7 +55,7 @@ module _ (c : Configuration) (me : ℕ) (s : Start) (desk : Desk) (log : LogData
   abbrev reached : Point
   reached = point_of desk f.of_desk.states f.of_desk.ran
 
-  leaves_now : Leaves c me now reached
+  leaves_now : HistoryReaches c me now reached
   leaves_now = steps_leave c me s outputs reached f.of_desk.leaves f.of_desk.steps
 
   given : (message : Message) → SendsMessage me message outputs → SendsMessage me message (reverse outputs)
@@ -195,7 +195,7 @@ by_or false X Y e y = y
 
 proceed : (c : Configuration) (me : ℕ) (s : Start) (outputs later : List Entry) (mid new : Point) → is_output s.input ≡ false → Steps c me s outputs mid
     → Owes c me s.before s.input (reverse_aux outputs later) (reverse (reverse_aux outputs later) ++ s.input ∷ s.before) s.old new
-    → Proceeds c me s.before [] s.old s.old → Proceeds c me (after_outputs s outputs) later new mid
+    → HistoryIsPrompt c me s.before [] s.old s.old → HistoryIsPrompt c me (after_outputs s outputs) later new mid
 proceed c me s [] later mid new is steps owes past = (s.old, steps, by_or (is_output s.input) _ _ is (owes, past))
 proceed c me s (e ∷ outputs) later mid new is steps owes past =
     (steps.0, steps.2, by_either (is_output e) _ _ steps.3 (proceed c me s outputs (e ∷ later) steps.0 new is steps.1 owes past))

@@ -18,7 +18,7 @@ use Rattle.protocol.specs.System.Trace.Entry.{Got, Tick}
 use Rattle.protocol.specs.Replica.Selection.{is_quorum}
 use Rattle.protocol.specs.Replica.Certificates.{new_view_from, count_checkpoints, says_checkpoint, checkpoints_of, is_stable}
 use Rattle.protocol.specs.Replica.State.{State, Call, call_in, kept_of, last_time}
-use Rattle.protocol.specs.Replica.RightReplica.{Point, Leaves, IsStep, kept_states, HasSeen, reply_of, with_waiting, waiting_after}
+use Rattle.protocol.specs.Replica.RightReplica.{Point, HistoryReaches, IsStep, kept_states, HasSeen, reply_of, with_waiting, waiting_after}
 use Rattle.protocol.specs.Replica.Transfers.{fetching, asked_last}
 use Rattle.protocol.proofs.Words.Plain.{Plain, plain_low}
 use Rattle.protocol.proofs.Words.Options.{some_injective}
@@ -275,7 +275,7 @@ checkpoints_enter c me desk log past s entry bytes held h none = record {
     fits : FitsLog c me (checked_log log s entry) (Got me bytes ∷ past)
     fits = checked c me log past (Got me bytes) s entry f brings known (λ i l. (held.of_log.prepares i, held.of_log.commits i))
 
-    leaves : Leaves c me past old
+    leaves : HistoryReaches c me past old
     leaves = proceeds_leaves c me past [] old old held.of_desk.proceeds
 
     waits : waiting_after c me old bytes ≡ old.waiting

@@ -14,7 +14,7 @@ use Rattle.protocol.specs.System.Trace.{Entry, Once, Has}
 use Rattle.protocol.specs.System.Trace.Entry.{Sent}
 use Rattle.protocol.specs.Replica.Selection.{ascending, changes_of, count_in, is_quorum, is_start, is_within, is_null, is_some_below, may_be_null, may_stand, may_stand_at, may_all_stand, null_batch}
 use Rattle.protocol.specs.Replica.Certificates.{change_from, change_sent, target, view}
-use Rattle.protocol.specs.Replica.RightReplica.{Point, Leaves, IsStep, MaySay, MaySend, MayViewChange, SendsBytes}
+use Rattle.protocol.specs.Replica.RightReplica.{Point, HistoryReaches, IsStep, MaySay, MaySend, MayViewChange, SendsBytes}
 use Rattle.protocol.specs.Replica.Owed.{IsSaying, AreKeysSpent, HasLatestChange, HasBatch, CanBeginView}
 use Rattle.protocol.proofs.Words.Options.{some_injective}
 use Rattle.protocol.proofs.Words.Elements.{has_weaker, has_some, has_map, has_mapped, each_weaker, each_of_all}
@@ -162,7 +162,7 @@ earlier_change : (me : ℕ) (a b : ViewChangeData) (e : Entry) (past : List Entr
 earlier_change me a b e past most first second (inl newer) then = absurd (omega (arith, newer, most, first, second))
 earlier_change me a b e past most first second (inr again) then = let is = again.0 in then again.1 (sym is) (omega (arith, is, first, second))
 
-one_change : (c : Configuration) (me : ℕ) (a b : ViewChangeData) (history : List Entry) (point : Point) → Leaves c me history point → Once (Says me a) history → Once (Says me b) history
+one_change : (c : Configuration) (me : ℕ) (a b : ViewChangeData) (history : List Entry) (point : Point) → HistoryReaches c me history point → Once (Says me a) history → Once (Says me b) history
     → target history ≡ a.view → target history ≡ b.view → a ≡ b
 one_change c me a b [] point leaves h k first second = absurd h
 one_change c me a b (e ∷ past) point leaves (inl h) (inl k) first second = same_said me a b past e h k
@@ -202,7 +202,7 @@ held_pair v (o ∷ held) zero h is same =
 
 -- ---- no new view is left
 
-module _ (c : Configuration) (me : ℕ) (log : LogData) (x : Changes) (history : List Entry) (point : Point) (leaves : Leaves c me history point) (fits : FitsLog c me log history) (f : FitsChanges c me log x history)
+module _ (c : Configuration) (me : ℕ) (log : LogData) (x : Changes) (history : List Entry) (point : Point) (leaves : HistoryReaches c me history point) (fits : FitsLog c me log history) (f : FitsChanges c me log x history)
     (new : NewViewData) (can : CanBeginView c me history new) where
   inactive : log.active ≡ false
   inactive = sym fits.active ∙ go (nat_le (target history) log.view) refl

@@ -15,7 +15,7 @@ use Rattle.protocol.specs.System.Trace.{Entry, Has}
 use Rattle.protocol.specs.System.Trace.Entry.{Invoke, Got, Tick, Executed, Installed, Sent, Accepted}
 use Rattle.protocol.specs.Replica.Certificates.{view, target, low, is_in_marks, logged, prepare_of, commit_of}
 use Rattle.protocol.specs.Replica.State.{State, Call, call_in, last_time}
-use Rattle.protocol.specs.Replica.RightReplica.{Point, Leaves, IsStep, is_newer, with_waiting, waiting_after, still_waiting, executed_point}
+use Rattle.protocol.specs.Replica.RightReplica.{Point, HistoryReaches, IsStep, is_newer, with_waiting, waiting_after, still_waiting, executed_point}
 use Rattle.protocol.specs.Replica.Owed.{IsSaying, SendsMessage, IsBegunBelow, SendsRow, SendsView, SendsAgain}
 use Rattle.protocol.proofs.Words.Elements.{has_weaker, has_either, has_filter, has_reversed}
 use Rattle.replica_histories.specs.Desk.{Desk}
@@ -178,7 +178,7 @@ step_new c me past old (Sent p bytes) new s h = subst (λ (q : Point). AreNew q.
 step_new c me past old (Invoke x y z) new s h = absurd s.may
 step_new c me past old (Accepted x y z) new s h = absurd s.may
 
-all_new : (c : Configuration) (me : ℕ) (history : List Entry) (point : Point) → Leaves c me history point → AreNew point.state point.waiting
+all_new : (c : Configuration) (me : ℕ) (history : List Entry) (point : Point) → HistoryReaches c me history point → AreNew point.state point.waiting
 all_new c me [] point is = subst (λ (q : Point). AreNew q.state q.waiting) (sym is) (λ call h. absurd h)
 all_new c me (e ∷ past) point h = step_new c me past h.0 e point h.2 (all_new c me past h.0 h.1)
 

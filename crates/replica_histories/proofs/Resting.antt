@@ -10,7 +10,7 @@ use Rattle.protocol.specs.System.Trace.Entry.{Got, Tick}
 use Rattle.protocol.specs.Replica.Certificates.{is_active_in, low, is_in_marks, logged, Committed}
 use Rattle.protocol.specs.Replica.State.{State, Call}
 use Rattle.protocol.specs.Replica.RightReplica.{Point, first_point, IsFree}
-use Rattle.protocol.specs.Replica.Owed.{IsOfView, IsNumbered, Owes, Proceeds}
+use Rattle.protocol.specs.Replica.Owed.{IsOfView, IsNumbered, Owes, HistoryIsPrompt}
 use Rattle.protocol.proofs.Words.Reacting.{one_of}
 use Rattle.protocol.proofs.Agreement.Voting.{logged_stays}
 use Rattle.replica_histories.specs.Logs.{FitsLog}
@@ -40,10 +40,10 @@ turned : (e : Entry) (outputs past : List Entry) → reverse (e ∷ outputs) ++ 
 turned e outputs past = ap (λ (xs : List Entry). xs ++ past) (reverse-cons e outputs) ∙ append_assoc (reverse outputs) (e ∷ []) past
 
 -- after some output
-rests_behind : (c : Configuration) (me : ℕ) (o : Entry) (outputs xs : List Entry) (new point : Point) → Proceeds c me xs (o ∷ outputs) new point → Rests c me (reverse (o ∷ outputs) ++ xs) new
+rests_behind : (c : Configuration) (me : ℕ) (o : Entry) (outputs xs : List Entry) (new point : Point) → HistoryIsPrompt c me xs (o ∷ outputs) new point → Rests c me (reverse (o ∷ outputs) ++ xs) new
 rests_behind c me o outputs [] new point h = absurd (let bad : o ∷ outputs ≡ [] = h.1 in cc)
 rests_behind c me o outputs (e ∷ past) new point h =
-    one_of (is_output e) (Proceeds c me past (e ∷ o ∷ outputs) new h.0) (Owes c me past e (o ∷ outputs) (reverse (o ∷ outputs) ++ e ∷ past) h.0 new × Proceeds c me past [] h.0 h.0)
+    one_of (is_output e) (HistoryIsPrompt c me past (e ∷ o ∷ outputs) new h.0) (Owes c me past e (o ∷ outputs) (reverse (o ∷ outputs) ++ e ∷ past) h.0 new × HistoryIsPrompt c me past [] h.0 h.0)
     (Rests c me (reverse (o ∷ outputs) ++ e ∷ past) new) h.2
     (λ k. subst (λ (now : List Entry). Rests c me now new) (turned e (o ∷ outputs) past) (rests_behind c me e (o ∷ outputs) past new h.0 k))
     (λ k. rests_owed c me past e (o ∷ outputs) (reverse (o ∷ outputs) ++ e ∷ past) h.0 new k.0)
@@ -56,10 +56,10 @@ rests_first c me point is = record {
   new_views = λ other can. absurd (let left = can.left in omega (arith, left));
 }
 
-pub rests : (c : Configuration) (me : ℕ) (xs : List Entry) (point : Point) → Proceeds c me xs [] point point → Rests c me xs point
+pub rests : (c : Configuration) (me : ℕ) (xs : List Entry) (point : Point) → HistoryIsPrompt c me xs [] point point → Rests c me xs point
 rests c me [] point h = rests_first c me point h.0
 rests c me (e ∷ past) point h =
-    one_of (is_output e) (Proceeds c me past (e ∷ []) point h.0) (Owes c me past e [] (e ∷ past) h.0 point × Proceeds c me past [] h.0 h.0) (Rests c me (e ∷ past) point) h.2
+    one_of (is_output e) (HistoryIsPrompt c me past (e ∷ []) point h.0) (Owes c me past e [] (e ∷ past) h.0 point × HistoryIsPrompt c me past [] h.0 h.0) (Rests c me (e ∷ past) point) h.2
     (λ k. rests_behind c me e [] past point h.0 k)
     (λ k. rests_owed c me past e [] (e ∷ past) h.0 point k.0)
 

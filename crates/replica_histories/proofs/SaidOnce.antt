@@ -19,7 +19,7 @@ use Rattle.protocol.specs.System.Trace.{Entry, is_output, Once, Always, Has, eit
 use Rattle.protocol.specs.System.Trace.Entry.{Sent}
 use Rattle.protocol.specs.Replica.Certificates.{greatest, first_given, change_from, change_sent, view, target, is_active_in, taken}
 use Rattle.protocol.specs.Replica.State.{State, Call, call_in, call_of, runs, kept_by, ran_call, run_call, run_frame, ran_by, ran_in, last_time}
-use Rattle.protocol.specs.Replica.RightReplica.{Point, Leaves, MaySay, MayNewView, MayFetch, IsAskedAgain, SendsBytes, SentBefore, SentInEvent, reply_of}
+use Rattle.protocol.specs.Replica.RightReplica.{Point, HistoryReaches, MaySay, MayNewView, MayFetch, IsAskedAgain, SendsBytes, SentBefore, SentInEvent, reply_of}
 use Rattle.protocol.specs.Replica.Transfers.{place_from, fetch_sent, fetching, is_fetch, NoneAsked, IsNext, in_place}
 use Rattle.protocol.specs.Replica.Owed.{IsSaying, SendsMessage}
 use Rattle.protocol.proofs.Words.Options.{some_injective, and_then_some}
@@ -128,7 +128,7 @@ fetch_is_new c me past point k level index bytes says may h = go level says may.
     go l is (inr again) = asked l is again.1
 
 -- a new view that the replica takes as it sends it was not sent before: it would have begun its view
-pub view_is_new : (c : Configuration) (me : ℕ) (past : List Entry) (point : Point) (new : NewViewData) (bytes : List ℕ) → Leaves c me past point → said bytes ≡ Some (record { sender = me; message = NewView new })
+pub view_is_new : (c : Configuration) (me : ℕ) (past : List Entry) (point : Point) (new : NewViewData) (bytes : List ℕ) → HistoryReaches c me past point → said bytes ≡ Some (record { sender = me; message = NewView new })
     → taken c past (Sent me bytes) ≡ Some new → SentInEvent bytes past → ⊥
 view_is_new c me past point new bytes leaves says t h =
     let above = (takes c me past (Sent me bytes) new t).above in

@@ -9,7 +9,7 @@ use Rattle.protocol.specs.System.Configuration.{Configuration, primary, members}
 use Rattle.protocol.specs.System.Trace.{Entry, is_output, Once, Always}
 use Rattle.protocol.specs.System.Trace.Entry.{Got, Sent}
 use Rattle.protocol.specs.Replica.Certificates.{prepare_from, commit_from, vote_in, prepare_of, commit_of, Prepared}
-use Rattle.protocol.specs.Replica.RightReplica.{Point, Leaves}
+use Rattle.protocol.specs.Replica.RightReplica.{Point, HistoryReaches}
 use Rattle.protocol.specs.Replica.Owed.{IsSaying, SendsMessage}
 use Rattle.protocol.proofs.Words.Temporal.{once_weaker, once_stays}
 use Rattle.protocol.proofs.Words.Options.{given_once}
@@ -28,7 +28,7 @@ own_said c me body own past (Got p bytes) r h = absurd (heard_other c p bytes bo
 own_said c me body own past (Sent p bytes) r h = h
 own_said c me body own past _ r h = absurd cc
 
-pub own_spoken : (c : Configuration) (me : ℕ) (body : Body) (past : List Entry) (point : Point) → Leaves c me past point → body.sender ≡ me → Once (Brings c body) past → Once (Speaks body) past
+pub own_spoken : (c : Configuration) (me : ℕ) (body : Body) (past : List Entry) (point : Point) → HistoryReaches c me past point → body.sender ≡ me → Once (Brings c body) past → Once (Speaks body) past
 own_spoken c me body past point leaves own h =
     once_weaker (λ past e. RightAt c me past e × Brings c body past e × Always (RightAt c me) past) (Speaks body) (λ past e t. own_said c me body own past e t.0 t.1) past
     (once_right c me (Brings c body) past (point, leaves) h)
@@ -40,7 +40,7 @@ prepare_source c me s v i d past e h =
     let r = vote_brought c me v i d (prepare_from c s v i) past e h in
     r.1 ∙ ap Some (prepare_is c s v i d r.0.sender r.0.message r.2).0
 
-pub prepare_spoken : (c : Configuration) (me v i : ℕ) (d : List ℕ) (past : List Entry) (point : Point) → Leaves c me past point → prepare_of c me past v i me ≡ Some d → Once (Speaks (preparing me v i d)) past
+pub prepare_spoken : (c : Configuration) (me v i : ℕ) (d : List ℕ) (past : List Entry) (point : Point) → HistoryReaches c me past point → prepare_of c me past v i me ≡ Some d → Once (Speaks (preparing me v i d)) past
 unfolding prepare_of
 prepare_spoken c me v i d past point leaves h =
     own_spoken c me (preparing me v i d) past point leaves refl
@@ -48,7 +48,7 @@ prepare_spoken c me v i d past point leaves h =
     (given_once (λ past e. vote_in c me past e (prepare_from c me v i) v i) d past h))
 
 -- a batch that was prepared was logged then
-pub spoken_logged : (c : Configuration) (me v i : ℕ) (d : List ℕ) (past : List Entry) (point : Point) → Leaves c me past point → Once (Speaks (preparing me v i d)) past → Logs c me v i d past
+pub spoken_logged : (c : Configuration) (me v i : ℕ) (d : List ℕ) (past : List Entry) (point : Point) → HistoryReaches c me past point → Once (Speaks (preparing me v i d)) past → Logs c me v i d past
 spoken_logged c me v i d past point leaves h =
     once_stays (Logs c me v i d) (logs_stay c me v i d) past
     (once_weaker (λ past e. RightAt c me past e × Speaks (preparing me v i d) past e × Always (RightAt c me) past) (λ past e. Logs c me v i d past)
@@ -69,14 +69,14 @@ pub record Certified (c : Configuration) (me v i : ℕ) (d : List ℕ) (past : L
 certified_stays : (c : Configuration) (me v i : ℕ) (d : List ℕ) (e : Entry) (past : List Entry) → Certified c me v i d past → Certified c me v i d (e ∷ past)
 certified_stays c me v i d e past h = record { batch = h.batch; prepared = prepared_stays c me v i h.batch e past h.prepared; digest_is = h.digest_is }
 
-pub commit_spoken : (c : Configuration) (me v i : ℕ) (d : List ℕ) (past : List Entry) (point : Point) → Leaves c me past point → commit_of c me past v i me ≡ Some d → Once (Speaks (committing me v i d)) past
+pub commit_spoken : (c : Configuration) (me v i : ℕ) (d : List ℕ) (past : List Entry) (point : Point) → HistoryReaches c me past point → commit_of c me past v i me ≡ Some d → Once (Speaks (committing me v i d)) past
 unfolding commit_of
 commit_spoken c me v i d past point leaves h =
     own_spoken c me (committing me v i d) past point leaves refl
     (once_weaker (λ past e. vote_in c me past e (commit_from me v i) v i ≡ Some d) (Brings c (committing me v i d)) (commit_source c me me v i d) past
     (given_once (λ past e. vote_in c me past e (commit_from me v i) v i) d past h))
 
-pub spoken_certified : (c : Configuration) (me v i : ℕ) (d : List ℕ) (past : List Entry) (point : Point) → Leaves c me past point → Once (Speaks (committing me v i d)) past → Certified c me v i d past
+pub spoken_certified : (c : Configuration) (me v i : ℕ) (d : List ℕ) (past : List Entry) (point : Point) → HistoryReaches c me past point → Once (Speaks (committing me v i d)) past → Certified c me v i d past
 spoken_certified c me v i d past point leaves h =
     once_stays (Certified c me v i d) (certified_stays c me v i d) past
     (once_weaker (λ past e. RightAt c me past e × Speaks (committing me v i d) past e × Always (RightAt c me) past) (λ past e. Certified c me v i d past)

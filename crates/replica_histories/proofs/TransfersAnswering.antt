@@ -14,7 +14,7 @@ use Rattle.protocol.specs.System.Trace.{Entry, Has, Hears}
 use Rattle.protocol.specs.System.Trace.Entry.{Invoke, Got, Executed, Installed, Accepted}
 use Rattle.protocol.specs.Replica.Certificates.{low}
 use Rattle.protocol.specs.Replica.State.{State, opening, execute, pages_of, page_text}
-use Rattle.protocol.specs.Replica.RightReplica.{Point, Leaves, IsStep, KeptState, kept_states, executed_point, MaySay, IsFor, WasAsked, digests_at}
+use Rattle.protocol.specs.Replica.RightReplica.{Point, HistoryReaches, IsStep, KeptState, kept_states, executed_point, MaySay, IsFor, WasAsked, digests_at}
 use Rattle.protocol.specs.Replica.Transfers.{place_from}
 use Rattle.protocol.specs.Replica.Owed.{IsSayingTo, GivesTo}
 use Rattle.protocol.proofs.Words.Options.{some_injective}
@@ -70,7 +70,7 @@ distinct_step c me past old (Invoke x y z) new s d = absurd s.may
 distinct_step c me past old (Accepted x y z) new s d = absurd s.may
 distinct_step c me past old _ new s d = subst IsDistinct (sym s.moves) d
 
-pub distinct : (c : Configuration) (me : ℕ) (history : List Entry) (point : Point) → Leaves c me history point → IsDistinct point
+pub distinct : (c : Configuration) (me : ℕ) (history : List Entry) (point : Point) → HistoryReaches c me history point → IsDistinct point
 distinct c me [] point is = subst IsDistinct (sym is) (record { below = below; one = one })
   where
     below : (x : State) → (opening ≡ x) ⊎ ⊥ → x.number ≤ 0
@@ -98,7 +98,7 @@ kept c me past point k P h =
     record { state = s.0; there = s.1; number = s.2.0; has = s.2.1 }
 
 -- what two kept states of one number are
-same_kept : (c : Configuration) (me : ℕ) (past : List Entry) (point : Point) (k : ℕ) (P Q : State → Type 0) → Leaves c me past point → (x : Kept point k P) (y : Kept point k Q) → x.state ≡ y.state
+same_kept : (c : Configuration) (me : ℕ) (past : List Entry) (point : Point) (k : ℕ) (P Q : State → Type 0) → HistoryReaches c me past point → (x : Kept point k P) (y : Kept point k Q) → x.state ≡ y.state
 same_kept c me past point k P Q leaves x y = (distinct c me past point leaves).one x.state y.state x.there y.there (x.number ∙ sym y.number)
 
 pub kept_are_one : KeptAreOne

@@ -14,7 +14,7 @@ use Rattle.protocol.specs.System.Trace.{Entry, Once}
 use Rattle.protocol.specs.System.Trace.Entry.{Got, Sent, Executed, Installed, Tick}
 use Rattle.protocol.specs.Replica.Selection.{signed_change}
 use Rattle.protocol.specs.Replica.Certificates.{brought, view, target, taken, logged, commit_of, latest_change}
-use Rattle.protocol.specs.Replica.RightReplica.{Point, Leaves, SendsBytes, SentBefore, HasOwnLeaf, MayCheckpoint}
+use Rattle.protocol.specs.Replica.RightReplica.{Point, HistoryReaches, SendsBytes, SentBefore, HasOwnLeaf, MayCheckpoint}
 use Rattle.protocol.specs.Replica.Owed.{AreKeysSpent, latest_checkpoint}
 use Rattle.claims.specs.ClaimsView.{ClaimsData, no_claims, claim_of, IsAmong}
 use Rattle.claims.specs.Recording.{with_prepared, with_logged, with_all, above_mark}
@@ -119,8 +119,8 @@ pub record FitsChanges (c : Configuration) (me : ℕ) (log : LogData) (x : Chang
 pub record Passes (c : Configuration) (me : ℕ) (past : List Entry) (e : Entry) (log after : LogData) : Type 0 where
   pub old : Point
   pub new : Point
-  pub leaves : Leaves c me past old
-  pub goes : Leaves c me (e ∷ past) new
+  pub leaves : HistoryReaches c me past old
+  pub goes : HistoryReaches c me (e ∷ past) new
   pub fits : FitsLog c me log past
   pub fits_behind : FitsLog c me after (e ∷ past)
 
@@ -305,7 +305,7 @@ CheckpointsAreNoted =
 abbrev pub CheckpointsAreLatest : Type 0
 CheckpointsAreLatest =
     (c : Configuration) (me : ℕ) (past : List Entry) (point : Point) (entry : CheckpointEntry) (bytes : List ℕ)
-    → Leaves c me past point → MayCheckpoint c past point entry.number entry.digest
+    → HistoryReaches c me past point → MayCheckpoint c past point entry.number entry.digest
     → entry.number ≡ point.state.number → is_number entry.number ≡ true
     → said bytes ≡ Some (record { sender = me; message = Checkpoint entry.number entry.digest })
     → latest_checkpoint c me (Sent me bytes ∷ past) ≡ Some entry

@@ -10,7 +10,7 @@ use Rattle.ordering.specs.Log.{LogData}
 use Rattle.protocol.specs.System.Configuration.{Configuration}
 use Rattle.protocol.specs.System.Trace.{Entry, Once, Has}
 use Rattle.protocol.specs.Replica.Certificates.{low, is_in_marks, logged, commit_of}
-use Rattle.protocol.specs.Replica.RightReplica.{Point, Leaves, HasSeen, IsPreparedList, IsPrePreparedList}
+use Rattle.protocol.specs.Replica.RightReplica.{Point, HistoryReaches, HasSeen, IsPreparedList, IsPrePreparedList}
 use Rattle.claims.specs.ClaimsView.{ClaimsData, no_claims, claim_of}
 use Rattle.claims.specs.Recording.{with_prepared, with_logged, with_all, above_mark, IsLoggedAs, Adds, IsLatest, RecordsLogged}
 use Rattle.replica_histories.specs.Logs.{FitsLog}
@@ -46,7 +46,7 @@ abbrev pub ClaimsGrow : Type 0
 ClaimsGrow =
     (c : Configuration) (me : ℕ) (log : LogData) (past : List Entry) (e : Entry) (old new : Point)
     (claims after : ClaimsData) (commits batches : List Claim)
-    → FitsLog c me log past → Leaves c me past old → Leaves c me (e ∷ past) new
+    → FitsLog c me log past → HistoryReaches c me past old → HistoryReaches c me (e ∷ past) new
     → Adds (SaidCommit c me past) (SaidCommit c me (e ∷ past)) (is_in_marks c (low c me (e ∷ past))) commits
     → Adds (IsLoggedAs c me past) (IsLoggedAs c me (e ∷ past)) (is_in_marks c (low c me (e ∷ past))) batches
     → Grows claims after (low c me (e ∷ past)) commits batches
@@ -58,7 +58,7 @@ ClaimsGrow =
 abbrev pub ClaimsAreLists : Type 0
 ClaimsAreLists =
     (c : Configuration) (me : ℕ) (log : LogData) (history : List Entry) (point : Point) (claims : ClaimsData)
-    → FitsLog c me log history → Leaves c me history point → ((i : ℕ) → logs.due_commit log i ≡ None)
+    → FitsLog c me log history → HistoryReaches c me history point → ((i : ℕ) → logs.due_commit log i ≡ None)
     → FitsClaims c me history claims
     → IsPreparedList c me history claims.prepared × IsPrePreparedList c me history claims.logged
 

@@ -14,9 +14,9 @@ use Rattle.protocol.specs.System.Trace.{Entry, Once, Has, is_output, Hears}
 use Rattle.protocol.specs.System.Trace.Entry.{Got, Tick}
 use Rattle.protocol.specs.Replica.Certificates.{low, Committed}
 use Rattle.protocol.specs.Replica.State.{State, Call, Ran, kept_of, last_time, root_of}
-use Rattle.protocol.specs.Replica.RightReplica.{Point, Leaves, Executes, kept_states, HasSeen, MayReplyOrdered, MayCheckpoint, MayInstall, IsTick, reply_of, IsFree}
+use Rattle.protocol.specs.Replica.RightReplica.{Point, HistoryReaches, Executes, kept_states, HasSeen, MayReplyOrdered, MayCheckpoint, MayInstall, IsTick, reply_of, IsFree}
 use Rattle.protocol.specs.Replica.Transfers.{fetching, asked_last}
-use Rattle.protocol.specs.Replica.Owed.{IsNumbered, NumbersOnce, Counts, AreKeysSpent, CanBeginView, Proceeds}
+use Rattle.protocol.specs.Replica.Owed.{IsNumbered, NumbersOnce, Counts, AreKeysSpent, CanBeginView, HistoryIsPrompt}
 use Rattle.replica_histories.specs.Desk.{Desk, snapshot_of, point_of, desk_from}
 use Rattle.replica_histories.specs.Logs.{FitsLog}
 use Rattle.replica_histories.specs.Transfers.{FitsOpen}
@@ -80,7 +80,7 @@ pub record FitsDesk (c : Configuration) (me : ℕ) (s : Start) (desk : Desk) (du
     (outputs : List Entry) : Type 0 where
   pub states : List State
   pub ran : List Ran
-  pub leaves : Leaves c me s.before s.old
+  pub leaves : HistoryReaches c me s.before s.old
   pub steps : Steps c me s outputs (point_of desk states ran)
   pub kept : FitsSnapshots c me desk states (after_outputs s outputs)
   pub frames : FitsFrames c me desk (after_outputs s outputs)
@@ -148,7 +148,7 @@ IsTaken c me s = elim s.input [
 -- the state of each quorum of checkpoints above the executed number was fetched.
 pub record HoldsDesk (c : Configuration) (me : ℕ) (desk : Desk) (history : List Entry) : Type 0 where
   pub point : Point
-  pub proceeds : Proceeds c me history [] point point
+  pub proceeds : HistoryIsPrompt c me history [] point point
   pub is : point ≡ point_of desk point.snapshots point.ran
   pub kept : FitsSnapshots c me desk point.snapshots history
   pub frames : FitsFrames c me desk history

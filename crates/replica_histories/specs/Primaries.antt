@@ -9,7 +9,7 @@ use Rattle.ordering.specs.Log.{LogData}
 use Rattle.protocol.specs.System.Configuration.{Configuration}
 use Rattle.protocol.specs.System.Trace.{Entry, Has}
 use Rattle.protocol.specs.Replica.Selection.{ascending, null_batch}
-use Rattle.protocol.specs.Replica.RightReplica.{Point, Leaves}
+use Rattle.protocol.specs.Replica.RightReplica.{Point, HistoryReaches}
 use Rattle.claims.specs.ClaimsView.{ClaimsData, digests_of}
 use Rattle.view_change.specs.ReceivedData.{HeldData, pairs_for}
 use Rattle.view_change.specs.Selecting.{meets, IsPart, NothingSelects}
@@ -49,7 +49,7 @@ FewerSelectNothing =
 abbrev pub NoViewsAreLeft : Type 0
 NoViewsAreLeft =
     (c : Configuration) (me : ℕ) (log : LogData) (x : Changes) (history : List Entry) (point : Point)
-    → Leaves c me history point → FitsLog c me log history → FitsChanges c me log x history
+    → HistoryReaches c me history point → FitsLog c me log history → FitsChanges c me log x history
     → (log.active ≡ false → logs.primary log x.target ≡ log.me
     → SelectsNothing c x.target x.held x.claims ⊎ (x.spent ≡ 64))
     → LeavesNoView c me history

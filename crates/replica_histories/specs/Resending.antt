@@ -7,7 +7,7 @@ use Rattle.protocol.specs.System.Configuration.{Configuration}
 use Rattle.protocol.specs.System.Trace.{Entry, Has, Hears}
 use Rattle.protocol.specs.System.Trace.Entry.{Sent}
 use Rattle.protocol.specs.Replica.State.{Call, last_time}
-use Rattle.protocol.specs.Replica.RightReplica.{Point, Leaves}
+use Rattle.protocol.specs.Replica.RightReplica.{Point, HistoryReaches}
 use Rattle.protocol.specs.Replica.Owed.{SendsMessage}
 use Rattle.view_change.specs.ReceivedData.{HeldData, held_of}
 use Rattle.replica_histories.specs.Desk.{Desk}
@@ -53,5 +53,6 @@ ResendingSuffices =
 -- A waiting request has a timestamp above its client's last.
 abbrev pub WaitingAreNew : Type 0
 WaitingAreNew =
-    (c : Configuration) (me : ℕ) (history : List Entry) (point : Point) (call : Call) → Leaves c me history point
+    (c : Configuration) (me : ℕ) (history : List Entry) (point : Point) (call : Call)
+    → HistoryReaches c me history point
     → Has (λ x. x ≡ call) point.waiting → last_time point.state call.client < call.timestamp

@@ -13,7 +13,7 @@ use Rattle.protocol.specs.System.Trace.{Entry, Has, Hears}
 use Rattle.protocol.specs.System.Trace.Entry.{Sent}
 use Rattle.protocol.specs.Replica.Certificates.{low}
 use Rattle.protocol.specs.Replica.State.{State, pages_of, page_text}
-use Rattle.protocol.specs.Replica.RightReplica.{Point, Leaves, MaySay, IsFor, KeptState, WasAsked, digests_at, kept_states}
+use Rattle.protocol.specs.Replica.RightReplica.{Point, HistoryReaches, MaySay, IsFor, KeptState, WasAsked, digests_at, kept_states}
 use Rattle.protocol.specs.Replica.Owed.{IsSayingTo, GivesTo, Counts}
 use Rattle.replica_histories.specs.Desk.{Snapshot, snapshot_of}
 
@@ -44,7 +44,7 @@ AnswersFetches c me before input outputs old =
 abbrev pub KeptAreOne : Type 0
 KeptAreOne =
     (c : Configuration) (me : ℕ) (history : List Entry) (point : Point) (k : ℕ) (st other : State)
-    → Leaves c me history point → KeptState c me history point k (λ x. x ≡ st)
+    → HistoryReaches c me history point → KeptState c me history point k (λ x. x ≡ st)
     → KeptState c me history point k (λ x. x ≡ other) → st ≡ other
 
 -- Each kept snapshot has the pages of a kept state, and each kept state has its snapshot.
@@ -90,7 +90,7 @@ abbrev pub AnswersSuffice : Type 0
 AnswersSuffice =
     (c : Configuration) (me : ℕ) (before : List Entry) (input : Entry) (outputs : List Entry) (old : Point)
     (s k index : ℕ) (level : Level) (pages : List (List ℕ))
-    → Leaves c me before old → Hears c me (record { sender = s; message = Fetch k level index }) before input
+    → HistoryReaches c me before old → Hears c me (record { sender = s; message = Fetch k level index }) before input
     → KeptPages c me before old k pages → GivesTo me s (answer_by pages k level index) outputs
     → AnswersFetches c me before input outputs old
 

@@ -15,7 +15,7 @@ use Rattle.protocol.specs.System.Trace.{Entry, Once}
 use Rattle.protocol.specs.System.Trace.Entry.{Got, Tick, Sent}
 use Rattle.protocol.specs.Replica.Selection.{is_within}
 use Rattle.protocol.specs.Replica.Certificates.{view, target, taken, latest_change}
-use Rattle.protocol.specs.Replica.RightReplica.{Point, HasSeen, SentBefore, HasOwnLeaf, IsPreparedList, IsPrePreparedList, TimesOut, JoinsOthers, sought_view, Leaves, IsNewViewChange, kept_states}
+use Rattle.protocol.specs.Replica.RightReplica.{Point, HasSeen, SentBefore, HasOwnLeaf, IsPreparedList, IsPrePreparedList, TimesOut, JoinsOthers, sought_view, HistoryReaches, IsNewViewChange, kept_states}
 use Rattle.protocol.specs.Replica.Owed.{SendsMessage, Counts}
 use Rattle.claims.specs.ClaimsView.{ClaimsData}
 use Rattle.replica_histories.specs.Claims.{FitsClaims}
@@ -68,7 +68,7 @@ abbrev pub NewChangesAreOne : Type 0
 NewChangesAreOne =
     (c : Configuration) (me : ℕ) (desk : Desk) (log : LogData) (history : List Entry) (point now : Point)
     (claims : ClaimsData) (sender : ℕ) (vc : ViewChangeData) (bytes : List ℕ)
-    → FitsLog c me log history → Leaves c me history now → ((i : ℕ) → logs.due_commit log i ≡ None)
+    → FitsLog c me log history → HistoryReaches c me history now → ((i : ℕ) → logs.due_commit log i ≡ None)
     → map snapshot_of (kept_states log.low point.snapshots) ≡ desk.snapshots → FitsClaims c me history claims
     → IsNewViewChange c me history point vc
     → said bytes ≡ Some (record { sender = sender; message = ViewChange vc })

@@ -98,7 +98,7 @@ attend_replica c trace rs new seats p event outs valid numbered attend correct m
     fits : (q : ℕ) (e : ReplicaData) → is_correct_replica c q ≡ true → (b : Bool) → (q == p) ≡ b → FitsReplica c (get_or new q e) (history_of q after)
     fits q e h true same =
         let fit : replica_fits.Fits c m.before (history_of p trace) = subst (λ r. replica_fits.Fits c r (history_of p trace)) (m.was m.before) (attend.replicas p m.before correct).0 in
-        let leads : replica_fits.Leads m.before input outs m.after = subst (λ n. replica_fits.Leads m.before (replica_inputs.input_of n event) outs m.after) number m.leads in
+        let leads : replica_fits.HistoryStaysRight m.before input outs m.after = subst (λ n. replica_fits.HistoryStaysRight m.before (replica_inputs.input_of n event) outs m.after) number m.leads in
         let led : replica_fits.Fits c m.after (after_entries entries (input ∷ history_of p trace)) =
         subst (λ n. replica_fits.Fits c m.after (after_event n input outs (history_of p trace))) number (leads c (history_of p trace) fit) in
         let got : get_or new p e ≡ m.after = ap (λ xs. get_or xs p e) m.becomes ∙ get_or-set_same rs p m.after e within in

@@ -17,16 +17,16 @@ use Rattle.schedule_text.specs.StepView.{step_of}
 use Rattle.schedule_world.specs.declared.report.Report.{Report}
 use Rattle.schedule_world.specs.declared.stage.Seat.{Seat}
 use Rattle.schedule_world.specs.declared.stage.Stage.{Stage}
-use Rattle.schedule_world.specs.Stages.{IsSeated, Stands, At, acceptance_of}
+use Rattle.schedule_world.specs.Stages.{IsSeated, StageIsAt, At, acceptance_of}
 use Rattle.schedule_world.specs.Reporting.{IsReportOf}
-use Rattle.schedule_world.specs.Reports.{Tells, StopsHere}
+use Rattle.schedule_world.specs.Reports.{ReportIsRight, StopsHere}
 use Rattle.schedule_world.proofs.Attending.{are_replicas, replica_below}
 use Rattle.schedule_world.proofs.Standing.{client_within, client_of}
 use Rattle.schedule_world.proofs.Reached.{reaches_end}
 use Rattle.schedule_world.proofs.Stopping.{only_these, parties_ascend}
 use Rattle.schedule_world.proofs.Taking.{one_of_them}
 
-module _ (c : Configuration) (s : Stage) (seated : IsSeated c s) (w : World) (st : Stands c w s) where
+module _ (c : Configuration) (s : Stage) (seated : IsSeated c s) (w : World) (st : StageIsAt c w s) where
   client : (k : ℕ) → is_correct_client c (256 + k) ≡ true → IsClient c (256 + k) (history_of (256 + k) w.past)
   client k h =
       let within = client_within c s k seated h in
@@ -52,10 +52,10 @@ module _ (c : Configuration) (s : Stage) (seated : IsSeated c s) (w : World) (st
     events = st.orderly.events;
   }
 
-shown : (c : Configuration) (s : Stage) (w : World) (report : Report) → Stands c w s → IsReportOf c s report → reverse report.trace.items ≡ w.past
+shown : (c : Configuration) (s : Stage) (w : World) (report : Report) → StageIsAt c w s → IsReportOf c s report → reverse report.trace.items ≡ w.past
 shown c s w report st of = ap (λ v. reverse v.items) of.trace ∙ st.shows.past
 
-pub tells : (c : Configuration) (steps : List Step) (s : Stage) (report : Report) → IsSeated c s → At c (map step_of steps) [] s → IsReportOf c s report → Tells c steps report
+pub tells : (c : Configuration) (steps : List Step) (s : Stage) (report : Report) → IsSeated c s → At c (map step_of steps) [] s → IsReportOf c s report → ReportIsRight c steps report
 tells c steps s report seated at of =
     let same : reverse report.trace.items ≡ at.world.past = shown c s at.world report at.stands of in
     let run : IsRun c at.world.past = is_run c s seated at.world at.stands in
@@ -71,7 +71,7 @@ tells c steps s report seated at of =
     }
 
 pub stops_here : (c : Configuration) (steps : List Step) (n : ℕ) (s : Stage) (step : Step) (report : Report) → IsSeated c s → At c (map step_of (take n steps)) [] s → slice_get steps n ≡ Some step
-    → ((w : World) → Stands c w s → IsAllowed c w (step_of step) → ⊥) → IsReportOf c s report → StopsHere c steps n report
+    → ((w : World) → StageIsAt c w s → IsAllowed c w (step_of step) → ⊥) → IsReportOf c s report → StopsHere c steps n report
 stops_here c steps n s step report seated at is refused of =
     let same : reverse report.trace.items ≡ at.world.past = shown c s at.world report at.stands of in
     record {

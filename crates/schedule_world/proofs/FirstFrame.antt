@@ -91,8 +91,8 @@ first_frame_may_come c (first ∷ []) k p op before correct to same none stops =
 first_frame_may_come c (first ∷ second ∷ rest) k p op before correct to same none stops =
     first_frame c k p op (trace_of before) correct to (stops.world, goes) refused only
   where
-    goes : schedules.Goes c schedules.new_world (calls k op ∷ []) (reverse (trace_of before)) stops.world
-    goes = subst (λ x. schedules.Goes c schedules.new_world (x ∷ []) (reverse (trace_of before)) stops.world) (ap (first_of (deliver 0 p)) same) stops.goes
+    goes : schedules.StepsLead c schedules.new_world (calls k op ∷ []) (reverse (trace_of before)) stops.world
+    goes = subst (λ x. schedules.StepsLead c schedules.new_world (x ∷ []) (reverse (trace_of before)) stops.world) (ap (first_of (deliver 0 p)) same) stops.goes
 
     step_is : step_of stops.step ≡ deliver 0 p
     step_is = ap step_of (some_injective stops.step second (sym stops.is_step)) ∙ ap (second_of (deliver 0 p)) same

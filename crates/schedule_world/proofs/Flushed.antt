@@ -11,7 +11,7 @@ use Rattle.protocol.specs.System.Schedule.Step.{flush}
 use Rattle.protocol.proofs.Words.Options.{some_injective, or_else_cases}
 use Rattle.schedule_world.specs.declared.stage.Stage.{Stage}
 use Rattle.schedule_world.specs.Pooled.{HasBytes, IsNext, IsServed, noted}
-use Rattle.schedule_world.specs.Stages.{Stands, IsStanding, At, with_entries, acceptance_of}
+use Rattle.schedule_world.specs.Stages.{StageIsAt, IsStanding, At, with_entries, acceptance_of}
 use Rattle.schedule_world.specs.Moving.{Behind, Comes, Delivers, LeadsBy}
 use Rattle.schedule_world.specs.Reaching.{Within}
 use Rattle.schedule_world.proofs.Pools.{pool_bytes, pool_forgets, pool_next, pool_served}
@@ -32,7 +32,7 @@ delivers c old mid new frame p bytes has forgets trace accepted rs seats comes w
     v : World
     v = record w { delivered = (frame, p) ∷ w.delivered }
 
-    stands : Stands c v mid
+    stands : StageIsAt c v mid
     stands = record {
       shows = record {
         past = ap (λ (x : _). reverse x.items) trace ∙ st.shows.past;

@@ -47,7 +47,7 @@ moves_client seats i k before after event outs same within is number calls leads
 
 pub makes_call : (seats : List Seat) (i k : ℕ) (before after : Seat) (op : Operation) (timestamp : ℕ) (outs : List Output) → i ≡ k → k < length seats → before ≡ get_or seats i before
     → after.client.number ≡ before.client.number → timestamp ≡ suc before.calls → after.calls ≡ timestamp
-    → (is_some before.client.call ≡ false → client_steps.Leads before.client (Invoke before.client.number (suc before.client.calls) op) outs after.client)
+    → (is_some before.client.call ≡ false → client_steps.HistoryStaysRight before.client (Invoke before.client.number (suc before.client.calls) op) outs after.client)
     → client_steps.SendsAsMeant before.client outs → (is_some before.client.call ≡ false → after.client.stopped ≡ true → outs ≡ [])
     → Calls seats k op timestamp outs (set seats i after)
 makes_call seats i k before after op timestamp outs same within is number next calls leads meant silent = record {

@@ -7,9 +7,9 @@ use Rattle.tuple_codec.specs.Operations.{Operation}
 use Rattle.protocol.specs.System.Configuration.{Configuration}
 use Rattle.protocol.specs.System.Trace.{Entry, is_output}
 use Rattle.protocol.specs.System.Trace.Entry.{Invoke, Got, Tick}
-use Rattle.protocol.specs.System.Schedule.{Step, Made, World, Goes, new_world, with_entry, with_frame, sealed_bytes, signed_bytes, pending, IsAllowed}
+use Rattle.protocol.specs.System.Schedule.{Step, Made, World, StepsLead, new_world, with_entry, with_frame, sealed_bytes, signed_bytes, pending, IsAllowed}
 use Rattle.protocol.specs.System.Schedule.Step.{calls, deliver, feed, seal, sign, ticks, flush}
-use Rattle.protocol.specs.System.Schedule.Goes.{ends, gives, called, delivers, gets, ticked, seals, signs, flushes, flushed}
+use Rattle.protocol.specs.System.Schedule.StepsLead.{ends, gives, called, delivers, gets, ticked, seals, signs, flushes, flushed}
 use Rattle.schedule_world.specs.Reaching.{onto, Within, Reaches}
 
 done_next : (done : List Step) (step : Step) (rest : List Step) → (done ++ step ∷ []) ++ rest ≡ done ++ step ∷ rest
@@ -39,8 +39,8 @@ module _ (c : Configuration) (done : List Step) where
   -- ---- inputs
 
   module _ (w : World) (h : Reaches c done [] w) where
-    moved : (step : Step) (rest : List Step) (entries : List Entry) (v : World) → Goes c new_world (done ++ step ∷ rest) entries v → Goes c new_world ((done ++ step ∷ []) ++ rest) entries v
-    moved step rest entries v g = subst (λ (xs : List Step). Goes c new_world xs entries v) (sym (done_next done step rest)) g
+    moved : (step : Step) (rest : List Step) (entries : List Entry) (v : World) → StepsLead c new_world (done ++ step ∷ rest) entries v → StepsLead c new_world ((done ++ step ∷ []) ++ rest) entries v
+    moved step rest entries v g = subst (λ (xs : List Step). StepsLead c new_world xs entries v) (sym (done_next done step rest)) g
 
     pub within_call : (client timestamp : ℕ) (op : Operation) → IsAllowed c w (calls client op) → Within c (done ++ calls client op ∷ []) [] (with_entry c w (Invoke client timestamp op))
     within_call client timestamp op a rest entries v g = moved (calls client op) rest _ v (h (calls client op ∷ rest) (Invoke client timestamp op ∷ entries) v refl (called a g))
@@ -68,8 +68,8 @@ module _ (c : Configuration) (done : List Step) where
     -- ---- the end
 
     -- the steps done lead to the world, as a report promises
-    pub reaches_end : Goes c new_world done (reverse w.past) w
-    reaches_end = subst (λ (entries : List Entry). Goes c new_world done entries w) (onto_reverse w.past [] ∙ append-nil (reverse w.past)) (subst (λ (xs : List Step). Goes c new_world xs (onto w.past []) w) (append-nil done) (h [] [] w tt ends))
+    pub reaches_end : StepsLead c new_world done (reverse w.past) w
+    reaches_end = subst (λ (entries : List Entry). StepsLead c new_world done entries w) (onto_reverse w.past [] ∙ append-nil (reverse w.past)) (subst (λ (xs : List Step). StepsLead c new_world xs (onto w.past []) w) (append-nil done) (h [] [] w tt ends))
 
   module _ (w : World) (h : Reaches c done (flush ∷ []) w) where
     pub within_flush : (frame party : ℕ) (made : Made) → pending c w ≡ Some (frame, party) → IsAllowed c w (deliver frame party) → slice_get w.frames frame ≡ Some made
@@ -78,4 +78,4 @@ module _ (c : Configuration) (done : List Step) where
 
     pub reaches_flushed : pending c w ≡ None → Reaches c (done ++ flush ∷ []) [] w
     reaches_flushed none rest entries v i g =
-        subst (λ (xs : List Step). Goes c new_world xs (onto w.past entries) v) (sym (done_next done flush rest)) (h rest entries v i (flushed i none g))
+        subst (λ (xs : List Step). StepsLead c new_world xs (onto w.past entries) v) (sym (done_next done flush rest)) (h rest entries v i (flushed i none g))

@@ -19,7 +19,7 @@ use Rattle.client_cert.specs.Steps as client_steps
 use Rattle.client_cert.specs.declared.client.Event.{Event as ClientEvent}
 use Rattle.schedule_world.specs.declared.stage.Seat.{Seat}
 use Rattle.schedule_world.specs.declared.stage.Stage.{Stage}
-use Rattle.schedule_world.specs.Stages.{IsSeated, Attend, Stands, with_entries, acceptance_of}
+use Rattle.schedule_world.specs.Stages.{IsSeated, Attend, StageIsAt, with_entries, acceptance_of}
 use Rattle.schedule_world.specs.Pooled.{added}
 use Rattle.schedule_world.specs.Pooling.{IsPool}
 use Rattle.schedule_world.specs.Moving.{Adds, AddsAll, AddsAllIfMeant, AreOf, KeepsParties, KeepsRecords, Moves, MovesClient, Calls, Behind, Comes, CallComes, Frames}
@@ -70,7 +70,7 @@ outputs_of p (e ∷ entries) of = (of.0.1, outputs_of p entries of.1)
 -- ---- an event
 
 pub behind_event : (c : Configuration) (w : World) (old mid late new : Stage) (p : ℕ) (input : Entry) (entries : List Entry)
-    → Stands c w old → is_correct c p ≡ true → party_of input ≡ p → is_output input ≡ false
+    → StageIsAt c w old → is_correct c p ≡ true → party_of input ≡ p → is_output input ≡ false
     → KeepsRecords old mid → Adds c input mid late → KeepsParties mid late → AddsAll c entries late new → AreOf p entries → KeepsParties late new
     → Attend c (after_entries entries (input ∷ w.past)) mid.replicas.items mid.seats.items → Behind c (with_entry c w input) new
 behind_event c w old mid late new p input entries st correct at in_first records adds first all of last attend = record {

@@ -19,7 +19,7 @@ use Rattle.replica.specs.State.{ReplicaData, has_stopped}
 use Rattle.replica.proofs.Prompt.{replicas_are_prompt}
 use Rattle.schedule_world.specs.declared.stage.Seat.{Seat}
 use Rattle.schedule_world.specs.declared.stage.Stage.{Stage}
-use Rattle.schedule_world.specs.Stages.{IsSeated, Stands}
+use Rattle.schedule_world.specs.Stages.{IsSeated, StageIsAt}
 use Rattle.schedule_world.specs.Stopped.{is_stopped_replica, is_stopped_client, stopped_replicas, stopped_clients, stopped_parties}
 use Rattle.schedule_world.proofs.Attending.{replica_below}
 use Rattle.schedule_world.proofs.Meant.{pairs_from}
@@ -158,7 +158,7 @@ at_place test xs i d within =
 
 -- ---- no others have stopped
 
-module _ (c : Configuration) (s : Stage) (seated : IsSeated c s) (w : World) (st : Stands c w s) where
+module _ (c : Configuration) (s : Stage) (seated : IsSeated c s) (w : World) (st : StageIsAt c w s) where
   abbrev rs : List ReplicaData
   rs = s.replicas.items
 

@@ -12,7 +12,7 @@ use Rattle.protocol.specs.System.Schedule.Step.{calls, deliver, feed, seal, sign
 use Rattle.protocol.specs.Client.RightClient.{open_call}
 use Rattle.schedule_world.specs.declared.stage.Seat.{Seat}
 use Rattle.schedule_world.specs.declared.stage.Stage.{Stage}
-use Rattle.schedule_world.specs.Stages.{IsSeated, Stands}
+use Rattle.schedule_world.specs.Stages.{IsSeated, StageIsAt}
 use Rattle.schedule_world.specs.Moving.{Comes, CallComes, Delivers, Frames, LeadsBy}
 use Rattle.schedule_world.proofs.Pools.{pool_length}
 use Rattle.schedule_world.proofs.Reached.{within_call, within_delivery, within_bytes, within_tick, reaches_sealed, reaches_signed}
@@ -37,7 +37,7 @@ pub leads_seal : (c : Configuration) (old new : Stage) (sender : ℕ) (receivers
     → Frames c bytes receivers old new → LeadsBy c (seal sender receivers body) old new
 leads_seal c old new sender receivers body bytes allowed are frames done at = record {
   world = with_frame at.world (sealed_bytes c sender receivers body) receivers;
-  stands = subst (λ b. Stands c (with_frame at.world b receivers) new) are (frames at.world at.stands);
+  stands = subst (λ b. StageIsAt c (with_frame at.world b receivers) new) are (frames at.world at.stands);
   reaches = reaches_sealed c done at.world at.reaches sender receivers body (allowed at.world);
 }
 
@@ -45,7 +45,7 @@ pub leads_sign : (c : Configuration) (old new : Stage) (replica leaf : ℕ) (rec
     → Frames c bytes receivers old new → LeadsBy c (sign replica leaf receivers body) old new
 leads_sign c old new replica leaf receivers body bytes allowed are frames done at = record {
   world = with_frame at.world (signed_bytes c replica leaf body) receivers;
-  stands = subst (λ b. Stands c (with_frame at.world b receivers) new) are (frames at.world at.stands);
+  stands = subst (λ b. StageIsAt c (with_frame at.world b receivers) new) are (frames at.world at.stands);
   reaches = reaches_signed c done at.world at.reaches replica leaf receivers body (allowed at.world);
 }
 
@@ -64,20 +64,20 @@ is_open None e n = absurd cc
 is_open (Some x) e n = cc
 
 open_is : (c : Configuration) (s : Stage) (w : World) (k : ℕ) → IsSeated c s → is_correct_client c (256 + k) ≡ true → (b : Bool) → ((d : Seat) → b ≡ is_some (get_or s.seats.items k d).client.call)
-    → Stands c w s → is_some (open_call (history_of (256 + k) w.past)) ≡ b
+    → StageIsAt c w s → is_some (open_call (history_of (256 + k) w.past)) ≡ b
 open_is c s w k seated correct b closed st =
     let d = one_of_them s.seats.items k (client_within c s k seated correct) in
     (st.attend.clients k d correct).0.open_is ∙ sym (closed d)
 
 pub call_may : (c : Configuration) (s : Stage) (k : ℕ) (op : Operation) → IsSeated c s → is_correct_client c (256 + k) ≡ true → ((d : Seat) → false ≡ is_some (get_or s.seats.items k d).client.call)
-    → IsOperation op → (w : World) → Stands c w s → IsAllowed c w (calls k op)
+    → IsOperation op → (w : World) → StageIsAt c w s → IsAllowed c w (calls k op)
 call_may c s k op seated correct closed right w st = (correct, is_none (open_call (history_of (256 + k) w.past)) (open_is c s w k seated correct false closed st), right)
 
 pub call_may_not : (c : Configuration) (s : Stage) (k : ℕ) (op : Operation) → IsSeated c s → is_correct_client c (256 + k) ≡ true → ((d : Seat) → true ≡ is_some (get_or s.seats.items k d).client.call)
-    → (w : World) → Stands c w s → IsAllowed c w (calls k op) → ⊥
+    → (w : World) → StageIsAt c w s → IsAllowed c w (calls k op) → ⊥
 call_may_not c s k op seated correct closed w st may = is_open (open_call (history_of (256 + k) w.past)) (open_is c s w k seated correct true closed st) may.1
 
-pub leads_call : (c : Configuration) (old new : Stage) (k : ℕ) (op : Operation) → ((w : World) → Stands c w old → IsAllowed c w (calls k op)) → CallComes c k op old new → LeadsBy c (calls k op) old new
+pub leads_call : (c : Configuration) (old new : Stage) (k : ℕ) (op : Operation) → ((w : World) → StageIsAt c w old → IsAllowed c w (calls k op)) → CallComes c k op old new → LeadsBy c (calls k op) old new
 leads_call c old new k op allowed comes done at =
     let a = allowed at.world at.stands in
     let d = comes at.world at.stands a in
@@ -91,5 +91,5 @@ client_may_not c k op wrong w may = both_ways (is_correct_client c (256 + k)) wr
 pub party_may_not : (c : Configuration) (p : ℕ) → is_correct c p ≡ false → is_correct c p ≡ true → ⊥
 party_may_not c p wrong right = both_ways (is_correct c p) wrong right
 
-pub frame_may_not : (c : Configuration) (s : Stage) (w : World) (frame : ℕ) → (frame < length s.pool → ⊥) → Stands c w s → frame < length w.frames → ⊥
+pub frame_may_not : (c : Configuration) (s : Stage) (w : World) (frame : ℕ) → (frame < length s.pool → ⊥) → StageIsAt c w s → frame < length w.frames → ⊥
 frame_may_not c s w frame none st there = let long = pool_length c w s.pool st.shows.frames in none (omega (arith, long, there))

@@ -25,7 +25,7 @@ use Rattle.wire.specs.Lists.{Each}
 use Rattle.schedule_world.specs.declared.stage.Seat.{Seat}
 use Rattle.schedule_world.specs.declared.stage.Stage.{Stage}
 use Rattle.schedule_world.specs.Pooled.{Frame, IsNext}
-use Rattle.schedule_world.specs.Stages.{Shows, Stands, At, with_entries}
+use Rattle.schedule_world.specs.Stages.{Shows, StageIsAt, At, with_entries}
 
 -- ---- parts that stay the same
 
@@ -128,7 +128,8 @@ pub record Calls (old : List Seat) (k : ℕ) (op : Operation) (timestamp : ℕ) 
   pub timestamp_is : timestamp ≡ suc before.calls
   pub calls : after.calls ≡ timestamp
   pub leads : is_some before.client.call ≡ false
-      → client_steps.Leads before.client (Invoke before.client.number (suc before.client.calls) op) outs after.client
+      → client_steps.HistoryStaysRight before.client
+      (Invoke before.client.number (suc before.client.calls) op) outs after.client
   pub meant : client_steps.SendsAsMeant before.client outs
   pub silent : is_some before.client.call ≡ false → after.client.stopped ≡ true → outs ≡ []
 
@@ -152,28 +153,28 @@ WaitsFirst pool next = IsNext pool next.0 (party_number next.1)
 pub record Behind (c : Configuration) (w : World) (s : Stage) : Type 0 where
   pub outputs : List Entry
   pub are : AreOutputs outputs
-  pub stands : Stands c (with_entries c w outputs) s
+  pub stands : StageIsAt c (with_entries c w outputs) s
 
 -- the party takes the input, and then gives outputs
 abbrev pub Comes : Configuration → Entry → Stage → Stage → Type 0
-Comes c input old new = (w : World) → Stands c w old → Behind c (with_entry c w input) new
+Comes c input old new = (w : World) → StageIsAt c w old → Behind c (with_entry c w input) new
 
 -- the party takes the frame, and then gives outputs
 abbrev pub Delivers : Configuration → ℕ → ℕ → Stage → Stage → Type 0
 Delivers c frame party old new =
-    (w : World) → Stands c w old
+    (w : World) → StageIsAt c w old
     → (made : Made) × (slice_get w.frames frame ≡ Some made)
     × Behind c (record (with_entry c w (Got party made.bytes)) { delivered = (frame, party) ∷ w.delivered }) new
 
 -- the client calls if it may, and then gives outputs
 abbrev pub CallComes : Configuration → ℕ → Operation → Stage → Stage → Type 0
 CallComes c k op old new =
-    (w : World) → Stands c w old → IsAllowed c w (calls k op)
+    (w : World) → StageIsAt c w old → IsAllowed c w (calls k op)
     → (timestamp : ℕ) × Behind c (with_entry c w (Invoke k timestamp op)) new
 
 -- a frame is made for these receivers
 abbrev pub Frames : Configuration → List ℕ → List ℕ → Stage → Stage → Type 0
-Frames c bytes receivers old new = (w : World) → Stands c w old → Stands c (with_frame w bytes receivers) new
+Frames c bytes receivers old new = (w : World) → StageIsAt c w old → StageIsAt c (with_frame w bytes receivers) new
 
 abbrev pub FramesFor : Configuration → List ℕ → List Party → Stage → Stage → Type 0
 FramesFor c bytes receivers old new = Frames c bytes (map party_number receivers) old new
@@ -194,4 +195,4 @@ LeadsBy c step old new = (done : List Step) → At c done [] old → At c (done 
 -- the step was taken; or it is not allowed, and nothing happened
 abbrev pub Takes : Configuration → Step → Stage → Stage → Bool → Type 0
 Takes c step old new true = LeadsBy c step old new
-Takes c step old new false = (new ≡ old) × ((w : World) → Stands c w old → IsAllowed c w step → ⊥)
+Takes c step old new false = (new ≡ old) × ((w : World) → StageIsAt c w old → IsAllowed c w step → ⊥)

@@ -6,7 +6,7 @@ use Rattle.terms.specs.declared.parties.Party.{Party}
 use Rattle.protocol.specs.System.Configuration.{Configuration}
 use Rattle.protocol.specs.System.Trace.{Entry, Unforged}
 use Rattle.protocol.specs.System.Texts.{NoCollision}
-use Rattle.protocol.specs.System.Schedule.{World, Goes, Feeds, IsAllowed, new_world, acceptances}
+use Rattle.protocol.specs.System.Schedule.{World, StepsLead, Feeds, IsAllowed, new_world, acceptances}
 use Rattle.protocol.specs.System.Run.{IsRun, OnlyTheseStopped}
 use Rattle.protocol.specs.Space.Linear.{points, IsLinear}
 use Rattle.points.specs.PointView.{items_of}
@@ -28,7 +28,7 @@ numbers_of parties = map party_number parties.items
 -- The report is right. The steps feed its trace, which is a run. Only the parties that it names as stopped did stop:
 -- each other correct party does all that it owes. Its acceptances, with their positions, and its points are those of
 -- the trace. If the trace is unforged and its texts do not collide, the points linearize it.
-pub record Tells (c : Configuration) (steps : List Step) (report : Report) : Type 0 where
+pub record ReportIsRight (c : Configuration) (steps : List Step) (report : Report) : Type 0 where
   pub feeds : Feeds c (map step_of steps) (trace_of report)
   pub run : IsRun c (trace_of report)
   pub stopped : OnlyTheseStopped c (numbers_of report.stopped) (trace_of report)
@@ -41,13 +41,13 @@ pub record Tells (c : Configuration) (steps : List Step) (report : Report) : Typ
 -- The report is right for a run of the steps before this index. The step of this index is not allowed in the world to
 -- which they led in that run.
 pub record StopsHere (c : Configuration) (steps : List Step) (n : ℕ) (before : Report) : Type 0 where
-  pub tells : Tells c (take n steps) before
+  pub tells : ReportIsRight c (take n steps) before
   pub world : World
-  pub goes : Goes c new_world (map step_of (take n steps)) (reverse (trace_of before)) world
+  pub goes : StepsLead c new_world (map step_of (take n steps)) (reverse (trace_of before)) world
   pub step : Step
   pub is_step : slice_get steps n ≡ Some step
   pub refused : IsAllowed c world (step_of step) → ⊥
 
-abbrev pub TellsFault : Configuration → List Step → RunFault → Type 0
-TellsFault c steps (faults.BadSchedule n before) = StopsHere c steps n before
-TellsFault c steps faults.NoMemory = ⊤
+abbrev pub FaultIsRight : Configuration → List Step → RunFault → Type 0
+FaultIsRight c steps (faults.BadSchedule n before) = StopsHere c steps n before
+FaultIsRight c steps faults.NoMemory = ⊤

@@ -78,17 +78,17 @@ pub record IsOrderly (c : Configuration) (trace : List Entry) : Type 0 where
   pub events : Always OutputFollows trace
 
 -- The stage stands at this world: it shows it, its parties fit their histories, and the trace is orderly.
-pub record Stands (c : Configuration) (w : World) (s : Stage) : Type 0 where
+pub record StageIsAt (c : Configuration) (w : World) (s : Stage) : Type 0 where
   pub shows : Shows c w s
   pub attend : Attend c w.past s.replicas.items s.seats.items
   pub orderly : IsOrderly c w.past
 
 -- The stage stands at some world.
 abbrev pub IsStanding : Configuration → Stage → Type 0
-IsStanding c s = (w : World) × Stands c w s
+IsStanding c s = (w : World) × StageIsAt c w s
 
 -- The stage stands at a world to which the steps done lead, with these steps done in part.
 pub record At (c : Configuration) (done left : List Step) (s : Stage) : Type 0 where
   pub world : World
-  pub stands : Stands c world s
+  pub stands : StageIsAt c world s
   pub reaches : Reaches c done left world

@@ -17,12 +17,12 @@
 //!
 //! - `run` plays steps on a `Stage` (`src/stage.rt`): the correct replicas and clients, the trace, and a `Pool` of
 //!   frames. Each frame has the correct receivers that didn't get it yet, and shares its bytes with the trace.
-//! - A step either moves the stage as the definitions' `World` moves (`Takes` in `specs/Moving.antt`, over `Goes` of
-//!   the protocol's `Schedule.antt`), or may not come (`IsAllowed`).
+//! - A step either moves the stage as the definitions' `World` moves (`Takes` in `specs/Moving.antt`, over `StepsLead`
+//!   of the protocol's `Schedule.antt`), or may not come (`IsAllowed`).
 //! - Beside the stage lies a tree of keys for each faulty replica that has signed (`ReplicaKeys` in `src/making.rt`).
 //! - `IsStanding` ties the stage to its trace: each correct replica and each correct client fits its part of the trace.
-//!   A party that gives outputs hands that on by its own contract (`Leads`). So nothing here looks into a replica or a
-//!   client.
+//!   A party that gives outputs hands that on by its own contract (`HistoryStaysRight`). So nothing here looks into a
+//!   replica or a client.
 //! - `flush` takes frames by number and receivers by party number, from the place where it stopped before. So it is
 //!   linear in its deliveries.
 #![tactic(auto)]

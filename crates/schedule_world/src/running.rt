@@ -8,7 +8,7 @@ ghost use Rattle.protocol.specs.System.Schedule.Step.{deliver as deliver_step, f
 ghost use Rattle.schedule_text.specs.StepView.{step_of};
 ghost use Rattle.schedule_world.specs.Moving.{Takes, seal_of, sign_of};
 ghost use Rattle.schedule_world.specs.Reporting.{IsReportOf};
-ghost use Rattle.schedule_world.specs.Reports.{Tells, TellsFault};
+ghost use Rattle.schedule_world.specs.Reports.{ReportIsRight, FaultIsRight};
 ghost use Rattle.schedule_world.specs.Stages.{IsSeated, IsStanding};
 
 use crate::making::{ReplicaKeys, seal_bytes, sign_bytes};
@@ -68,8 +68,8 @@ impl From<NoMemory> for RunFault {
 /// BadSchedule with the first step that is not allowed and the report of the steps before it; NoMemory if memory runs
 /// out.
 pub fn run(alloc: Global, config: &Config, steps: &[Step]) -> Result<Report, RunFault>
-    ensures tells { IfOk result (Tells config.now steps.now) }
-    ensures stops { IfErr result (TellsFault config.now steps.now) }
+    ensures tells { IfOk result (ReportIsRight config.now steps.now) }
+    ensures stops { IfErr result (FaultIsRight config.now steps.now) }
 {
     let mut stage = Stage::new(alloc, config)?;
     let mut keys = Vec::new(alloc);

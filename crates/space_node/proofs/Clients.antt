@@ -14,7 +14,7 @@ use Rattle.journal.specs.Histories.{IsRight}
 use Rattle.journal.specs.Parts.{Part, longer_part}
 use Rattle.client_cert.specs.State.{ClientState, IsSpent}
 use Rattle.client_cert.specs.Fits.{Fits}
-use Rattle.client_cert.specs.Steps.{Leads}
+use Rattle.client_cert.specs.Steps.{HistoryStaysRight}
 use Rattle.tuple_codec.specs.OperationView.{outcome_of}
 use Rattle.space_node.specs.Calls.{AcceptNothing, Begins, Comes, IsQuiet, MakesTurn, TurnsTo}
 use Rattle.space_node.specs.declared.turn.Turn.{Turn}
@@ -106,7 +106,7 @@ module _ (c : Configuration) (id calls : ℕ) (client later : ClientState) (shar
 
   module _ (timestamp : ℕ) (op : Operation) (outs : List Output) (es : List Entry) (next : timestamp ≡ calls + 1)
       (are : es ≡ Invoke id timestamp op ∷ map (entry_of (256 + id)) outs) where
-    pub fits_invoke : Leads client (Invoke client.number (suc client.calls) op) outs later → Fits c later (after_entries es share.history)
+    pub fits_invoke : HistoryStaysRight client (Invoke client.number (suc client.calls) op) outs later → Fits c later (after_entries es share.history)
     fits_invoke leads =
         let when : suc client.calls ≡ timestamp = omega (arith, fits.last_is, seats.calls_are, next) in
         subst (λ (xs : List Entry). Fits c later (after_entries xs share.history)) (sym are)

@@ -10,7 +10,7 @@ use Rattle.wire.specs.Words.{said}
 use Rattle.protocol.specs.System.Trace.{Entry, Once, Always, Has}
 use Rattle.protocol.specs.System.Trace.Entry.{Invoke, Sent}
 use Rattle.protocol.specs.Replica.Certificates.{logged, target, is_in_marks, low, Prepared, proposal, taken, batch_begun, view, entry_proposal, change_from}
-use Rattle.protocol.specs.Replica.RightReplica.{Point, Leaves, MaySay, MayViewChange, IsNewViewChange, SendsBytes}
+use Rattle.protocol.specs.Replica.RightReplica.{Point, HistoryReaches, MaySay, MayViewChange, IsNewViewChange, SendsBytes}
 use Rattle.protocol.proofs.Words.Temporal.{once_weaker, once_always, once_order, once_stays, once_stays_from}
 use Rattle.protocol.proofs.Words.Options.{or_else_cases, given_once, some_injective}
 use Rattle.protocol.proofs.Words.Linking.{Speaks}
@@ -24,7 +24,7 @@ use Rattle.protocol.proofs.Agreement.Offers.{entry_within}
 
 pub record NewChangeAt (c : Configuration) (s : ℕ) (vc : ViewChangeData) (past : List Entry) (e : Entry) : Type 0 where
   pub point : Point
-  pub leaves : Leaves c s past point
+  pub leaves : HistoryReaches c s past point
   pub is_new : IsNewViewChange c s past point vc
   pub says : Speaks (changing s vc) past e
 

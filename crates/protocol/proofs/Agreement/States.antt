@@ -14,7 +14,7 @@ use Rattle.protocol.specs.Replica.Selection.{is_quorum, changes_of, passes_by, c
 use Rattle.std.specs.List.{list_any}
 use Rattle.protocol.specs.Replica.State.{State, IsReplicatedState, opening, execute, after_batches, page_text, root_of}
 use Rattle.protocol.specs.Replica.Transfers.{in_place}
-use Rattle.protocol.specs.Replica.RightReplica.{Point, first_point, Leaves, SafeReplica, May, MaySay, MayCheckpoint, MayInstall, Moves, GetsPage, StartsAt, kept_states, checkpoint_of, waiting_after, HadQuorum, executed_point}
+use Rattle.protocol.specs.Replica.RightReplica.{Point, first_point, HistoryReaches, SafeReplica, May, MaySay, MayCheckpoint, MayInstall, Moves, GetsPage, StartsAt, kept_states, checkpoint_of, waiting_after, HadQuorum, executed_point}
 use Rattle.protocol.specs.System.Texts.{NoCollision, IsText, IsUnder, InstallsOver, HasPart, AreFirst}
 use Rattle.protocol.specs.System.Texts.IsText.{part, page_of, under, installed}
 use Rattle.protocol.specs.Space.Linear.{reached}
@@ -177,7 +177,7 @@ pub record Good (c : Configuration) (trace : List Entry) (point : Point) : Type 
   pub snapshots : (st : State) → Has (λ x. x ≡ st) point.snapshots → IsStateOf c trace st
 
 abbrev pub GoodHere : Configuration → List Entry → ℕ → List Entry → Type 0
-GoodHere c trace r past = (point : Point) → Leaves c r past point → Good c trace point
+GoodHere c trace r past = (point : Point) → HistoryReaches c r past point → Good c trace point
 
 -- at each point of the history
 abbrev pub GoodAll : Configuration → List Entry → ℕ → List Entry → Type 0
@@ -381,7 +381,7 @@ module _ (c : Configuration) (setting : IsConfiguration c) (trace : List Entry) 
 
   good_step : (pre ys : List Entry) (e : Entry) → trace ≡ pre ++ e ∷ ys → (r : ℕ) → is_correct_replica c r ≡ true → party_of e ≡ r
       → ((s : ℕ) → is_correct_replica c s ≡ true → GoodAll c trace s (history_of s ys))
-      → (old point : Point) → Leaves c r (history_of r ys) old → Good c trace old → May c r (history_of r ys) old e → Moves c r (history_of r ys) old e point → Good c trace point
+      → (old point : Point) → HistoryReaches c r (history_of r ys) old → Good c trace old → May c r (history_of r ys) old e → Moves c r (history_of r ys) old e point → Good c trace point
   good_step pre ys (Got p bytes) is r correct own good old point leaves was may move = good_moved old point (record old { ran = []; waiting = waiting_after c r old bytes }) move refl refl was
   good_step pre ys (Tick p) is r correct own good old point leaves was may move = good_moved old point (record old { ran = [] }) move refl refl was
   good_step pre ys (Sent p bytes) is r correct own good old point leaves was may move = subst (Good c trace) (sym move) was

@@ -9,7 +9,7 @@ use Rattle.signing.specs.Heard.{heard}
 use Rattle.protocol.specs.System.Trace.{Entry, party_of, history_of, Once, Always, Unforged, Hears}
 use Rattle.protocol.specs.System.Trace.Entry.{Invoke, Got, Sent}
 use Rattle.protocol.specs.Replica.Certificates.{proposal, logged, batch_from, are_genuine, prepare_from, vote_in, prepare_of, brought, counts_at}
-use Rattle.protocol.specs.Replica.RightReplica.{Point, Leaves, May, MaySay, MayPrepare, SafeReplica}
+use Rattle.protocol.specs.Replica.RightReplica.{Point, HistoryReaches, May, MaySay, MayPrepare, SafeReplica}
 use Rattle.protocol.specs.Laws.Histories.{AreReplicasSafe}
 use Rattle.protocol.proofs.Words.Temporal.{once_weaker, once_always, once_stays}
 use Rattle.protocol.proofs.Words.Options.{and_then_some, then_some_gives, given_stays, given_once, some_injective}
@@ -20,10 +20,10 @@ use Rattle.protocol.proofs.Words.Linking.{Speaks, heard_was_said}
 pub record RightAt (c : Configuration) (me : ℕ) (past : List Entry) (e : Entry) : Type 0 where
   pub point : Point
   pub own : party_of e ≡ me
-  pub leaves : Leaves c me past point
+  pub leaves : HistoryReaches c me past point
   pub may : May c me past point e
 
-pub right_always : (c : Configuration) (me : ℕ) (xs : List Entry) (point : Point) → Leaves c me xs point → Always (RightAt c me) xs
+pub right_always : (c : Configuration) (me : ℕ) (xs : List Entry) (point : Point) → HistoryReaches c me xs point → Always (RightAt c me) xs
 right_always c me [] point h = tt
 right_always c me (e ∷ past) point h = (record { point = h.0; own = h.2.own; leaves = h.1; may = h.2.may }, right_always c me past h.0 h.1)
 

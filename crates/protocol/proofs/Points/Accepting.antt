@@ -17,7 +17,7 @@ use Rattle.space.specs.Applying.{is_read_only, outcome}
 use Rattle.protocol.specs.Replica.State.{State, Ran, opening, tuples, kept_of, execute}
 use Rattle.reply_cache.specs.Replies.{Kept}
 use Rattle.reply_cache.proofs.Determining.{outcome_same}
-use Rattle.protocol.specs.Replica.RightReplica.{Leaves, MaySay, MayReply}
+use Rattle.protocol.specs.Replica.RightReplica.{HistoryReaches, MaySay, MayReply}
 use Rattle.protocol.specs.Client.RightClient.{SafeClient, OpenCall, open_call, last_call, Vote, latest, is_alike, count_alike, newest_vote, MayAccept, vote_of}
 use Rattle.protocol.specs.Laws.Histories.{ExecutesBatch}
 use Rattle.protocol.specs.Space.Linear.{batch_of, first_position, is_level, Invokes, Accepts}
@@ -178,7 +178,7 @@ pub embedded : (Q : List Entry → Entry → Type 0) (s : ℕ) (trace later past
 embedded Q s trace later past e is h = subst (λ (ys : List Entry). Once Q (history_of s ys)) (sym is) (once_history_later Q s later (e ∷ past) (once_history_more Q s e past h))
 
 reply_may : (c : Configuration) (s p t : ℕ) (mode : Mode) (number : ℕ) (answer : Outcome) (past : List Entry) (e : Entry) → RightAt c s past e → Speaks (record { sender = s; message = Reply p t mode number answer }) past e
-    → (point : RightReplica.Point) × Leaves c s past point × MayReply c s past point p t mode number answer
+    → (point : RightReplica.Point) × HistoryReaches c s past point × MayReply c s past point p t mode number answer
 reply_may c s p t mode number answer past (Sent q bytes) r h =
     let is = some_injective r.may.body (record { sender = s; message = Reply p t mode number answer }) (sym r.may.says ∙ h) in
     (r.point, r.leaves, subst (λ (x : Body). MaySay c s past r.point (Sent q bytes) bytes x.message) is r.may.say)
@@ -193,7 +193,7 @@ pub record Replied (c : Configuration) (trace : List Entry) (s p t : ℕ) (mode 
   pub is : history_of s trace ≡ later ++ entry ∷ past
   pub good : GoodAll c trace s past
   pub point : RightReplica.Point
-  pub leaves : Leaves c s past point
+  pub leaves : HistoryReaches c s past point
   pub may : MayReply c s past point p t mode number answer
 
 pub replied : (c : Configuration) (trace : List Entry) (s p t : ℕ) (mode : Mode) (number : ℕ) (answer : Outcome) → Run c trace → is_correct_replica c s ≡ true

@@ -15,7 +15,7 @@ use Rattle.protocol.specs.System.Trace.{Entry, party_of, Once, Has}
 use Rattle.protocol.specs.System.Trace.Entry.{Invoke, Got, Tick, Executed, Installed, Sent, Accepted}
 use Rattle.protocol.specs.Replica.State.{State, Call, Ran, opening, runs, run_call, call_in, call_of, run_frame, execute, ran_by, ran_in, kept_by, kept_of, last_time}
 use Rattle.reply_cache.specs.Replies.{Kept, Replies, last_of, with_reply}
-use Rattle.protocol.specs.Replica.RightReplica.{Leaves, May, Moves}
+use Rattle.protocol.specs.Replica.RightReplica.{HistoryReaches, May, Moves}
 use Rattle.protocol.specs.Laws.Histories.{ExecutesBatch}
 use Rattle.protocol.specs.Space.Linear.{Item, Placing, NoneTwice, ordered_point, ordered_points, first_position, batch_of, comes_before, insert_point, sorted}
 use Rattle.protocol.proofs.Words.Options.{and_then_some, some_injective}
@@ -126,7 +126,7 @@ ran_here c k st (frame ∷ frames) x h = go (call_of c frame) h (ran_here c k (r
 
 module _ (c : Configuration) (xs : List Entry) (run : Run c xs) (r : ℕ) (correct : is_correct_replica c r ≡ true) where
   pub rans_ran : (history : List Entry) → ((k : ℕ) (b : List ℕ) → Once (ExecutesBatch c k b) history → Once (ExecutesBatch c k b) xs) → GoodAll c xs r history
-      → (point : RightReplica.Point) → Leaves c r history point → (x : Ran) → Has (λ y. y ≡ x) point.ran → RanBy c xs opening 1 point.state.number (IsRun x)
+      → (point : RightReplica.Point) → HistoryReaches c r history point → (x : Ran) → Has (λ y. y ≡ x) point.ran → RanBy c xs opening 1 point.state.number (IsRun x)
   rans_ran [] emb good point leaves x h = absurd (subst (λ (p : RightReplica.Point). Has (λ y. y ≡ x) p.ran) leaves h)
   rans_ran (e ∷ past) emb good point leaves x h = go e leaves.2.own (λ k b u. emb k b (inl u)) leaves.2.may leaves.2.moves (rans_ran past (λ k b u. emb k b (inr u)) good.1 leaves.0 leaves.1 x)
     where

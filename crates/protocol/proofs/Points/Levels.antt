@@ -9,7 +9,7 @@ use Rattle.protocol.specs.System.Configuration.{Configuration, IsConfiguration, 
 use Rattle.protocol.specs.System.Trace.{Entry, party_of, history_of}
 use Rattle.protocol.specs.System.Trace.Entry.{Invoke, Executed, Installed, Accepted}
 use Rattle.protocol.specs.Replica.State.{execute}
-use Rattle.protocol.specs.Replica.RightReplica.{Leaves, May, Moves}
+use Rattle.protocol.specs.Replica.RightReplica.{HistoryReaches, May, Moves}
 use Rattle.protocol.specs.Space.Linear.{reached_at, reached, count_correct, has_reached, is_level}
 
 -- ---- how many are correct
@@ -127,7 +127,7 @@ reached_history r (e ∷ xs) = go (party_of e == r) refl (reached_history r xs)
     go true is below = ap (λ n. max (reached_at r e) n) below
     go false is below = let z = outside e is in omega arith
 
-pub number_reached : (c : Configuration) (r : ℕ) (xs : List Entry) (point : RightReplica.Point) → Leaves c r xs point → point.state.number ≡ reached xs r
+pub number_reached : (c : Configuration) (r : ℕ) (xs : List Entry) (point : RightReplica.Point) → HistoryReaches c r xs point → point.state.number ≡ reached xs r
 unfolding execute
 number_reached c r [] point h = ap (λ (x : RightReplica.Point). x.state.number) h
 number_reached c r (e ∷ past) point h = go e h.2.own h.2.may h.2.moves (number_reached c r past h.0 h.1)

@@ -13,7 +13,7 @@ use Rattle.protocol.specs.System.Trace.{Entry, history_of, Once, Always, Has}
 use Rattle.protocol.specs.System.Trace.Entry.{Invoke, Got, Tick, Executed, Installed, Sent, Accepted}
 use Rattle.protocol.specs.Replica.State.{State, Call, Ran, opening, runs, run_call, call_of, run_frame, execute, ran_by, ran_in, kept_by, kept_of}
 use Rattle.reply_cache.specs.Replies.{Kept}
-use Rattle.protocol.specs.Replica.RightReplica.{Leaves, May, Moves, MaySay, MayReply}
+use Rattle.protocol.specs.Replica.RightReplica.{HistoryReaches, May, Moves, MaySay, MayReply}
 use Rattle.protocol.specs.Client.RightClient.{Vote, latest, is_alike}
 use Rattle.protocol.specs.Space.Linear.{reached, is_level}
 use Rattle.protocol.proofs.Words.Temporal.{once_weaker, once_always, once_stays}
@@ -87,7 +87,7 @@ kept_at_most : (c : Configuration) (trace : List Entry) (st : State) → IsState
 kept_at_most c trace st s = subst (λ (x : State). AreAtMost x.number x) (sym s.is) (after_at_most c opening s.batches none_at_most)
 
 -- the requests that ran in the event have a number that the state has reached
-ran_at_most : (c : Configuration) (r : ℕ) (xs : List Entry) (point : RightReplica.Point) → Leaves c r xs point → (x : Ran) → Has (λ y. y ≡ x) point.ran → x.kept.number ≤ point.state.number
+ran_at_most : (c : Configuration) (r : ℕ) (xs : List Entry) (point : RightReplica.Point) → HistoryReaches c r xs point → (x : Ran) → Has (λ y. y ≡ x) point.ran → x.kept.number ≤ point.state.number
 ran_at_most c r [] point h x k = absurd (subst (λ (p : RightReplica.Point). Has (λ y. y ≡ x) p.ran) h k)
 ran_at_most c r (e ∷ past) point h x k = go e h.2.may h.2.moves (ran_at_most c r past h.0 h.1 x)
   where

@@ -12,7 +12,7 @@ use Rattle.protocol.specs.System.Trace.Entry.{Invoke, Executed}
 use Rattle.protocol.specs.Replica.Certificates.{first_given}
 use Rattle.std.specs.Bool.{then_some}
 use Rattle.quorum.specs.Votes.{or_else}
-use Rattle.protocol.specs.Replica.RightReplica.{Leaves}
+use Rattle.protocol.specs.Replica.RightReplica.{HistoryReaches}
 use Rattle.protocol.specs.Client.RightClient.{SafeClient}
 use Rattle.protocol.specs.Replica.State.{State, opening, execute, after_batches}
 use Rattle.protocol.specs.System.Texts.{IsText, NoCollision}
@@ -140,7 +140,7 @@ is_by c xs st run s =
       executed = λ k a b. let d : k < 1 + length s.batches = omega arith in some_executed c xs 1 s.batches s.executed k a d;
     }
 
-pub state_is_by : (c : Configuration) (xs : List Entry) (r : ℕ) (point : RightReplica.Point) → Run c xs → is_correct_replica c r ≡ true → Leaves c r (history_of r xs) point → IsBy c xs point.state
+pub state_is_by : (c : Configuration) (xs : List Entry) (r : ℕ) (point : RightReplica.Point) → Run c xs → is_correct_replica c r ≡ true → HistoryReaches c r (history_of r xs) point → IsBy c xs point.state
 state_is_by c xs r point run correct leaves =
     is_by c xs point.state run ((states_agree c run.setting xs run.runs.replicas run.runs.unforged run.apart r correct).0 point leaves).state
 

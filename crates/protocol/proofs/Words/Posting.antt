@@ -12,7 +12,7 @@ use Rattle.wire.specs.Words.{receivers_of, frame_of, said}
 use Rattle.protocol.specs.System.Frames.{IsSealed, IsPosted, leaf_in, leaf_of}
 use Rattle.protocol.specs.System.Trace.{Entry}
 use Rattle.protocol.specs.System.Trace.Entry.{Invoke, Sent}
-use Rattle.protocol.specs.Replica.RightReplica.{Point, Leaves, IsStep, MaySend, IsFor, IsAddressed, SendsBytes, SentBefore, HasOwnLeaf}
+use Rattle.protocol.specs.Replica.RightReplica.{Point, HistoryReaches, IsStep, MaySend, IsFor, IsAddressed, SendsBytes, SentBefore, HasOwnLeaf}
 use Rattle.protocol.specs.Laws.Histories.{PostedMaySend, LeavesSignOnce}
 use Rattle.protocol.proofs.Words.Options.{some_injective}
 use Rattle.wire.proofs.Saying.{reads_frames, reads_said}
@@ -116,7 +116,7 @@ both_now : (one other : List ℕ) (past : List Entry) (e : Entry) → SendsBytes
 both_now one other past (Sent p sent) h k = sym h ∙ k
 both_now one other past _ h k = absurd h
 
-pub leaf_signs_once : (c : Configuration) (me leaf : ℕ) (one other : List ℕ) → leaf_of one ≡ Some leaf → leaf_of other ≡ Some leaf → (history : List Entry) (point : Point) → Leaves c me history point
+pub leaf_signs_once : (c : Configuration) (me leaf : ℕ) (one other : List ℕ) → leaf_of one ≡ Some leaf → leaf_of other ≡ Some leaf → (history : List Entry) (point : Point) → HistoryReaches c me history point
     → SentBefore one history → SentBefore other history → one ≡ other
 leaf_signs_once c me leaf one other a b [] point leaves h k = absurd h
 leaf_signs_once c me leaf one other a b (e ∷ past) point (old, before, step) (inl h) (inl k) = both_now one other past e h k

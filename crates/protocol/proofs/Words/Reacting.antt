@@ -12,8 +12,8 @@ use Rattle.protocol.specs.System.Trace.{Entry, party_of, is_output, Always, eith
 use Rattle.protocol.specs.System.Trace.Entry.{Invoke, Got, Tick, Sent, Accepted}
 use Rattle.protocol.specs.Client.RightClient.{OpenCall, open_call, Vote, newest_vote, is_complete, went_ordered, is_answered, Reaction, fallback, on_reply, on_got, first_mode, reaction, IsReaction, MayInput, Reacts, IsClient, MayAccept, MayAsk, MayClient, SafeClient}
 use Rattle.protocol.specs.Client.RightClient.Reaction.{nothing, asks, accepts}
-use Rattle.protocol.specs.Replica.RightReplica.{first_point, Point, Leaves, SafeReplica, waiting_after}
-use Rattle.protocol.specs.Replica.Owed.{Owes, Proceeds, IsInput, IsReplica}
+use Rattle.protocol.specs.Replica.RightReplica.{first_point, Point, HistoryReaches, SafeReplica, waiting_after}
+use Rattle.protocol.specs.Replica.Owed.{Owes, HistoryIsPrompt, IsInput, IsReplica}
 
 -- ---- the outputs of an event
 
@@ -198,11 +198,11 @@ pub one_of : (b : Bool) (X Y Z : Type 0) → either b X Y → (X → Z) → (Y �
 one_of true X Y Z k f g = f k
 one_of false X Y Z k f g = g k
 
-pub proceeds_leaves : (c : Configuration) (me : ℕ) (xs outputs : List Entry) (new point : Point) → Proceeds c me xs outputs new point → Leaves c me xs point
+pub proceeds_leaves : (c : Configuration) (me : ℕ) (xs outputs : List Entry) (new point : Point) → HistoryIsPrompt c me xs outputs new point → HistoryReaches c me xs point
 proceeds_leaves c me [] outputs new point h = h.0
 proceeds_leaves c me (e ∷ past) outputs new point h = (
   h.0,
-  one_of (is_output e) (Proceeds c me past (e ∷ outputs) new h.0) (Owes c me past e outputs (reverse outputs ++ e ∷ past) h.0 new × Proceeds c me past [] h.0 h.0) (Leaves c me past h.0) h.2
+  one_of (is_output e) (HistoryIsPrompt c me past (e ∷ outputs) new h.0) (Owes c me past e outputs (reverse outputs ++ e ∷ past) h.0 new × HistoryIsPrompt c me past [] h.0 h.0) (HistoryReaches c me past h.0) h.2
       (proceeds_leaves c me past (e ∷ outputs) new h.0) (λ k. proceeds_leaves c me past [] h.0 h.0 k.1),
   h.1,
 )
@@ -218,7 +218,7 @@ is_replica_right c me (e ∷ past) (inr h) = go e h.0 h.1 (is_replica_right c me
     go (Tick p) own i r = (record r.0 { ran = [] }, (r.0, r.1, record { own = own; may = tt; moves = refl }))
     go _ own i r = absurd i
 
-leaves_own : (c : Configuration) (me : ℕ) (xs : List Entry) (point : Point) → Leaves c me xs point → Always (λ past e. party_of e ≡ me) xs
+leaves_own : (c : Configuration) (me : ℕ) (xs : List Entry) (point : Point) → HistoryReaches c me xs point → Always (λ past e. party_of e ≡ me) xs
 leaves_own c me [] point h = tt
 leaves_own c me (e ∷ past) point h = (h.2.own, leaves_own c me past h.0 h.1)
 

@@ -5,9 +5,9 @@ use mathlib.Core.List.{reverse_aux}
 use Rattle.protocol.specs.System.Configuration.{Configuration}
 use Rattle.protocol.specs.System.Trace.{Entry, Has}
 use Rattle.protocol.specs.System.Trace.Entry.{Invoke, Got, Tick, Sent}
-use Rattle.protocol.specs.System.Schedule.{Step, Made, World, Goes, new_world, made_by}
+use Rattle.protocol.specs.System.Schedule.{Step, Made, World, StepsLead, new_world, made_by}
 use Rattle.protocol.specs.System.Schedule.Step.{seal, sign, flush}
-use Rattle.protocol.specs.System.Schedule.Goes.{ends, gives, called, delivers, gets, ticked, seals, signs, flushes, flushed}
+use Rattle.protocol.specs.System.Schedule.StepsLead.{ends, gives, called, delivers, gets, ticked, seals, signs, flushes, flushed}
 use Rattle.protocol.specs.Laws.Schedules.{IsInputOf, feeds_input, FeedsEachStep, is_sent, AllowsSent}
 use Rattle.protocol.proofs.Words.Elements.{has_reverse}
 
@@ -16,7 +16,7 @@ use Rattle.protocol.proofs.Words.Elements.{has_reverse}
 no_input : (step other : Step) → feeds_input other ≡ false → other ≡ step → feeds_input step ≡ true → (X : Type 0) → X
 no_input step other none is feeds X = let bad : false ≡ true = sym none ∙ ap feeds_input is ∙ feeds in absurd cc
 
-fed : (c : Configuration) (w v : World) (steps : List Step) (entries : List Entry) → Goes c w steps entries v → (step : Step) → Has (λ x. x ≡ step) steps → feeds_input step ≡ true → Has (IsInputOf step) entries
+fed : (c : Configuration) (w v : World) (steps : List Step) (entries : List Entry) → StepsLead c w steps entries v → (step : Step) → Has (λ x. x ≡ step) steps → feeds_input step ≡ true → Has (IsInputOf step) entries
 fed c w v _ _ ends step h k = absurd h
 fed c w v _ _ (gives o g) step h k = inr (fed c _ _ _ _ g step h k)
 fed c w v _ _ (called {client = client} {timestamp = timestamp} {op = op} a g) step (inl h) k = inl (subst (λ (x : Step). IsInputOf x (Invoke client timestamp op)) h (refl, refl))
@@ -42,7 +42,7 @@ feeds_each_step c steps step trace has input feeds = has_reverse (IsInputOf step
 -- ---- the past and the frames
 
 -- the entries to come stand behind the steps in the past
-past_is : (c : Configuration) (w v : World) (steps : List Step) (entries : List Entry) → Goes c w steps entries v → v.past ≡ reverse_aux entries w.past
+past_is : (c : Configuration) (w v : World) (steps : List Step) (entries : List Entry) → StepsLead c w steps entries v → v.past ≡ reverse_aux entries w.past
 past_is c w v _ _ ends = refl
 past_is c w v _ _ (gives o g) = past_is c _ _ _ _ g
 past_is c w v _ _ (called a g) = past_is c _ _ _ _ g
@@ -54,7 +54,7 @@ past_is c w v _ _ (signs a i g) = past_is c _ _ _ _ g
 past_is c w v _ _ (flushes p g) = past_is c _ _ _ _ g
 past_is c w v _ _ (flushed i p g) = past_is c _ _ _ _ g
 
-pub past_of : (c : Configuration) (v : World) (steps : List Step) (trace : List Entry) → Goes c new_world steps (reverse trace) v → v.past ≡ trace
+pub past_of : (c : Configuration) (v : World) (steps : List Step) (trace : List Entry) → StepsLead c new_world steps (reverse trace) v → v.past ≡ trace
 past_of c v steps trace g = past_is c new_world v steps (reverse trace) g ∙ reverse-reverse trace
 
 -- ---- what is sent may be delivered
@@ -70,7 +70,7 @@ made_there c w e h = go e (length-append w.frames (made_by c e))
 more_there : (frames : List Made) (made : Made) (n : ℕ) → n ≤ length frames → n ≤ length (frames ++ made ∷ [])
 more_there frames made n h = let l = length-append frames (made ∷ []) in omega arith
 
-sent_made : (c : Configuration) (w v : World) (steps : List Step) (entries : List Entry) → Goes c w steps entries v → length (filter is_sent w.past) ≤ length w.frames → length (filter is_sent v.past) ≤ length v.frames
+sent_made : (c : Configuration) (w v : World) (steps : List Step) (entries : List Entry) → StepsLead c w steps entries v → length (filter is_sent w.past) ≤ length w.frames → length (filter is_sent v.past) ≤ length v.frames
 sent_made c w v _ _ ends h = h
 sent_made c w v _ _ (gives {e = e} o g) h = sent_made c _ _ _ _ g (made_there c w e h)
 sent_made c w v _ _ (called {client = client} {timestamp = timestamp} {op = op} a g) h = sent_made c _ _ _ _ g (made_there c w (Invoke client timestamp op) h)

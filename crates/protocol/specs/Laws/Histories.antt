@@ -9,7 +9,7 @@ use Rattle.protocol.specs.System.Frames.{IsPosted, leaf_of}
 use Rattle.protocol.specs.System.Trace.{Entry, party_of, history_of, Once, Always, Has, SendsBody, Unforged}
 use Rattle.protocol.specs.System.Trace.Entry.{Executed, Installed}
 use Rattle.protocol.specs.Replica.Certificates.{Prepared, Committed, view, taken, batch_begun}
-use Rattle.protocol.specs.Replica.RightReplica.{Point, Leaves, HasSeen, SentBefore, SentInEvent, HasOwnLeaf, SafeReplica, HadQuorum, StartsAt, MaySay, IsFor, MaySend}
+use Rattle.protocol.specs.Replica.RightReplica.{Point, HistoryReaches, HasSeen, SentBefore, SentInEvent, HasOwnLeaf, SafeReplica, HadQuorum, StartsAt, MaySay, IsFor, MaySend}
 use Rattle.protocol.specs.Client.RightClient.{SafeClient}
 use Rattle.protocol.specs.Space.Linear.{points, IsLinear}
 use Rattle.protocol.specs.Replica.State.{State, IsReplicatedState, opening, after_batches, page_text, root_of}
@@ -92,7 +92,7 @@ ExecutedAgree =
 abbrev pub PointsAreOne : Type 0
 PointsAreOne =
     (c : Configuration) (me : ℕ) (history : List Entry) (x y : Point)
-    → Leaves c me history x → Leaves c me history y → x ≡ y
+    → HistoryReaches c me history x → HistoryReaches c me history y → x ≡ y
 
 -- States are equal if their pages are.
 abbrev pub PagesDetermine : Type 0
@@ -120,7 +120,7 @@ pub record StoodAt (c : Configuration) (trace : List Entry) : Type 0 where
   pub is_correct : is_correct_replica c replica ≡ true
   pub splits : history_of replica trace ≡ later ++ past
   pub point : Point
-  pub leaves : Leaves c replica past point
+  pub leaves : HistoryReaches c replica past point
 
 -- some correct replica had the state at some time of the trace, as its own or as a snapshot
 abbrev pub Had : Configuration → List Entry → State → Type 0

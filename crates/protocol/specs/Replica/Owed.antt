@@ -359,17 +359,17 @@ pub record Owes (c : Configuration) (me : ℕ) (before : List Entry) (input : En
 
 -- The history is safe and prompt, over one choice of points. outputs: those of the newest event that come after the
 -- list, the oldest first; new: the point after that event; point: the one after the list.
-abbrev pub Proceeds : Configuration → ℕ → List Entry → List Entry → Point → Point → Type 0
-Proceeds c me [] outputs new point = (point ≡ first_point) × (outputs ≡ [])
-Proceeds c me (e ∷ past) outputs new point =
+abbrev pub HistoryIsPrompt : Configuration → ℕ → List Entry → List Entry → Point → Point → Type 0
+HistoryIsPrompt c me [] outputs new point = (point ≡ first_point) × (outputs ≡ [])
+HistoryIsPrompt c me (e ∷ past) outputs new point =
     (old : Point) × IsStep c me past old e point
     × either (is_output e)
-    (Proceeds c me past (e ∷ outputs) new old)
-    (Owes c me past e outputs (reverse outputs ++ e ∷ past) old new × Proceeds c me past [] old old)
+    (HistoryIsPrompt c me past (e ∷ outputs) new old)
+    (Owes c me past e outputs (reverse outputs ++ e ∷ past) old new × HistoryIsPrompt c me past [] old old)
 
 -- The replica has not stopped: its history is safe and prompt to its end.
 abbrev pub IsPromptReplica : Configuration → ℕ → List Entry → Type 0
-IsPromptReplica c me history = (point : Point) × Proceeds c me history [] point point
+IsPromptReplica c me history = (point : Point) × HistoryIsPrompt c me history [] point point
 
 -- an input of a replica: a frame or a tick
 abbrev pub IsInput : Entry → Type 0
@@ -380,4 +380,5 @@ IsInput e = elim e [ Got p bytes ↦ ⊤ | Tick p ↦ ⊤ | _ ↦ ⊥ ]
 abbrev pub IsReplica : Configuration → ℕ → List Entry → Type 0
 IsReplica c me [] = ⊤
 IsReplica c me (e ∷ past) =
-    ((point : Point) × Proceeds c me (e ∷ past) [] point point) ⊎ ((party_of e ≡ me) × IsInput e × IsReplica c me past)
+    ((point : Point) × HistoryIsPrompt c me (e ∷ past) [] point point)
+    ⊎ ((party_of e ≡ me) × IsInput e × IsReplica c me past)

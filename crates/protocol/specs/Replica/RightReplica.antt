@@ -438,10 +438,10 @@ pub record IsStep (c : Configuration) (me : ℕ) (past : List Entry) (old : Poin
   pub moves : Moves c me past old e new
 
 -- each entry is one that the replica may have, and the newest leaves it at the point
-abbrev pub Leaves : Configuration → ℕ → List Entry → Point → Type 0
-Leaves c me [] point = point ≡ first_point
-Leaves c me (e ∷ past) point = (old : Point) × Leaves c me past old × IsStep c me past old e point
+abbrev pub HistoryReaches : Configuration → ℕ → List Entry → Point → Type 0
+HistoryReaches c me [] point = point ≡ first_point
+HistoryReaches c me (e ∷ past) point = (old : Point) × HistoryReaches c me past old × IsStep c me past old e point
 
 -- The history is safe: each entry is one that a correct replica may have. The laws over all runs use no more than this.
 abbrev pub SafeReplica : Configuration → ℕ → List Entry → Type 0
-SafeReplica c me history = (point : Point) × Leaves c me history point
+SafeReplica c me history = (point : Point) × HistoryReaches c me history point

@@ -137,41 +137,41 @@ AtInput (e ∷ entries) = is_output e ≡ false
 
 -- these steps lead from one world to another, over exactly these entries: a step brings its input, and outputs may
 -- follow
-pub data Goes (c : Configuration) : World → List Step → List Entry → World → Type 0 where
-  ends : {w : World} → Goes c w [] [] w
+pub data StepsLead (c : Configuration) : World → List Step → List Entry → World → Type 0 where
+  ends : {w : World} → StepsLead c w [] [] w
   gives : {w v : World} {steps : List Step} {entries : List Entry} {e : Entry}
-      → is_output e ≡ true → Goes c (with_entry c w e) steps entries v → Goes c w steps (e ∷ entries) v
+      → is_output e ≡ true → StepsLead c (with_entry c w e) steps entries v → StepsLead c w steps (e ∷ entries) v
   called : {w v : World} {steps : List Step} {entries : List Entry} {client timestamp : ℕ} {op : Operation}
-      → IsAllowed c w (calls client op) → Goes c (with_entry c w (Invoke client timestamp op)) steps entries v
-      → Goes c w (calls client op ∷ steps) (Invoke client timestamp op ∷ entries) v
+      → IsAllowed c w (calls client op) → StepsLead c (with_entry c w (Invoke client timestamp op)) steps entries v
+      → StepsLead c w (calls client op ∷ steps) (Invoke client timestamp op ∷ entries) v
   delivers : {w v : World} {steps : List Step} {entries : List Entry} {frame party : ℕ} {made : Made}
       → IsAllowed c w (deliver frame party) → slice_get w.frames frame ≡ Some made
-      → Goes c (record (with_entry c w (Got party made.bytes)) { delivered = (frame, party) ∷ w.delivered })
+      → StepsLead c (record (with_entry c w (Got party made.bytes)) { delivered = (frame, party) ∷ w.delivered })
       steps entries v
-      → Goes c w (deliver frame party ∷ steps) (Got party made.bytes ∷ entries) v
+      → StepsLead c w (deliver frame party ∷ steps) (Got party made.bytes ∷ entries) v
   gets : {w v : World} {steps : List Step} {entries : List Entry} {party : ℕ} {text : List ℕ}
-      → IsAllowed c w (feed party text) → Goes c (with_entry c w (Got party text)) steps entries v
-      → Goes c w (feed party text ∷ steps) (Got party text ∷ entries) v
+      → IsAllowed c w (feed party text) → StepsLead c (with_entry c w (Got party text)) steps entries v
+      → StepsLead c w (feed party text ∷ steps) (Got party text ∷ entries) v
   ticked : {w v : World} {steps : List Step} {entries : List Entry} {party : ℕ}
-      → IsAllowed c w (ticks party) → Goes c (with_entry c w (Tick party)) steps entries v
-      → Goes c w (ticks party ∷ steps) (Tick party ∷ entries) v
+      → IsAllowed c w (ticks party) → StepsLead c (with_entry c w (Tick party)) steps entries v
+      → StepsLead c w (ticks party ∷ steps) (Tick party ∷ entries) v
   seals : {w v : World} {steps : List Step} {entries : List Entry} {sender : ℕ} {receivers body : List ℕ}
       → IsAllowed c w (seal sender receivers body) → AtInput entries
-      → Goes c (with_frame w (sealed_bytes c sender receivers body) receivers) steps entries v
-      → Goes c w (seal sender receivers body ∷ steps) entries v
+      → StepsLead c (with_frame w (sealed_bytes c sender receivers body) receivers) steps entries v
+      → StepsLead c w (seal sender receivers body ∷ steps) entries v
   signs : {w v : World} {steps : List Step} {entries : List Entry} {replica leaf : ℕ} {receivers body : List ℕ}
       → IsAllowed c w (sign replica leaf receivers body) → AtInput entries
-      → Goes c (with_frame w (signed_bytes c replica leaf body) receivers) steps entries v
-      → Goes c w (sign replica leaf receivers body ∷ steps) entries v
+      → StepsLead c (with_frame w (signed_bytes c replica leaf body) receivers) steps entries v
+      → StepsLead c w (sign replica leaf receivers body ∷ steps) entries v
   flushes : {w v : World} {steps : List Step} {entries : List Entry} {frame party : ℕ}
-      → pending c w ≡ Some (frame, party) → Goes c w (deliver frame party ∷ flush ∷ steps) entries v
-      → Goes c w (flush ∷ steps) entries v
+      → pending c w ≡ Some (frame, party) → StepsLead c w (deliver frame party ∷ flush ∷ steps) entries v
+      → StepsLead c w (flush ∷ steps) entries v
   flushed : {w v : World} {steps : List Step} {entries : List Entry}
-      → AtInput entries → pending c w ≡ None → Goes c w steps entries v → Goes c w (flush ∷ steps) entries v
+      → AtInput entries → pending c w ≡ None → StepsLead c w steps entries v → StepsLead c w (flush ∷ steps) entries v
 
 -- the inputs of the trace are those that the steps feed, each of them allowed; the trace stands newest first
 abbrev pub Feeds : Configuration → List Step → List Entry → Type 0
-Feeds c steps trace = (w : World) × Goes c new_world steps (reverse trace) w
+Feeds c steps trace = (w : World) × StepsLead c new_world steps (reverse trace) w
 
 -- ---- the report
 

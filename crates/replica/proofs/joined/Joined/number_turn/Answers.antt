@@ -14,6 +14,6 @@ returns c = record {
       c.in-Some.ensures.free.3
       c.in-Some.ensures.free.0
       (subst (λ (r : JoinedData). 1 ≤ length (unnumbered r.desk.waiting)) c.self.view_is (c.has_unnumbered.ensures.some c.if-not-has_unnumbered.false))
-      c.in_ok-number_next.ensures.ok c.go_on.new.self c.go_on.new.outputs.items c.in_ok-go_on.ensures.ok;
+      c.in_ok-number_next.ensures.ok c.advance.new.self c.advance.new.outputs.items c.in_ok-advance.ensures.ok;
   endpoint = search rules;
 }

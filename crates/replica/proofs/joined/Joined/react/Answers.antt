@@ -5,5 +5,5 @@ use Rattle.replica.proofs.joined.Joined.react.Goals as goal
 
 pub returns-clause-leads : goal.returns-clause-leads
 returns-clause-leads c = leads_on (input_of (me_of c.args.self.now) c.args.event) c.args.self.now c.are_one.ensures (has_input (me_of c.args.self.now) c.args.event)
-    c.in_ok-touched.touched c.begin.new.self c.follow_up.new.self c.begin.new.outputs.items c.follow_up.new.outputs.items
-    c.in_ok-touched.ensures.ok c.in_ok-follow_up.ensures.ok
+    c.in_ok-touched.touched c.begin.new.self c.finish_event.new.self c.begin.new.outputs.items c.finish_event.new.outputs.items
+    c.in_ok-touched.ensures.ok c.in_ok-finish_event.ensures.ok

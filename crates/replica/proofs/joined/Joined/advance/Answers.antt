@@ -4,7 +4,7 @@ use Rattle.replica.specs.State.{JoinedData}
 use Rattle.replica.specs.JoinedView.{joined_data}
 use Rattle.replica.specs.Going.{GoesOnWith}
 use Rattle.replica.proofs.GoingOn.{goes_on_with}
-use Rattle.replica.proofs.joined.Joined.go_on.Goals as goal
+use Rattle.replica.proofs.joined.Joined.advance.Goals as goal
 
 pub returns : goal.returns
 returns c = record {
