@@ -98,14 +98,11 @@ module _ (o : Part) where
 
     -- ---- the replica receives the request
 
-    heard_is : (body : Body) → heard (members c) me w.request ≡ Some body → asks op ≡ body
-    heard_is body h = some_injective (asks op) body (sym hears ∙ h)
-
     abbrev IsOrdered : Body → Type 0
     IsOrdered body = elim body.message [ Request t mode o ↦ (body.sender ≡ 256) × (mode ≡ modes.Ordered) | _ ↦ ⊥ ]
 
     is_ordered : (body : Body) → heard (members c) me w.request ≡ Some body → IsOrdered body
-    is_ordered body h = subst IsOrdered (heard_is body h) (refl, refl)
+    is_ordered body h = subst IsOrdered (some_injective (asks op) body (sym hears ∙ h)) (refl, refl)
 
     -- ---- what the replica owes
 
@@ -119,11 +116,7 @@ module _ (o : Part) where
     no_quorum : (checkpoint : CheckpointEntry) → is_quorum c (count_checkpoints c now checkpoint) ≡ true → ⊥
     no_quorum checkpoint h =
         let same : count_checkpoints c now checkpoint ≡ 0 = count_same (λ s. says_checkpoint checkpoint (checkpoints_of c now s)) (λ s. false) (λ s. ap (says_checkpoint checkpoint) (at_now.checkpoints_are s)) 4 in
-        let bad : is_quorum c 0 ≡ true = subst (λ (n : ℕ). is_quorum c n ≡ true) same h in
-        absurd (let worse : false ≡ true = bad in cc)
-
-    same_bytes : (bytes : List ℕ) → Got me w.request ≡ Got me bytes → w.request ≡ bytes
-    same_bytes bytes h = cc
+        absurd (let worse : false ≡ true = subst (λ (n : ℕ). is_quorum c n ≡ true) same h in cc)
 
     -- the request counts, since its client's last reply is to it
     not_dropped : IsDropped c me past (done c batch) w.request → ⊥
@@ -157,7 +150,7 @@ module _ (o : Part) where
       fetches_again = λ n index level tick asked_for above. absurd tick;
       view_changes = λ vc bytes moves may within says. absurd (no_reason c me past w.request (done c batch).waiting vc.view (λ s x asks. is_ordered (record { sender = s; message = ViewChange x }) asks) moves);
       new_views = λ new can. absurd (let left = can.left in let sent = (still c me now at_now.plain).target_is in omega (arith, left, sent));
-      dropped = λ bytes same drops. absurd (not_dropped (subst (λ (bs : List ℕ). IsDropped c me past (done c batch) bs) (sym (same_bytes bytes same)) drops));
+      dropped = λ bytes same drops. absurd (not_dropped (subst (λ (bs : List ℕ). IsDropped c me past (done c batch) bs) (sym cc) drops));
     }
 
     -- ---- the steps
@@ -167,14 +160,12 @@ module _ (o : Part) where
         steps.may_send o asked (done c batch) (w.reply me) (Reply 256 1 modes.Ordered 1 (first_answer op)) (256 ∷ []) (o.are_frames.replies me o.within) (λ rs is. is) tt
         (inr (0, the_kept, kept_is, refl, (op, hears))) (λ here. here)
 
-    gets : IsStep c me past (done c batch) (Got me w.request) (done c batch)
-    gets = record { own = refl; may = tt; moves = quiet }
-
     sends : IsStep c me asked (done c batch) (Sent me (w.reply me)) (done c batch)
     sends = record { own = refl; may = may; moves = refl }
 
     answers : HistoryIsPrompt c me past [] (done c batch) (done c batch) → IsReplica c me now
-    answers before = inl (done c batch, (done c batch, sends, (done c batch, gets, (owes, before))))
+    answers before =
+        inl (done c batch, (done c batch, sends, (done c batch, record { own = refl; may = tt; moves = quiet }, (owes, before))))
 
 pub kept_reply_goes_again : KeptReplyGoesAgain
 kept_reply_goes_again clients seed op batch w setting x zero within =

@@ -48,14 +48,10 @@ module _ (clients : ℕ) (seed : List ℕ) (me other : ℕ) (fetch digests : Lis
     stage : Stage clients seed [] me now false none none
     stage = stage_meta clients seed [] me (Got me fetch ∷ []) (Sent me digests) me 0 0 levels.Root (digests_at opening levels.Root 0) false none none behind (sent clients seed [] me (Got me fetch ∷ []) digests answer a.says tt)
 
-    heard_is : (body : Body) → heard (members c) me fetch ≡ Some body → asked ≡ body
-    heard_is body h = some_injective asked body (sym hears ∙ h)
-
     no_quorum : (checkpoint : CheckpointEntry) → is_quorum c (count_checkpoints c now checkpoint) ≡ true → ⊥
     no_quorum checkpoint h =
         let same : count_checkpoints c now checkpoint ≡ 0 = count_same (λ s. says_checkpoint checkpoint (checkpoints_of c now s)) (λ s. false) (λ s. ap (says_checkpoint checkpoint) (stage.checkpoints_are s)) 4 in
-        let bad : is_quorum c 0 ≡ true = subst (λ (n : ℕ). is_quorum c n ≡ true) same h in
-        absurd (let worse : false ≡ true = bad in cc)
+        absurd (let worse : false ≡ true = subst (λ (n : ℕ). is_quorum c n ≡ true) same h in cc)
 
     -- the message that the replica receives is this fetch
     abbrev level_is : Level → Bool
@@ -65,7 +61,7 @@ module _ (clients : ℕ) (seed : List ℕ) (me other : ℕ) (fetch digests : Lis
     IsFetch body = elim body.message [ Fetch k level index ↦ (body.sender ≡ other) × (k ≡ 0) × (level ≡ levels.Root) × (index ≡ 0) | _ ↦ ⊥ ]
 
     only_fetch : (body : Body) → heard (members c) me fetch ≡ Some body → IsFetch body
-    only_fetch body h = subst IsFetch (heard_is body h) (refl, refl, refl, refl)
+    only_fetch body h = subst IsFetch (some_injective asked body (sym hears ∙ h)) (refl, refl, refl, refl)
 
     same_bytes : (bytes : List ℕ) → Got me fetch ≡ Got me bytes → fetch ≡ bytes
     same_bytes bytes h = cc
@@ -142,14 +138,12 @@ module _ (clients : ℕ) (seed : List ℕ) (me other : ℕ) (fetch digests : Lis
       once = λ here. here;
     }
 
-    gets : IsStep c me [] first_point (Got me fetch) first_point
-    gets = record { own = refl; may = tt; moves = quiet }
-
     sends : IsStep c me (Got me fetch ∷ []) first_point (Sent me digests) first_point
     sends = record { own = refl; may = may; moves = refl }
 
     is_right : IsReplica c me now
-    is_right = inl (first_point, (first_point, sends, (first_point, gets, (owes, (refl, refl)))))
+    is_right =
+        inl (first_point, (first_point, sends, (first_point, record { own = refl; may = tt; moves = quiet }, (owes, (refl, refl)))))
 
 pub first_fetch_is_answered : FirstFetchIsAnswered
 first_fetch_is_answered clients seed me other fetch digests frame hears spells a = is_right clients seed me other fetch digests hears frame spells a

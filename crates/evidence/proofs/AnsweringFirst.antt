@@ -54,8 +54,7 @@ module _ (clients : ℕ) (seed : List ℕ) (me client timestamp : ℕ) (op : Ope
     no_quorum : (checkpoint : CheckpointEntry) → is_quorum c (count_checkpoints c now checkpoint) ≡ true → ⊥
     no_quorum checkpoint h =
         let same : count_checkpoints c now checkpoint ≡ 0 = count_same (λ s. says_checkpoint checkpoint (checkpoints_of c now s)) (λ s. false) (λ s. ap (says_checkpoint checkpoint) (stage.checkpoints_are s)) 4 in
-        let bad : is_quorum c 0 ≡ true = subst (λ (n : ℕ). is_quorum c n ≡ true) same h in
-        absurd (let worse : false ≡ true = bad in cc)
+        absurd (let worse : false ≡ true = subst (λ (n : ℕ). is_quorum c n ≡ true) same h in cc)
 
     -- the message that the replica receives is a read
     abbrev IsRead : Body → Type 0
@@ -120,14 +119,12 @@ module _ (clients : ℕ) (seed : List ℕ) (me client timestamp : ℕ) (op : Ope
       once = λ here. here;
     }
 
-    gets : IsStep c me [] first_point (Got me read) first_point
-    gets = record { own = refl; may = tt; moves = quiet }
-
     sends : IsStep c me (Got me read ∷ []) first_point (Sent me reply) first_point
     sends = record { own = refl; may = may; moves = refl }
 
     is_right : IsReplica c me now
-    is_right = inl (first_point, (first_point, sends, (first_point, gets, (owes, (refl, refl)))))
+    is_right =
+        inl (first_point, (first_point, sends, (first_point, record { own = refl; may = tt; moves = quiet }, (owes, (refl, refl)))))
 
 pub first_read_is_answered : FirstReadIsAnswered
 first_read_is_answered clients seed me client timestamp op read reply hears is a = is_right clients seed me client timestamp op read reply hears is a

@@ -143,11 +143,7 @@ module _ (clients : ℕ) (seed root first second own new_view : List ℕ) (x : C
       none_executed = none_executed;
       view_changes = λ v moves. let most = joining.moved clients seed 1 2 3 first second own apart first_other second_other x y z v moves in let same = same_target in omega (arith, most, same);
       no_view = λ other can.
-          let left = can.left in
-          let at = view_is in
-          let same = same_target in
-          let one = target_now clients seed first second own x y z in
-          omega (arith, left, at, same, one);
+          omega (arith, can.left, view_is, same_target, target_now clients seed first second own x y z);
       dropped = λ drops. absurd (drops (joining.changing clients seed 1 2 3 first second own 3)
           (joining.hears clients seed 1 2 3 first second own apart first_other second_other x y z 3 second second_other y)
           (joining.counts clients seed 1 2 3 first second own apart first_other second_other x y z));

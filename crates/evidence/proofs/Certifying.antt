@@ -4,13 +4,12 @@ use Rattle.std.specs.Prelude.{◌==◌, nat_lt, nat_le, option_and_then}
 use Rattle.std.proofs.lemmas.Bool.{and_parts, leb-true, ltb-true}
 use Rattle.sha2.specs.Sha256.{sha256}
 use Rattle.std.specs.Bool.{then_some}
-use Rattle.protocol.specs.System.Configuration.{Configuration, primary, span, is_number, members}
+use Rattle.protocol.specs.System.Configuration.{Configuration, primary, span, is_number}
 use Rattle.wire.specs.Messages.{BodyData as Body, MessageData as Message, NewViewData, pre_prepare as PrePrepare}
-use Rattle.signing.specs.Heard.{heard}
 use Rattle.protocol.specs.System.Trace.{Entry, party_of, history_of, Once, SendsBody}
 use Rattle.protocol.specs.System.Trace.Entry.{Invoke, Got, Sent}
 use Rattle.protocol.specs.Replica.Certificates.{view, target, is_later, is_active_in, new_view_in, new_view_from, taken, checkpoint_from, low, is_in_marks, are_genuine, batch_from, batch_begun, proposal, entry_proposal, logged, commit_from, vote_in, commit_of}
-use Rattle.protocol.specs.Replica.RightReplica.{Point, MaySay, MaySend, MayPrePrepare, May}
+use Rattle.protocol.specs.Replica.RightReplica.{Point, MaySay, MaySend, May}
 use Rattle.protocol.specs.Laws.Histories.{Takes}
 use Rattle.evidence.specs.Certified.{Brings, ExecutesWithOwnCommit, ExecutesNotByOthersAlone, ExecutesWhatItCommits, TakesLater, TakesInOrder, LogsInMarks, LogsWhatBegins}
 use Rattle.protocol.proofs.Words.Temporal.{once_weaker, once_stays_from, once_in_trace}
@@ -86,18 +85,14 @@ proposal_other : (c : Configuration) (me v i : ℕ) (batch : List ℕ) (sender :
 proposal_other c me v i batch sender (PrePrepare w number b) h = (refl, refl)
 proposal_other c me v i batch sender _ h = absurd cc
 
-no_view_heard : (c : Configuration) (p : ℕ) (bytes : List ℕ) (body : Body) → heard (members c) p bytes ≡ Some body → new_view_from c body ≡ None → new_view_in c (Got p bytes) ≡ None
-no_view_heard c p bytes body hears other = ap (option_and_then (new_view_from c)) hears ∙ other
-
 -- the number that a right replica proposes a batch for is in the marks
 proposed_in_marks : (c : Configuration) (me v i : ℕ) (batch : List ℕ) (past : List Entry) (point : Point) (e : Entry) (bytes : List ℕ) (sender : ℕ) (message : Message)
     → MaySay c me past point e bytes message → batch_from c me v i (record { sender = sender; message = message }) ≡ Some batch → is_in_marks c (low c me past) i ≡ true
 proposed_in_marks c me v i batch past point e bytes sender (PrePrepare w number b) say h =
-    let m : MayPrePrepare c me past point e w number b = say in
     let g = then_some_gives ((w == v) && (number == i) && (sender == primary c v) && are_genuine c me b) b batch h in
     let p = and_parts ((w == v) && (number == i) && (sender == primary c v)) (are_genuine c me b) g.0 in
     let q = and_parts ((w == v) && (number == i)) (sender == primary c v) p.0 in
-    subst (λ (n : ℕ). is_in_marks c (low c me past) n ≡ true) (eqb-true number i (and_parts (w == v) (number == i) q.0).1) m.in_marks
+    subst (λ (n : ℕ). is_in_marks c (low c me past) n ≡ true) (eqb-true number i (and_parts (w == v) (number == i) q.0).1) say.in_marks
 proposed_in_marks c me v i batch past point e bytes sender _ say h = absurd cc
 
 -- if an entry logs a pre-prepare, the pre-prepare's number is in the marks
@@ -106,7 +101,7 @@ entry_in_marks : (c : Configuration) (me v i : ℕ) (batch : List ℕ) (e : Entr
 entry_in_marks c me v i batch (Got p bytes) past point may h =
     let t = entry_batch c me v i batch past (Got p bytes) h in
     let other = proposal_other c me v i batch t.1.0.sender t.1.0.message t.1.2 in
-    let same = low_same c me past (Got p bytes) (ap (option_and_then checkpoint_from) t.1.1 ∙ other.0) refl (no_view_heard c p bytes t.1.0 t.1.1 other.1) in
+    let same = low_same c me past (Got p bytes) (ap (option_and_then checkpoint_from) t.1.1 ∙ other.0) refl (ap (option_and_then (new_view_from c)) t.1.1 ∙ other.1) in
     subst (λ (h : ℕ). is_in_marks c h i ≡ true) (sym same) (and_parts (is_active_in c past v) (is_in_marks c (low c me past) i) t.0).1
 entry_in_marks c me v i batch (Sent p bytes) past point may h =
     let t = entry_batch c me v i batch past (Sent p bytes) h in

@@ -12,7 +12,7 @@ use Rattle.terms.specs.declared.state.Level.{Level}
 use Rattle.terms.specs.declared.state.Level.TheVariants as levels
 use Rattle.wire.specs.Messages.{BodyData as Body, CheckpointEntryData as CheckpointEntry, checkpoint as Checkpoint, fetch as Fetch, meta as Meta, page as Page}
 use Rattle.signing.specs.Heard.{heard}
-use Rattle.protocol.specs.System.Trace.{Entry, party_of, history_of, Once, Always, Has, Hears}
+use Rattle.protocol.specs.System.Trace.{Entry, party_of, history_of, Once, Always, Hears}
 use Rattle.protocol.specs.System.Trace.Entry.{Got, Sent}
 use Rattle.protocol.specs.Replica.State.{opening, all_pages, page_text}
 use Rattle.protocol.specs.Replica.Transfers.{fetching, took, in_place, DiffersFirst}
@@ -37,12 +37,7 @@ slice_of_range : {A : Type 0} (g : ℕ → A) (a n k : ℕ) → k < n → slice_
 slice_of_range g a zero k l = absurd (omega arith)
 slice_of_range g a (suc n) zero l = let e : a ≡ a + 0 = omega arith in ap (λ (i : ℕ). Some (g i)) e
 slice_of_range g a (suc n) (suc k) l =
-    let m : k < n = omega arith in
-    let e : a + 1 + k ≡ a + suc k = omega arith in
-    slice_of_range g (a + 1) n k m ∙ ap (λ (i : ℕ). Some (g i)) e
-
-is_below : (i n : ℕ) → i < n → nat_lt i n ≡ true
-is_below i n l = lt-ltb i n l
+    slice_of_range g (a + 1) n k (omega arith) ∙ ap (λ (i : ℕ). Some (g i)) (omega arith)
 
 pub not_below : (i n : ℕ) → n ≤ i → nat_lt i n ≡ false
 not_below i n l = false_from_ne_true (nat_lt i n) (λ h. let m : i < n = ltb-true i n h in absurd (omega arith))
@@ -62,7 +57,7 @@ page_at page j r l m = ap (λ (xs : List (List ℕ)). slice_get xs r) (pages_par
 
 module _ (page : ℕ → List ℕ) where
   pub page_first : (n i : ℕ) → i < n → with_first page n i ≡ page i
-  page_first n i l = ap (λ (b : Bool). cond b (page i) (page_text opening i)) (is_below i n l)
+  page_first n i l = ap (λ (b : Bool). cond b (page i) (page_text opening i)) (lt-ltb i n l)
 
   pub own_last : (n i : ℕ) → n ≤ i → with_first page n i ≡ page_text opening i
   own_last n i l = ap (λ (b : Bool). cond b (page i) (page_text opening i)) (not_below i n l)
@@ -82,21 +77,15 @@ module _ (page : ℕ → List ℕ) where
   inner_differs : (n : ℕ) → n < 1024 → AreDifferentPages page n → inner_digest (all_pages page) (n / 32) ≢ inner_digest (all_pages (with_first page n)) (n / 32)
   inner_differs n small differ e = page_differs n differ
       (some_injective (sha256 (page n)) (sha256 (page_text opening n))
-      (ap (λ (i : ℕ). Some (sha256 (page i))) (sym place)
-      ∙ sym (page_at page (n / 32) (n % 32) low inside)
+      (ap (λ (i : ℕ). Some (sha256 (page i))) (sym (omega arith))
+      ∙ sym (page_at page (n / 32) (n % 32) low (omega arith))
       ∙ ap (λ (ds : List (List ℕ)). slice_get ds (n % 32)) (differ.parts_apart n (omega arith) e)
-      ∙ page_at (with_first page n) (n / 32) (n % 32) low inside
-      ∙ ap (λ (i : ℕ). Some (sha256 (with_first page n i))) place
+      ∙ page_at (with_first page n) (n / 32) (n % 32) low (omega arith)
+      ∙ ap (λ (i : ℕ). Some (sha256 (with_first page n i))) (omega arith)
       ∙ ap (λ (text : List ℕ). Some (sha256 text)) (own_last n n (omega arith))))
     where
       low : n / 32 < 32
       low = omega arith
-
-      inside : n % 32 < 32
-      inside = omega arith
-
-      place : 32 * (n / 32) + n % 32 ≡ n
-      place = omega arith
 
 module _ (clients : ℕ) (seed : List ℕ) (page : ℕ → List ℕ) (w : FetchFrames) (f : AreFetchFrames (four clients seed) page w) where
   abbrev c : Configuration
@@ -321,7 +310,7 @@ module _ (clients : ℕ) (seed : List ℕ) (page : ℕ → List ℕ) (w : FetchF
       go i true is =
           subst (λ (k : ℕ). took c 0 (Some 16) (Got 0 (w.page n) ∷ past) k ≡ then_some (nat_lt k (suc n)) (page k)) (eqb-true n i is)
           (Taken.answers_are_taken c 0 1 16 n past (w.page n) (page n) hears a.stage.asked_is
-          ∙ ap (λ (b : Bool). then_some b (page n)) (sym (is_below n (suc n) (omega arith))))
+          ∙ ap (λ (b : Bool). then_some b (page n)) (sym (lt-ltb n (suc n) (omega arith))))
       go i false is =
           Taken.others_are_left c 0 16 i past (w.page n)
           (λ sender text says asked. other (ap (λ (o : Option (ℕ × (Level × ℕ))). option_map_or (λ (x : ℕ × (Level × ℕ)). x.1.1) o 0) (sym a.stage.asked_is ∙ asked)))
@@ -332,7 +321,7 @@ module _ (clients : ℕ) (seed : List ℕ) (page : ℕ → List ℕ) (w : FetchF
           other = eqb-false n i is
 
           below : (i < n) ⊎ (n ≤ i) → nat_lt i n ≡ nat_lt i (suc n)
-          below (inl l) = is_below i n l ∙ sym (is_below i (suc n) (omega arith))
+          below (inl l) = lt-ltb i n l ∙ sym (lt-ltb i (suc n) (omega arith))
           below (inr l) = not_below i n l ∙ sym (not_below i (suc n) (omega (arith, other)))
 
   -- ---- how the transfer begins
@@ -349,17 +338,14 @@ module _ (clients : ℕ) (seed : List ℕ) (page : ℕ → List ℕ) (w : FetchF
   abbrev h4 : List Entry
   h4 = Sent 0 w.fetch_root ∷ h3
 
-  checkpoint_heard : (r : ℕ) → 0 < r → r < 4 → Has (λ x. x ≡ 0) (others c r) → heard (members c) 0 (w.checkpoint r) ≡ Some (checkpoint_of r)
-  checkpoint_heard r some few has = (f.checkpoints r some few).is_heard 0 has
-
   hears_1 : heard (members c) 0 (w.checkpoint 1) ≡ Some (checkpoint_of 1)
-  hears_1 = checkpoint_heard 1 (omega arith) (omega arith) (inl refl)
+  hears_1 = (f.checkpoints 1 (omega arith) (omega arith)).is_heard 0 (inl refl)
 
   hears_2 : heard (members c) 0 (w.checkpoint 2) ≡ Some (checkpoint_of 2)
-  hears_2 = checkpoint_heard 2 (omega arith) (omega arith) (inl refl)
+  hears_2 = (f.checkpoints 2 (omega arith) (omega arith)).is_heard 0 (inl refl)
 
   hears_3 : heard (members c) 0 (w.checkpoint 3) ≡ Some (checkpoint_of 3)
-  hears_3 = checkpoint_heard 3 (omega arith) (omega arith) (inl refl)
+  hears_3 = (f.checkpoints 3 (omega arith) (omega arith)).is_heard 0 (inl refl)
 
   hears_root : heard (members c) 0 w.below_root ≡ Some root_given
   hears_root = f.gives_root.is_heard 0 (inl refl)
@@ -522,4 +508,4 @@ fetching_is_run clients seed page w n small differ f =
 
 pub fetched_are_taken : FetchedAreTaken
 fetched_are_taken clients seed page w n small differ f i l =
-    (all_asked clients seed page w f n small differ).taken None i ∙ ap (λ (b : Bool). then_some b (page i)) (is_below i n l)
+    (all_asked clients seed page w f n small differ).taken None i ∙ ap (λ (b : Bool). then_some b (page i)) (lt-ltb i n l)

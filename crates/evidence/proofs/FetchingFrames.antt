@@ -43,12 +43,6 @@ digests_length (d ∷ digests) h =
     let below = digests_length digests h.1 in
     omega arith
 
-inner_are : (pages : List (List ℕ)) → AreDigests (inner_digests pages)
-inner_are pages = subst AreDigests (sym (inner_is pages)) (are_digests (λ j. concat (page_digests pages j)) 0)
-
-pages_are : (page : ℕ → List ℕ) (j : ℕ) → j < 32 → AreDigests (page_digests (all_pages page) j)
-pages_are page j l = subst AreDigests (sym (pages_part page j l)) (are_digests page (32 * j))
-
 -- ---- the frames
 
 module _ (clients : ℕ) (seed : List ℕ) (page : ℕ → List ℕ) (fit : FitFrames page) where
@@ -93,14 +87,14 @@ module _ (clients : ℕ) (seed : List ℕ) (page : ℕ → List ℕ) (fit : FitF
 
   gives_root : MaySeal c (by 1 (Meta 16 levels.Root 0 root_digests)) (0 ∷ [])
   gives_root =
-      let are = inner_are (all_pages page) in
+      let are = subst AreDigests (sym (inner_is (all_pages page))) (are_digests (λ j. concat (page_digests (all_pages page) j)) 0) in
       let n = digests_length root_digests are.each in
       let count = are.count in
       may_seal c 1 (Meta 16 levels.Root 0 root_digests) (0 ∷ []) (omega arith) refl (omega arith, refl, omega arith, are.count, are.each) refl one_few not_1 refl (omega arith)
 
   gives_inner : (j : ℕ) → j < 32 → MaySeal c (by 1 (Meta 16 levels.Inner j (part_digests j))) (0 ∷ [])
   gives_inner j l =
-      let are = pages_are page j l in
+      let are = subst AreDigests (sym (pages_part page j l)) (are_digests page (32 * j)) in
       let n = digests_length (part_digests j) are.each in
       let count = are.count in
       may_seal c 1 (Meta 16 levels.Inner j (part_digests j)) (0 ∷ []) (omega arith) refl (omega arith, refl, omega arith, are.count, are.each) refl one_few not_1 refl (omega arith)

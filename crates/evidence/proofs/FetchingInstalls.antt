@@ -10,7 +10,7 @@ use Rattle.terms.specs.declared.state.Level.TheVariants as levels
 use Rattle.wire.specs.Messages.{BodyData as Body, CheckpointEntryData as CheckpointEntry, request as Request, view_change as ViewChange, fetch as Fetch, meta as Meta, page as Page}
 use Rattle.signing.specs.Heard.{heard}
 use Rattle.protocol.specs.System.Configuration.{Configuration, members}
-use Rattle.protocol.specs.System.Trace.{Entry, history_of, Once, Always, Has}
+use Rattle.protocol.specs.System.Trace.{Entry, history_of, Once, Has}
 use Rattle.protocol.specs.System.Trace.Entry.{Got, Installed}
 use Rattle.protocol.specs.Replica.Selection.{is_quorum}
 use Rattle.protocol.specs.Replica.Certificates.{target, low, is_in_marks, logged, proposal, checkpoints_of, says_checkpoint, count_checkpoints}
@@ -31,7 +31,7 @@ use Rattle.protocol.proofs.Agreement.Checkpoints.{checkpoints_with}
 use Rattle.evidence.proofs.TransferringStages.{or_nothing, and_one, agreed}
 use Rattle.evidence.proofs.TransferringEvents.{IsGiven, IsPartOf, gets}
 use Rattle.evidence.proofs.Listing.{unders_count}
-use Rattle.evidence.proofs.Fetching.{Ready, not_below, page_first, own_last, here, ready_page, all_asked, IsOwn, gets_own, all_own, run_alone}
+use Rattle.evidence.proofs.Fetching.{Ready, not_below, page_first, own_last, here, ready_page, all_asked, gets_own, all_own, run_alone}
 use Rattle.evidence.proofs.FetchingTexts.{grows, got_grows, all_counted}
 
 abbrev nothing : Option (List ℕ)
@@ -49,9 +49,6 @@ module _ (clients : ℕ) (seed : List ℕ) (st : State) (w : FetchFrames) (n : �
   abbrev page : ℕ → List ℕ
   page = page_text st
 
-  abbrev root : List ℕ
-  root = root_of st
-
   abbrev p3 : ℕ → Bool
   p3 = and_one (and_one (and_one (λ s. false) 1) 2) 3
 
@@ -62,7 +59,7 @@ module _ (clients : ℕ) (seed : List ℕ) (st : State) (w : FetchFrames) (n : �
   past = Got 0 (w.page n) ∷ before
 
   abbrev installs : Entry
-  installs = Installed 0 16 root
+  installs = Installed 0 16 (root_of st)
 
   abbrev now : List Entry
   now = installs ∷ past
@@ -79,13 +76,13 @@ module _ (clients : ℕ) (seed : List ℕ) (st : State) (w : FetchFrames) (n : �
       go (inl m) = page_first page (suc n) i m
       go (inr m) = own_last page (suc n) i m ∙ sym (own i (omega arith) l)
 
-  same_root : root_of_pages (all_pages (in_place c 0 16 past opening)) ≡ root
+  same_root : root_of_pages (all_pages (in_place c 0 16 past opening)) ≡ root_of st
   same_root = ap root_of_pages (same_all (in_place c 0 16 past opening) page held)
 
   abbrev last_point : Point
   last_point = record first_point { state = st; snapshots = st ∷ opening ∷ [] }
 
-  installed : IsInstalled c 0 past first_point 16 root last_point
+  installed : IsInstalled c 0 past first_point 16 (root_of st) last_point
   installed = record { is_state = is_state; number = number; root_is = refl; pages = λ i l. sym (held i l); snapshots = refl; ran = refl; waiting = refl }
 
   step : IsStep c 0 past first_point installs last_point
@@ -110,7 +107,7 @@ module _ (clients : ℕ) (seed : List ℕ) (st : State) (w : FetchFrames) (n : �
   no_newer : (k : ℕ) (digest : List ℕ) → is_quorum c (count_checkpoints c now (record { number = k; digest = digest })) ≡ true → st.number < k → ⊥
   no_newer k digest quorum above =
       let m : CheckpointEntry = record { number = k; digest = digest } in
-      let is = (agreed clients seed root past p3 ready.asked 16 ready.stage m (subst (λ (x : ℕ). is_quorum c x ≡ true) (same_count m) quorum)).0 in
+      let is = (agreed clients seed (root_of st) past p3 ready.asked 16 ready.stage m (subst (λ (x : ℕ). is_quorum c x ≡ true) (same_count m) quorum)).0 in
       omega (arith, is, above, number)
 
   -- no new view starts above the state
@@ -135,8 +132,7 @@ module _ (clients : ℕ) (seed : List ℕ) (st : State) (w : FetchFrames) (n : �
 
   goes_on : (k : ℕ) → 16 ≡ k → GoesOn k
   goes_on k is =
-      let done : GoesOn 16 = inr (root, (inl (inr ready.quorum), same_root), λ can. omega (arith, number)) in
-      subst (λ (m : ℕ). GoesOn m) is done
+      subst (λ (m : ℕ). GoesOn m) is (inr (root_of st, (inl (inr ready.quorum), same_root), λ can. omega (arith, number)))
 
   owes : Owes c 0 before (Got 0 (w.page n)) (installs ∷ []) now first_point last_point
   owes = record {
@@ -166,10 +162,7 @@ module _ (clients : ℕ) (seed : List ℕ) (st : State) (w : FetchFrames) (n : �
       same_bytes other is = cc
 
   pub prompt : IsPromptReplica c 0 now
-  prompt = (last_point, (first_point, step, (first_point, gets clients seed root before (w.page n) ready.body ready.hears ready.given, (owes, ready.proceeds))))
-
-  all_are_own : Always IsOwn now
-  all_are_own = ((refl, λ output. refl), gets_own before (w.page n) (all_own w n))
+  prompt = (last_point, (first_point, step, (first_point, gets clients seed (root_of st) before (w.page n) ready.body ready.hears ready.given, (owes, ready.proceeds))))
 
   pub counted : length (texts_from c now now) ≡ n + n / 32 + 1094
   counted =
@@ -179,7 +172,7 @@ module _ (clients : ℕ) (seed : List ℕ) (st : State) (w : FetchFrames) (n : �
       omega arith
 
   pub is_run : IsRun c now
-  is_run = run_alone clients seed now all_are_own prompt
+  is_run = run_alone clients seed now ((refl, λ output. refl), gets_own before (w.page n) (all_own w n)) prompt
 
 -- ---- the pages of a state
 

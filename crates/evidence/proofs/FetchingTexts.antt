@@ -83,7 +83,7 @@ module _ (clients : ℕ) (seed : List ℕ) (page : ℕ → List ℕ) (w : FetchF
   all_counted zero small =
       let root = got_grows configuration trace w.below_root (whole_body 1 (Meta 16 levels.Root 0 (inner_digests (all_pages page)))) h4 1 f.gives_root.says refl in
       let asks = sent_grows configuration trace w.fetch_root (whole_body 0 (Fetch 16 levels.Root 0)) h3 f.asks_root.says refl in
-      let third = got_grows configuration trace (w.checkpoint 3) (checkpoint 3) h2 0 (f.checkpoints 3 (omega arith) (omega arith)).says refl in
+      let third = got_grows configuration trace (w.checkpoint 3) (checkpoint 3) (Got 0 (w.checkpoint 2) ∷ h1) 0 (f.checkpoints 3 (omega arith) (omega arith)).says refl in
       let second = got_grows configuration trace (w.checkpoint 2) (checkpoint 2) h1 0 (f.checkpoints 2 (omega arith) (omega arith)).says refl in
       let first = got_grows configuration trace (w.checkpoint 1) (checkpoint 1) [] 0 (f.checkpoints 1 (omega arith) (omega arith)).says refl in
       let none = first_count configuration trace in
@@ -96,11 +96,8 @@ module _ (clients : ℕ) (seed : List ℕ) (page : ℕ → List ℕ) (w : FetchF
       h1 : List Entry
       h1 = Got 0 (w.checkpoint 1) ∷ []
 
-      h2 : List Entry
-      h2 = Got 0 (w.checkpoint 2) ∷ h1
-
       h3 : List Entry
-      h3 = Got 0 (w.checkpoint 3) ∷ h2
+      h3 = Got 0 (w.checkpoint 3) ∷ Got 0 (w.checkpoint 2) ∷ h1
 
       h4 : List Entry
       h4 = Sent 0 w.fetch_root ∷ h3
@@ -117,8 +114,7 @@ module _ (clients : ℕ) (seed : List ℕ) (page : ℕ → List ℕ) (w : FetchF
           omega arith
       go false is below got =
           let add = asked_count (Got 0 (w.page n) ∷ fetching_pages w n) (suc n) small 0 (inr (is, refl)) in
-          let at : suc n % 32 ≡ 0 → ⊥ = eqb-false (suc n % 32) 0 is in
-          omega (arith, at)
+          omega (arith, eqb-false (suc n % 32) 0 is)
 
 pub fetched_add_themselves : FetchedAddThemselves
 fetched_add_themselves clients seed page w n small differ f =
@@ -127,16 +123,13 @@ fetched_add_themselves clients seed page w n small differ f =
 -- ---- what a page adds to any trace
 
 module _ (c : Configuration) (p : ℕ) (bytes : List ℕ) (trace : List Entry) where
-  same_batch : (k : ℕ) → first_batch c (Got p bytes ∷ trace) k ≡ first_batch c trace k
-  same_batch k = or_else_alone (first_batch c trace k) None refl
-
   still_first : (k : ℕ) (batches : List (List ℕ)) → AreFirst c trace k batches → AreFirst c (Got p bytes ∷ trace) k batches
   still_first k [] h = tt
-  still_first k (b ∷ batches) h = (same_batch k ∙ h.0, still_first (k + 1) batches h.1)
+  still_first k (b ∷ batches) h = ((or_else_alone (first_batch c trace k) None refl) ∙ h.0, still_first (k + 1) batches h.1)
 
   were_first : (k : ℕ) (batches : List (List ℕ)) → AreFirst c (Got p bytes ∷ trace) k batches → AreFirst c trace k batches
   were_first k [] h = tt
-  were_first k (b ∷ batches) h = (sym (same_batch k) ∙ h.0, were_first (k + 1) batches h.1)
+  were_first k (b ∷ batches) h = (sym (or_else_alone (first_batch c trace k) None refl) ∙ h.0, were_first (k + 1) batches h.1)
 
   -- an earlier text stays a text
   still_text : (x : List ℕ) → IsText c trace x → IsText c (Got p bytes ∷ trace) x

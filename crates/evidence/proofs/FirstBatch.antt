@@ -8,7 +8,7 @@ use Rattle.quorum.specs.Votes.{has_digest, or_else}
 use Rattle.protocol.specs.System.Configuration.{Configuration, members}
 use Rattle.wire.specs.Messages.{BodyData as Body, MessageData as Message, AuthenticatorData as Authenticator, macs, signature, pre_prepare as PrePrepare, prepare as Prepare, commit as Commit}
 use Rattle.signing.specs.Heard.{heard}
-use Rattle.wire.specs.Words.{receivers_of, said}
+use Rattle.wire.specs.Words.{receivers_of}
 use Rattle.protocol.specs.System.Trace.{Entry}
 use Rattle.protocol.specs.System.Trace.Entry.{Got, Executed, Sent}
 use Rattle.protocol.specs.Replica.Certificates.{view, target, low, taken, is_active_in, counts_at, logged, prepare_of, prepare_from, commit_of, commit_from, vote_in, first_given, Prepared, Committed, is_in_marks, batch_begun, begun_proposal, entry_proposal}
@@ -125,11 +125,8 @@ module _ (clients : ℕ) (seed batch a b d e f g : List ℕ) (x : IsFirstBatch (
       or_else_second None later y h k = k
       or_else_second (Some z) later y h k = absurd cc
 
-      no_view : taken c [] (Got 1 a) ≡ None
-      no_view = taken_none c [] (Got 1 a) plain1.0
-
       nothing_begun : (m : Bool) → cond m (option_and_then (batch_begun 0 1) (taken c [] (Got 1 a))) None ≡ None
-      nothing_begun true = ap (option_and_then (batch_begun 0 1)) no_view
+      nothing_begun true = ap (option_and_then (batch_begun 0 1)) (taken_none c [] (Got 1 a) plain1.0)
       nothing_begun false = refl
 
       begun : begun_proposal c 1 [] (Got 1 a) 0 1 ≡ None
@@ -137,12 +134,6 @@ module _ (clients : ℕ) (seed batch a b d e f g : List ℕ) (x : IsFirstBatch (
 
       entry : entry_proposal c 1 [] (Got 1 a) 0 1 ≡ Some batch
       entry = rw (counts [] a tt) (rw x.proposed (rw x.genuine refl))
-
-  logged2 : logged c 1 h2 0 1 ≡ Some batch
-  logged2 = logged_stays c 1 0 1 batch (Sent 1 b) h1 logged1
-
-  logged3 : logged c 1 h3 0 1 ≡ Some batch
-  logged3 = logged_stays c 1 0 1 batch (Got 1 d) h2 logged2
 
   -- ---- votes
 
@@ -152,9 +143,6 @@ module _ (clients : ℕ) (seed batch a b d e f g : List ℕ) (x : IsFirstBatch (
   vote_got : (vote : Body → Option (List ℕ)) (past : List Entry) (bytes : List ℕ) (body : Body) → AllPlain c past → heard (members c) 1 bytes ≡ Some body → give vote past (Got 1 bytes) ≡ vote body
   vote_got vote past bytes body p h = ap (λ (t : Bool). cond t (option_and_then vote (heard (members c) 1 bytes)) None) (counts past bytes p) ∙ ap (option_and_then vote) h
 
-  vote_said : (vote : Body → Option (List ℕ)) (past : List Entry) (bytes : List ℕ) (body : Body) → said bytes ≡ Some body → give vote past (Sent 1 bytes) ≡ vote body
-  vote_said vote past bytes body h = ap (option_and_then vote) h
-
   then : (vote : Body → Option (List ℕ)) (past : List Entry) (e : Entry) (o : Option (List ℕ)) → first_given (give vote) past ≡ None → give vote past e ≡ o → first_given (give vote) (e ∷ past) ≡ o
   then vote past e o none here = ap (λ (u : Option (List ℕ)). or_else u (give vote past e)) none ∙ here
 
@@ -162,13 +150,13 @@ module _ (clients : ℕ) (seed batch a b d e f g : List ℕ) (x : IsFirstBatch (
   at1 vote = then vote [] (Got 1 a) (vote (record { sender = 0; message = PrePrepare 0 1 batch })) refl (vote_got vote [] a (record { sender = 0; message = PrePrepare 0 1 batch }) tt x.proposed)
 
   at2 : (vote : Body → Option (List ℕ)) → first_given (give vote) h1 ≡ None → first_given (give vote) h2 ≡ vote (record { sender = 1; message = Prepare 0 1 (sha256 batch) })
-  at2 vote none = then vote h1 (Sent 1 b) (vote (record { sender = 1; message = Prepare 0 1 (sha256 batch) })) none (vote_said vote h1 b (record { sender = 1; message = Prepare 0 1 (sha256 batch) }) x.prepares)
+  at2 vote none = then vote h1 (Sent 1 b) (vote (record { sender = 1; message = Prepare 0 1 (sha256 batch) })) none (ap (option_and_then vote) x.prepares)
 
   at3 : (vote : Body → Option (List ℕ)) → first_given (give vote) h2 ≡ None → first_given (give vote) h3 ≡ vote (record { sender = 2; message = Prepare 0 1 (sha256 batch) })
   at3 vote none = then vote h2 (Got 1 d) (vote (record { sender = 2; message = Prepare 0 1 (sha256 batch) })) none (vote_got vote h2 d (record { sender = 2; message = Prepare 0 1 (sha256 batch) }) plain2 x.other_prepares)
 
   at4 : (vote : Body → Option (List ℕ)) → first_given (give vote) h3 ≡ None → first_given (give vote) h4 ≡ vote (record { sender = 1; message = Commit 0 1 (sha256 batch) })
-  at4 vote none = then vote h3 (Sent 1 e) (vote (record { sender = 1; message = Commit 0 1 (sha256 batch) })) none (vote_said vote h3 e (record { sender = 1; message = Commit 0 1 (sha256 batch) }) x.commits)
+  at4 vote none = then vote h3 (Sent 1 e) (vote (record { sender = 1; message = Commit 0 1 (sha256 batch) })) none (ap (option_and_then vote) x.commits)
 
   at5 : (vote : Body → Option (List ℕ)) → first_given (give vote) h4 ≡ None → first_given (give vote) h5 ≡ vote (record { sender = 0; message = Commit 0 1 (sha256 batch) })
   at5 vote none = then vote h4 (Got 1 f) (vote (record { sender = 0; message = Commit 0 1 (sha256 batch) })) none (vote_got vote h4 f (record { sender = 0; message = Commit 0 1 (sha256 batch) }) plain4 x.first_commits)
@@ -188,7 +176,7 @@ module _ (clients : ℕ) (seed batch a b d e f g : List ℕ) (x : IsFirstBatch (
 
   prepared : Prepared c 1 h3 0 1 batch
   prepared = record {
-    logged = logged3;
+    logged = logged_stays c 1 0 1 batch (Got 1 d) h2 (logged_stays c 1 0 1 batch (Sent 1 b) h1 logged1);
     backups = two_of_four (λ s. has_digest (sha256 batch) (prepare_of c 1 h3 0 1 s))
         (ap (has_digest (sha256 batch)) (prepare_stays c 1 0 1 1 (sha256 batch) (Got 1 d) h2 own_prepare) ∙ same_digest (sha256 batch))
         (ap (has_digest (sha256 batch)) other_prepare ∙ same_digest (sha256 batch));

@@ -57,9 +57,6 @@ module _ (clients : ℕ) (seed : List ℕ) (op : Operation) (batch : List ℕ) (
   goes_ordered : went_ordered asked 1 ≡ true
   goes_ordered = ap (λ (o : Option Body). option_map_or (is_ordered_request 1) o false || false) x.asks.says
 
-  same : is_alike vote (Some vote) ≡ true
-  same = (bytes_eq-Decides (outcome_spelling (first_answer op)) (outcome_spelling (first_answer op))).1 refl
-
   -- ---- the latest replies
 
   abbrev is_of : ℕ → ℕ → Bool
@@ -93,7 +90,7 @@ module _ (clients : ℕ) (seed : List ℕ) (op : Operation) (batch : List ℕ) (
   alike now s = is_alike vote (latest c 256 now 1 modes.Ordered s)
 
   at : (now : List Entry) (s : ℕ) → latest c 256 now 1 modes.Ordered s ≡ Some vote → alike now s ≡ true
-  at now s e = ap (is_alike vote) e ∙ same
+  at now s e = ap (is_alike vote) e ∙ ((bytes_eq-Decides (outcome_spelling (first_answer op)) (outcome_spelling (first_answer op))).1 refl)
 
   off : (now : List Entry) (s : ℕ) → latest c 256 now 1 modes.Ordered s ≡ None → alike now s ≡ false
   off now s e = ap (is_alike vote) e
@@ -118,12 +115,9 @@ module _ (clients : ℕ) (seed : List ℕ) (op : Operation) (batch : List ℕ) (
       → on_got c 256 now call ≡ cond b (accepts 1 (first_answer op)) nothing
   gives now b e f g = rw e (rw g (go b))
     where
-      falls : fallback c 256 now call ≡ nothing
-      falls = ap (λ (o : Bool). cond (not o && is_answered c 256 now 1) (asks modes.Ordered call) nothing) f
-
       go : (b : Bool) → cond b (accepts 1 (first_answer op)) (fallback c 256 now call) ≡ cond b (accepts 1 (first_answer op)) nothing
       go true = refl
-      go false = falls
+      go false = ap (λ (o : Bool). cond (not o && is_answered c 256 now 1) (asks modes.Ordered call) nothing) f
 
   pub is_request : IsRequest c 256 modes.Ordered call w.request
   is_request = record {
@@ -144,9 +138,6 @@ module _ (clients : ℕ) (seed : List ℕ) (op : Operation) (batch : List ℕ) (
   third : reaction c 256 three ≡ accepts 1 (first_answer op)
   third = gives three true (newest 2 (omega arith) two) goes_ordered three_are_complete
 
-  abbrev whole : List Entry
-  whole = Got 256 (w.reply 3) ∷ Accepted 0 1 (first_answer op) ∷ three
-
   reacts : (r s : Reaction) (outputs : List Entry) → r ≡ s → IsReaction c 256 s outputs → IsReaction c 256 r outputs
   reacts r s outputs e h = rw e h
 
@@ -156,7 +147,7 @@ module _ (clients : ℕ) (seed : List ℕ) (op : Operation) (batch : List ℕ) (
   after_two : Reacts c 256 (reaction c 256) [] two
   after_two = (refl, (tt, reacts (reaction c 256 two) nothing [] second refl, (refl, (tt, reacts (reaction c 256 one) nothing [] first refl, after_call))))
 
-  after_all : Reacts c 256 (reaction c 256) [] whole
+  after_all : Reacts c 256 (reaction c 256) [] (Got 256 (w.reply 3) ∷ Accepted 0 1 (first_answer op) ∷ three)
   after_all = (refl, (tt, refl, (refl, (refl, (tt, reacts (reaction c 256 three) (accepts 1 (first_answer op)) (Accepted 0 1 (first_answer op) ∷ []) third (0, refl), after_two)))))
 
   pub is_client : IsClient c 256 (history_of 256 (first_trace op batch w))

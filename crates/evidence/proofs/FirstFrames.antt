@@ -15,7 +15,6 @@ use Rattle.terms.specs.declared.order.Mode.TheVariants as modes
 use Rattle.wire.specs.Lists.{Each, ascends}
 use Rattle.wire.specs.Messages.{BodyData as Body, MessageData as Message, request as Request, pre_prepare as PrePrepare, prepare as Prepare, commit as Commit, reply as Reply}
 use Rattle.wire.specs.Spelling.{IsDigest, IsMessage, IsBatch, IsCarried, is_ordered_request, is_signed, piece, pieces_spelling, fields_spelling, body_spelling, frame_limit}
-use Rattle.wire.specs.Words.{requests_of}
 use Rattle.tuple_codec.proofs.Lengths.{operation_short}
 use Rattle.wire.proofs.Telling.{reads_requests}
 use Rattle.authenticator.specs.Membership.{sends}
@@ -65,9 +64,6 @@ is_digest text = record { whole = length-sha256 text; bytes = digest_is_bytes _ 
 
 is_batch : (request : List ℕ) → IsCarried is_ordered_request request → IsBatch 1 (pieces_spelling (request ∷ []))
 is_batch request carried = record { requests = request ∷ []; whole = refl; enough = omega arith; few = omega arith; each = (carried, tt) }
-
-its_request : (request : List ℕ) → IsCarried is_ordered_request request → requests_of (pieces_spelling (request ∷ [])) ≡ request ∷ []
-its_request request carried = reads_requests (request ∷ []) (omega arith) (carried, tt)
 
 -- ---- messages that fit a frame
 
@@ -138,9 +134,6 @@ module _ (clients : ℕ) (seed : List ℕ) (op : Operation) (valid : IsConfigura
   abbrev by : ℕ → Message → Body
   by sender message = record { sender = sender; message = message }
 
-  abbrev made : ℕ → Message → List ℕ → List ℕ
-  made sender message receivers = sealed_bytes c sender receivers (body_spelling (by sender message))
-
   abbrev to_all : List ℕ
   to_all = range_with_len 0 (replicas c)
 
@@ -148,7 +141,7 @@ module _ (clients : ℕ) (seed : List ℕ) (op : Operation) (valid : IsConfigura
   asking = Request 1 modes.Ordered op
 
   abbrev request : List ℕ
-  request = made 256 asking to_all
+  request = sealed_bytes c 256 to_all (body_spelling (by 256 asking))
 
   asks : MaySeal c (by 256 asking) to_all
   asks =
@@ -202,17 +195,17 @@ module _ (clients : ℕ) (seed : List ℕ) (op : Operation) (valid : IsConfigura
   abbrev frames : FirstFrames
   frames = record {
     request = request;
-    pre_prepare = made 0 (PrePrepare 0 1 batch) (others c 0);
-    prepare = λ r. made r (Prepare 0 1 (sha256 batch)) (others c r);
-    commit = λ r. made r (Commit 0 1 (sha256 batch)) (others c r);
-    reply = λ r. made r (Reply 256 1 modes.Ordered 1 (first_answer op)) (256 ∷ []);
+    pre_prepare = sealed_bytes c 0 (others c 0) (body_spelling (by 0 (PrePrepare 0 1 batch)));
+    prepare = λ r. sealed_bytes c r (others c r) (body_spelling (by r (Prepare 0 1 (sha256 batch))));
+    commit = λ r. sealed_bytes c r (others c r) (body_spelling (by r (Commit 0 1 (sha256 batch))));
+    reply = λ r. sealed_bytes c r (256 ∷ []) (body_spelling (by r (Reply 256 1 modes.Ordered 1 (first_answer op))));
   }
 
   are_first : AreFirstFrames c op batch frames
   are_first = record {
     operation = right;
     writes = writes;
-    requests = its_request request is_carried;
+    requests = reads_requests (request ∷ []) (omega arith) (is_carried, tt);
     asks = sealed_is_heard c (by 256 asking) to_all asks;
     proposes = sealed_is_heard c (by 0 (PrePrepare 0 1 batch)) (others c 0) proposes;
     prepares = λ r l. sealed_is_heard c (by r (Prepare 0 1 (sha256 batch))) (others c r) (prepares r l);

@@ -37,14 +37,11 @@ are_for seed sender text (p ∷ ps) = ap (λ qs. p ∷ qs) (are_for seed sender 
 entries_length : (seed : List ℕ) (sender : ℕ) (text : List ℕ) (ps : List ℕ) → length (each_spelling mac_spelling (map (entry_for seed sender text) ps)) ≡ 34 * length ps
 entries_length seed sender text [] = refl
 entries_length seed sender text (p ∷ ps) =
-    let first = length-hmac_of (key_between seed sender p) text in
-    let more = entries_length seed sender text ps in
-    simp length-append (omega (arith, first, more))
+    simp length-append (omega (arith, length-hmac_of (key_between seed sender p) text, entries_length seed sender text ps))
 
 pub sealed_length : (c : Configuration) (sender : ℕ) (receivers text : List ℕ) → length (sealed_bytes c sender receivers text) ≡ length text + (6 + 34 * length receivers)
 sealed_length c sender receivers text =
-    let entries = entries_length c.seed sender text receivers in
-    simp length-append (omega (arith, entries))
+    simp length-append (omega (arith, entries_length c.seed sender text receivers))
 
 has_contains : (p : ℕ) (rs : List ℕ) → Has (λ r. r ≡ p) rs → Contains rs p
 has_contains p [] h = absurd h
@@ -107,9 +104,6 @@ ascends_of (p ∷ ps) h = and_from (leads nat_lt p ps) (ascends nat_lt ps) (firs
     first [] h = refl
     first (q ∷ qs) h = lt-ltb p q (h 0 1 0 (omega arith) (omega arith))
 
-replica_below : (c : Configuration) → IsConfiguration c → (p : ℕ) → is_replica c p ≡ true → p < 2 ^ 16
-replica_below c valid p h = let l : p < replicas c = ltb-true p (replicas c) h in let m = valid.most in omega arith
-
 client_below : (c : Configuration) → IsConfiguration c → (p : ℕ) → is_client c p ≡ true → p < 2 ^ 16
 client_below c valid p h =
     let l : p < 256 + c.clients = ltb-true p (256 + c.clients) (and_parts (nat_le 256 p) (nat_lt p (256 + c.clients)) h).1 in
@@ -120,7 +114,7 @@ party_below : (c : Configuration) → IsConfiguration c → (p : ℕ) → is_par
 party_below c valid p h = go (is_replica c p) refl h
   where
     go : (b : Bool) → is_replica c p ≡ b → (b || is_client c p) ≡ true → p < 2 ^ 16
-    go true is h = replica_below c valid p is
+    go true is h = let l : p < replicas c = ltb-true p (replicas c) is in let m = valid.most in omega arith
     go false is h = client_below c valid p h
 
 parties_below : (c : Configuration) → IsConfiguration c → (ps : List ℕ) → All (λ p. is_party c p ≡ true) ps → Each (λ p. p < 2 ^ 16) ps
@@ -129,7 +123,7 @@ parties_below c valid (p ∷ ps) h = (party_below c valid p (h 0 0 (omega arith)
 
 sender_below : (c : Configuration) → IsConfiguration c → (p : ℕ) (m : Message) → sends (members c) p m ≡ true → p < 2 ^ 16
 sender_below c valid p (Request t mode op) h = client_below c valid p h
-sender_below c valid p _ h = replica_below c valid p h
+sender_below c valid p _ h = let l : p < replicas c = ltb-true p (replicas c) h in let m = valid.most in omega arith
 
 pub sealed_frames_are_heard : SealedFramesAreHeard
 sealed_frames_are_heard c valid sender message receivers known right unsigned are others short =

@@ -119,15 +119,12 @@ module _ (clients : ℕ) (seed batch : List ℕ) (me : ℕ) where
 
   active_zero : (past : List Entry) (l : Bool) (p k : ℕ → Bool) → At past l p k → (v : ℕ) → is_active_in c past v ≡ true → v ≡ 0
   active_zero past l p k st v h =
-      let s = still c me past st.plain in
-      let e : view c past ≡ v = eqb-true (view c past) v (and_parts (view c past == v) (nat_le (target past) v) h).0 in
-      sym e ∙ s.view_is
+      sym (eqb-true (view c past) v (and_parts (view c past == v) (nat_le (target past) v) h).0) ∙ (still c me past st.plain).view_is
 
   no_checkpoints : (past : List Entry) (l : Bool) (p k : ℕ → Bool) → At past l p k → (checkpoint : CheckpointEntry) → is_quorum c (count_checkpoints c past checkpoint) ≡ true → ⊥
   no_checkpoints past l p k st checkpoint h =
       let same : count_checkpoints c past checkpoint ≡ 0 = count_same (λ s. says_checkpoint checkpoint (checkpoints_of c past s)) (λ s. false) (λ s. ap (says_checkpoint checkpoint) (st.checkpoints_are s)) 4 in
-      let bad : is_quorum c 0 ≡ true = subst (λ (n : ℕ). is_quorum c n ≡ true) same h in
-      absurd (let worse : false ≡ true = bad in cc)
+      absurd (let worse : false ≡ true = subst (λ (n : ℕ). is_quorum c n ≡ true) same h in cc)
 
   -- ---- an event
 
@@ -148,9 +145,6 @@ module _ (clients : ℕ) (seed batch : List ℕ) (me : ℕ) where
 
   heard_is : (bytes : List ℕ) (body other : Body) → heard (members c) me bytes ≡ Some body → heard (members c) me bytes ≡ Some other → body ≡ other
   heard_is bytes body other h k = some_injective body other (sym h ∙ k)
-
-  is_ordered : modes.ReadOnly ≡ modes.Ordered → ⊥
-  is_ordered h = cc
 
   pub owes : (before : List Entry) (bytes : List ℕ) (outputs now : List Entry) (old new : Point) (l l' : Bool) (p p' k k' : ℕ → Bool)
       → At before l p k → At now l' p' k' → Due before bytes outputs now old new l l' p p' k' → Owes c me before (Got me bytes) outputs now old new
@@ -179,7 +173,7 @@ module _ (clients : ℕ) (seed batch : List ℕ) (me : ℕ) where
         absurd (subst (λ (calls : List Call). Has (λ x. x ≡ r.0) calls) u.2 r.1);
     reads = λ n t op asks is.
         let u = subst (λ (x : Body). IsUnanswered old x.message) (heard_is bytes due.body (record { sender = n; message = Request t modes.ReadOnly op }) due.hears asks) due.unanswered in
-        absurd (is_ordered u.0);
+        absurd cc;
     fetched_digests = λ s n index level h asks st kept.
         absurd (subst (λ (x : Body). IsUnanswered old x.message) (heard_is bytes due.body (record { sender = s; message = Fetch n level index }) due.hears asks) due.unanswered);
     fetched_page = λ s n index asks st kept.

@@ -14,7 +14,7 @@ use Rattle.protocol.specs.System.Trace.{Entry, Once, Has}
 use Rattle.protocol.specs.System.Trace.Entry.{Got, Executed, Sent}
 use Rattle.protocol.specs.Replica.Certificates.{are_genuine, Committed}
 use Rattle.protocol.specs.Replica.State.{Call, call_of, opening, last_time}
-use Rattle.protocol.specs.Replica.RightReplica.{first_point, others, HasSeen, IsFree, MaySend, IsStep}
+use Rattle.protocol.specs.Replica.RightReplica.{first_point, others, HasSeen, IsFree, MaySend}
 use Rattle.protocol.specs.Replica.Owed.{IsOfView, BeginsViewWith, HasRequest, IsNumbered, AreDifferent, NumbersOnce, HistoryIsPrompt, IsReplica}
 use Rattle.evidence.specs.Examples.{four}
 use Rattle.evidence.specs.FirstOperation.{FirstFrames, AreFirstFrames}
@@ -122,11 +122,8 @@ module _ (clients : ℕ) (seed : List ℕ) (op : Operation) (batch : List ℕ) (
   s3 : At h3 true p1 none
   s3 = events.behind_prepare self h2 1 none none first_sender refl s2
 
-  s4 : At h4 true p2 none
-  s4 = events.behind_prepare self h3 2 p1 none second_sender refl s3
-
   s5 : At h5 true p2 k1
-  s5 = events.behind_own_commit self h4 p2 none s4
+  s5 = events.behind_own_commit self h4 p2 none (events.behind_prepare self h3 2 p1 none second_sender refl s3)
 
   s6 : At h6 true p3 k1
   s6 = events.behind_prepare self h5 3 p2 k1 third_sender refl s5
@@ -134,11 +131,8 @@ module _ (clients : ℕ) (seed : List ℕ) (op : Operation) (batch : List ℕ) (
   s7 : At h7 true p3 k2
   s7 = events.behind_commit self h6 2 p3 k1 second_sender s6
 
-  s8 : At h8 true p3 k3
-  s8 = events.behind_commit self h7 3 p3 k2 third_sender s7
-
   s10 : At h10 true p3 k3
-  s10 = events.behind_reply self h8 p3 k3 s8
+  s10 = events.behind_reply self h8 p3 k3 (events.behind_commit self h7 3 p3 k2 third_sender s7)
 
   pub behind : At primary_history true p3 k4
   behind = events.behind_commit self h10 1 p3 k3 first_sender s10
@@ -182,9 +176,6 @@ module _ (clients : ℕ) (seed : List ℕ) (op : Operation) (batch : List ℕ) (
 
   -- ---- the proposal
 
-  step_request : IsStep c 0 [] first_point (Got 0 w.request) (waits op)
-  step_request = record { own = refl; may = tt; moves = steps.moves_request self }
-
   -- the first number is the next one
   is_free : IsFree c 0 h1 (waits op).state.number 0 1
   is_free = record { in_marks = events.marked self h1 s1.plain; near = omega arith; used = λ j above below. absurd (omega (arith, above, below)); unused = λ j above. s1.logged_is 0 j ∙ never (here 0 j) batch }
@@ -226,7 +217,7 @@ module _ (clients : ℕ) (seed : List ℕ) (op : Operation) (batch : List ℕ) (
     record { own = refl; may = may_propose; moves = refl },
     (
       first_point,
-      step_request,
+      record { own = refl; may = tt; moves = steps.moves_request self },
       (events.owing self [] w.request (Sent 0 w.pre_prepare ∷ []) h2 first_point (waits op) false true none none none none s0 s2 due_request, (refl, refl)),
     ),
   )
@@ -245,7 +236,7 @@ module _ (clients : ℕ) (seed : List ℕ) (op : Operation) (batch : List ℕ) (
   to_commit : HistoryIsPrompt c 0 h5 [] (waits op) (waits op)
   to_commit = (
     waits op,
-    events.step_commit self h4 p2 none s4 refl (λ here. here),
+    events.step_commit self h4 p2 none (events.behind_prepare self h3 2 p1 none second_sender refl s3) refl (λ here. here),
     (
       waits op,
       events.step_quiet self h3 (w.prepare 2) (prepares batch 2) (events.hears_prepare self 2 second_sender) refl,
@@ -285,7 +276,7 @@ module _ (clients : ℕ) (seed : List ℕ) (op : Operation) (batch : List ℕ) (
     events.step_reply self (Executed 0 1 batch ∷ h8) (events.behind_execution self h8 (λ here. here)),
     (
       waits op,
-      events.step_executed self h8 p3 k3 s8 refl refl refl,
+      events.step_executed self h8 p3 k3 (events.behind_commit self h7 3 p3 k2 third_sender s7) refl refl refl,
       (
         waits op,
         events.step_quiet self h7 (w.commit 3) (commits batch 3) (events.hears_commit self 3 third_sender) refl,

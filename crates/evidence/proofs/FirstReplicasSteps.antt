@@ -100,16 +100,13 @@ module _ (o : Part) where
   abbrev batch : List ℕ
   batch = o.batch
 
-  abbrev w : FirstFrames
-  w = o.frames
-
   abbrev me : ℕ
   me = o.me
 
   abbrev c : Configuration
   c = four clients seed
 
-  pub hears_request : heard (members c) me w.request ≡ Some (asks op)
+  pub hears_request : heard (members c) me o.frames.request ≡ Some (asks op)
   hears_request = o.are_frames.asks.is_heard me (is_among me (range_with_len 0 4) o.member)
 
   pub genuine : are_genuine c me batch ≡ true
@@ -122,7 +119,7 @@ module _ (o : Part) where
       go true e = refl
       go false e = absurd (let f = ltb-false 256 (256 + clients) e in let g = o.setting.some_clients in omega arith)
 
-  pub called : call_of c w.request ≡ Some (the_call op)
+  pub called : call_of c o.frames.request ≡ Some (the_call op)
   called = ap (option_and_then (call_in c)) o.are_frames.asks.says ∙ calls
 
   pub after_number : (after c batch).number ≡ 1
@@ -135,7 +132,7 @@ module _ (o : Part) where
       ∙ ap (λ (frames : List (List ℕ)). last_time (fold (run_frame c 1) opening frames) 0) o.are_frames.requests
       ∙ ap (λ (call : Option Call). last_time (option_map_or (run_call opening 1) call opening) 0) called
 
-  pub moves_request : waits op ≡ record first_point { ran = []; waiting = waiting_after c me first_point w.request }
+  pub moves_request : waits op ≡ record first_point { ran = []; waiting = waiting_after c me first_point o.frames.request }
   unfolding no_replies
   moves_request =
       sym (ap (point_of opening []) (ap (λ (body : Option Body). option_map_or (with_waiting opening []) (option_and_then (call_in c) body) []) hears_request ∙ ap (λ (call : Option Call). option_map_or (with_waiting opening []) call []) calls))
@@ -151,7 +148,7 @@ module _ (o : Part) where
   moves_executed =
       sym (ap (λ (ss : List State). made ss (ran_in c 1 opening (requests_of batch)) (still_waiting (after c batch) (the_call op ∷ []))) states
       ∙ ap (λ (rs : List Ran). made (opening ∷ []) rs (still_waiting (after c batch) (the_call op ∷ []))) rans
-      ∙ ap (made (opening ∷ []) (the_ran op ∷ [])) waiting)
+      ∙ ap (made (opening ∷ []) (the_ran op ∷ [])) (ap (λ (t : ℕ). cond (nat_lt t 1) (the_call op ∷ []) []) after_time))
     where
       made : List State → List Ran → List Call → Point
       made ss rs cs = record { state = after c batch; snapshots = ss; ran = rs; waiting = cs }
@@ -161,9 +158,6 @@ module _ (o : Part) where
 
       rans : ran_in c 1 opening (requests_of batch) ≡ the_ran op ∷ []
       rans = ap (ran_in c 1 opening) o.are_frames.requests ∙ ap (λ (call : Option Call). option_map_or (ran_by opening 1) call [] ++ []) called
-
-      waiting : still_waiting (after c batch) (the_call op ∷ []) ≡ []
-      waiting = ap (λ (t : ℕ). cond (nat_lt t 1) (the_call op ∷ []) []) after_time
 
   -- ---- what the replica sends
 

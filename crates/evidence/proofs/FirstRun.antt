@@ -49,8 +49,7 @@ other_client clients seed p h e =
   where
     high : 256 ≤ p
     high =
-        let k = and_parts (is_client (four clients seed) p) true h in
-        leb-true 256 p (and_parts (nat_le 256 p) (nat_lt p (256 + clients)) k.0).0
+        leb-true 256 p (and_parts (nat_le 256 p) (nat_lt p (256 + clients)) (and_parts (is_client (four clients seed) p) true h).0).0
 
 -- ---- outputs follow
 
@@ -138,8 +137,7 @@ module _ (clients : ℕ) (seed : List ℕ) (op : Operation) (batch : List ℕ) (
     where
       here : (m : Move) → is_send n m ≡ true → SendsBody (body n) (map entry past) (entry m)
       here (sends k) e =
-          let same : k ≡ n = eqb-true k n e in
-          subst (λ (i : ℕ). SendsBody (body n) (map entry past) (Sent (the i).sender (the i).bytes)) (sym same) (refl, says)
+          subst (λ (i : ℕ). SendsBody (body n) (map entry past) (Sent (the i).sender (the i).bytes)) (sym (eqb-true k n e)) (refl, says)
       here asks e = absurd cc
       here (gets p k) e = absurd cc
       here (runs r) e = absurd cc

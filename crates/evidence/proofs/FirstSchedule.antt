@@ -153,12 +153,9 @@ module _ (clients : ℕ) (seed : List ℕ) (op : Operation) (batch : List ℕ) (
       (g.0, gives refl g.1)
   follow (asks ∷ ms) ns delivered h u f d = absurd cc
 
-  abbrev later : List Move
-  later = drop 1 moves
-
   pub is_fed : Feeds c (calls 0 op ∷ flush ∷ []) (first_trace op batch w)
   is_fed =
-      let g = follow later [] [] refl (with_entry c new_world (Invoke 0 1 op)) refl refl in
+      let g = follow (drop 1 moves) [] [] refl (with_entry c new_world (Invoke 0 1 op)) refl refl in
       (g.0, called (correct 256 refl, refl, x.operation) g.1)
 
 pub first_operation_is_fed : FirstOperationIsFed

@@ -33,13 +33,10 @@ known_correct clients seed some p h =
     (λ h. or_cases (1 == p) _ _ h (λ e. is 1 e refl)
     (λ h. or_cases (2 == p) _ _ h (λ e. is 2 e refl)
     (λ h. or_cases (3 == p) _ _ h (λ e. is 3 e refl)
-    (λ h. or_cases (256 == p) _ _ h (λ e. is 256 e first) (λ h. absurd cc)))))
+    (λ h. or_cases (256 == p) _ _ h (λ e. is 256 e (rw (lt-ltb 256 (256 + clients) (omega (arith, some))) refl)) (λ h. absurd cc)))))
   where
     is : (q : ℕ) → (q == p) ≡ true → is_correct (four clients seed) q ≡ true → is_correct (four clients seed) p ≡ true
     is q e h = subst (λ (r : ℕ). is_correct (four clients seed) r ≡ true) (eqb-true q p e) h
-
-    first : is_correct (four clients seed) 256 ≡ true
-    first = rw (lt-ltb 256 (256 + clients) (omega (arith, some))) refl
 
 -- ---- frames and moves
 

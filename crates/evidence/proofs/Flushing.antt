@@ -10,7 +10,7 @@ use Rattle.protocol.specs.System.Trace.{Entry, is_output, Has}
 use Rattle.protocol.specs.System.Trace.Entry.{Got}
 use Rattle.protocol.specs.System.Schedule.{Step, Made, World, StepsLead, with_entry, is_delivered, next_receiver, next_pair, pending}
 use Rattle.protocol.specs.System.Schedule.Step.{deliver, flush}
-use Rattle.protocol.specs.System.Schedule.StepsLead.{ends, gives, called, delivers, gets, flushes, flushed}
+use Rattle.protocol.specs.System.Schedule.StepsLead.{ends, gives, delivers, flushes, flushed}
 use Rattle.evidence.specs.Fed.{IsNext, with_delivery, FlushDeliversNext, FlushDeliversNoOther, FlushEnds}
 use Rattle.protocol.proofs.Words.Options.{some_injective}
 use Rattle.protocol.proofs.Words.Elements.{some_of_has}
@@ -20,15 +20,10 @@ use Rattle.protocol.proofs.Words.Elements.{some_of_has}
 abbrev pub left : Configuration → List (ℕ × ℕ) → ℕ → ℕ → Bool
 left c d frame q = is_correct c q && not (is_delivered d frame q)
 
-abbrev pub IsLeftIn : Configuration → List (ℕ × ℕ) → ℕ → ℕ → Type 0
-IsLeftIn c d frame q = (is_correct c q ≡ true) × (Has (λ x. x ≡ (frame, q)) d → ⊥)
-
 delivered_is : (d : List (ℕ × ℕ)) (frame q : ℕ) → Has (λ x. x ≡ (frame, q)) d → is_delivered d frame q ≡ true
 delivered_is [] frame q h = absurd h
 delivered_is (x ∷ d) frame q (inl h) =
-    let number : (x.0 == frame) ≡ true = eq-eqb x.0 frame (ap (λ (y : ℕ × ℕ). y.0) h) in
-    let party : (x.1 == q) ≡ true = eq-eqb x.1 q (ap (λ (y : ℕ × ℕ). y.1) h) in
-    rw (number, party) refl
+    rw (eq-eqb x.0 frame (ap (λ (y : ℕ × ℕ). y.0) h), eq-eqb x.1 q (ap (λ (y : ℕ × ℕ). y.1) h)) refl
 delivered_is (x ∷ d) frame q (inr h) = or_right ((x.0 == frame) && (x.1 == q)) (is_delivered d frame q) (delivered_is d frame q h)
 
 was_delivered : (d : List (ℕ × ℕ)) (frame q : ℕ) → is_delivered d frame q ≡ true → Has (λ x. x ≡ (frame, q)) d
@@ -39,19 +34,19 @@ was_delivered d frame q h =
     subst (λ (y : ℕ × ℕ). Has (λ x. x ≡ y) d) same at.1
 
 module _ (c : Configuration) (d : List (ℕ × ℕ)) where
-  is_left : (frame q : ℕ) → left c d frame q ≡ true → IsLeftIn c d frame q
+  is_left : (frame q : ℕ) → left c d frame q ≡ true → ((is_correct c q ≡ true) × (Has (λ x. x ≡ (frame, q)) d → ⊥))
   is_left frame q h =
       let p = and_parts (is_correct c q) (not (is_delivered d frame q)) h in
       (p.0, λ has. let bad : false ≡ true = sym (ap not (delivered_is d frame q has)) ∙ p.1 in absurd cc)
 
-  left_is : (frame q : ℕ) → IsLeftIn c d frame q → left c d frame q ≡ true
+  left_is : (frame q : ℕ) → ((is_correct c q ≡ true) × (Has (λ x. x ≡ (frame, q)) d → ⊥)) → left c d frame q ≡ true
   left_is frame q h = go (is_delivered d frame q) refl
     where
       go : (b : Bool) → is_delivered d frame q ≡ b → left c d frame q ≡ true
       go true e = absurd (h.1 (was_delivered d frame q e))
       go false e = rw (h.0, e) refl
 
-  pub not_left : (frame q : ℕ) → (IsLeftIn c d frame q → ⊥) → left c d frame q ≡ false
+  pub not_left : (frame q : ℕ) → (((is_correct c q ≡ true) × (Has (λ x. x ≡ (frame, q)) d → ⊥)) → ⊥) → left c d frame q ≡ false
   not_left frame q h = go (left c d frame q) refl
     where
       go : (b : Bool) → left c d frame q ≡ b → b ≡ false
@@ -129,8 +124,7 @@ module _ (c : Configuration) (d : List (ℕ × ℕ)) where
       let number : k ≡ k + 0 = omega arith in
       subst (λ (n : ℕ). next_receiver c d n other.receivers ≡ None) number (subst (λ (x : Made). next_receiver c d k x.receivers ≡ None) (some_injective made other is) e)
   one_before k made frames place e h (suc m) other l is =
-      let number : suc k + m ≡ k + suc m = omega arith in
-      subst (λ (n : ℕ). next_receiver c d n other.receivers ≡ None) number (h m other (omega (arith, l)) is)
+      subst (λ (n : ℕ). next_receiver c d n other.receivers ≡ None) (omega arith) (h m other (omega (arith, l)) is)
 
   frame_found : (k : ℕ) (frames : List Made) (x : ℕ × ℕ) → next_pair c d k frames ≡ Some x → (made : Made) × FirstFrame c d k frames x.0 x.1 made
   frame_found k [] x h = absurd cc
@@ -273,8 +267,7 @@ module _ (c : Configuration) (v : World) (input : Entry) (more : List Entry) (fe
   flush_feeds w _ _ ends steps_are is = absurd cc
   flush_feeds w _ _ (gives {entries = entries} {e = e} o g) steps_are is = not_output e entries o is (DeliversNext w)
   flush_feeds w _ _ (flushes {steps = steps} {frame = frame} {party = party} p g) steps_are is =
-      let none : steps ≡ [] = cc in
-      let x = delivery_feeds w (deliver frame party ∷ flush ∷ steps) _ frame party g (ap (λ (xs : List Step). deliver frame party ∷ flush ∷ xs) none) is in
+      let x = delivery_feeds w (deliver frame party ∷ flush ∷ steps) _ frame party g (ap (λ (xs : List Step). deliver frame party ∷ flush ∷ xs) cc) is in
       let next = pending_next c w frame party p in
       let same : next.0 ≡ x.0 = some_injective next.0 x.0 (sym next.1.is_frame ∙ x.1) in
       (frame, party, x.0, subst (λ (m : Made). IsNext c w frame party m) same next.1, x.2, x.3)

@@ -80,18 +80,14 @@ record Flushed (c : Configuration) (w : World) : Type 0 where
 
 -- with more than the rest to spare
 flush_all : (c : Configuration) (n : ℕ) (w : World) → all_left c w.delivered 0 w.frames < n → Flushed c w
-flush_all c zero w l = absurd (none (all_left c w.delivered 0 w.frames) l)
-  where
-    none : (i : ℕ) → i < 0 → ⊥
-    none i l = omega (arith, l)
+flush_all c zero w l = absurd (omega (arith, l))
 flush_all c (suc n) w l = go (pending c w) refl (λ u. flush_all c n u)
   where
     go : (o : Option (ℕ × ℕ)) → pending c w ≡ o → ((u : World) → all_left c u.delivered 0 u.frames < n → Flushed c u) → Flushed c w
     go None e below = record { entries = []; behind = w; are = tt; first = tt; goes = flushed tt e ends }
     go (Some x) e below =
         let next = pending_next c w x.0 x.1 e in
-        let less = all_less c w.delivered x 0 w.frames e in
-        let rest = below (with_delivery c w x.0 x.1 next.0.bytes) (omega (arith, l, less)) in
+        let rest = below (with_delivery c w x.0 x.1 next.0.bytes) (omega (arith, l, all_less c w.delivered x 0 w.frames e)) in
         record {
           entries = Got x.1 next.0.bytes ∷ rest.entries;
           behind = rest.behind;

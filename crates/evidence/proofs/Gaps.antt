@@ -8,7 +8,7 @@ use Rattle.wire.specs.Messages.{BodyData as Body, MessageData as Message, NewVie
 use Rattle.protocol.specs.System.Trace.{Entry, party_of}
 use Rattle.protocol.specs.System.Trace.Entry.{Invoke, Got, Sent}
 use Rattle.protocol.specs.Replica.Certificates.{taken, low, is_in_marks, are_genuine, batch_from, batch_begun, begun_proposal, entry_proposal, proposal, logged}
-use Rattle.protocol.specs.Replica.RightReplica.{Point, HistoryReaches, SafeReplica, IsFree, MaySay, MaySend, MayPrePrepare, May}
+use Rattle.protocol.specs.Replica.RightReplica.{Point, HistoryReaches, SafeReplica, IsFree, MaySay, MaySend, May}
 use Rattle.evidence.specs.Certified.{LeavesNoGap}
 use Rattle.protocol.proofs.Words.Options.{and_then_some, then_some_gives, some_injective, or_else_second, or_else_cases}
 use Rattle.protocol.proofs.Agreement.Marks.{low_grows, takes, Proposes, proposes}
@@ -34,16 +34,12 @@ given_at (x ∷ xs) (suc k) l = given_at xs k (omega (arith, l))
 next_by : (c : Configuration) (me v i : ℕ) (batch : List ℕ) (past : List Entry) (point : Point) (e : Entry) (bytes : List ℕ) (sender : ℕ) (message : Message) → MaySay c me past point e bytes message
     → batch_from c me v i (record { sender = sender; message = message }) ≡ Some batch → logged c me past v i ≡ None → IsFree c me past point.state.number v i
 next_by c me v i batch past point e bytes sender (PrePrepare w number b) say h none =
-    let m : MayPrePrepare c me past point e w number b = say in
     let g = then_some_gives ((w == v) && (number == i) && (sender == primary c v) && are_genuine c me b) b batch h in
     let p = and_parts ((w == v) && (number == i) && (sender == primary c v)) (are_genuine c me b) g.0 in
-    let q = and_parts ((w == v) && (number == i)) (sender == primary c v) p.0 in
-    let r = and_parts (w == v) (number == i) q.0 in
-    let ev : w ≡ v = eqb-true w v r.0 in
-    let ei : number ≡ i = eqb-true number i r.1 in
+    let r = and_parts (w == v) (number == i) (and_parts ((w == v) && (number == i)) (sender == primary c v) p.0).0 in
     let next : logged c me past v i ≡ None → IsFree c me past point.state.number v i =
-    subst (λ (x : ℕ). logged c me past x i ≡ None → IsFree c me past point.state.number x i) ev
-    (subst (λ (x : ℕ). logged c me past w x ≡ None → IsFree c me past point.state.number w x) ei m.next) in
+    subst (λ (x : ℕ). logged c me past x i ≡ None → IsFree c me past point.state.number x i) (eqb-true w v r.0)
+    (subst (λ (x : ℕ). logged c me past w x ≡ None → IsFree c me past point.state.number w x) (eqb-true number i r.1) say.next) in
     next none
 next_by c me v i batch past point e bytes sender _ say h none = absurd cc
 
@@ -73,9 +69,7 @@ entry_next c me v i batch _ past point own party may h none = absurd cc
 -- if a new view has a batch for a number, it has one for each number between its start and that number
 begun_between : (c : Configuration) (v i j : ℕ) (new : NewViewData) (batch : List ℕ) → batch_begun v i new ≡ Some batch → new.start < j → j < i → (x : List ℕ) × (batch_begun new.view j new ≡ Some x)
 begun_between c v i j new batch h above below =
-    let p : Proposes c v i new = proposes c v i new batch h in
-    let within = p.within in
-    let x = given_at new.batches (j - new.start - 1) (omega (arith, above, below, within)) in
+    let x = given_at new.batches (j - new.start - 1) (omega (arith, above, below, (proposes c v i new batch h).within)) in
     (x.0, rw (eq-eqb new.view new.view refl, lt-ltb new.start j above) x.1)
 
 -- ---- no gap
@@ -97,8 +91,7 @@ no_gap c me v own (e ∷ past) point h i j batch there above below = go (λ earl
     begun true k =
         let t = and_then_some (batch_begun v i) (taken c past e) batch k in
         let p : Proposes c v i t.0 = proposes c v i t.0 batch t.2 in
-        let start = (takes c me past e t.0 t.1).low_is in
-        let x = begun_between c v i j t.0 batch t.2 (omega (arith, start, above)) below in
+        let x = begun_between c v i j t.0 batch t.2 (omega (arith, (takes c me past e t.0 t.1).low_is, above)) below in
         (x.0, subst (λ (w : ℕ). logged c me (e ∷ past) w j ≡ Some x.0) p.view_is (logs_what_begins c me j x.0 e past t.0 (h.0, h.1) t.1 x.1 above))
 
     of : logged c me past v i ≡ None → (begun_proposal c me past e v i ≡ Some batch) ⊎ (entry_proposal c me past e v i ≡ Some batch) → (other : List ℕ) × (logged c me (e ∷ past) v j ≡ Some other)
@@ -140,8 +133,7 @@ some_is_free c me v executed history own right (suc i) marks near unused = go (�
         used : (j : ℕ) → low c me history < j → j < suc i → (b : Bool) → (j == i) ≡ b → is_some (logged c me history v j) ≡ true
         used j above under true at = ap is_some (ap (logged c me history v) (eqb-true j i at) ∙ is)
         used j above under false at =
-            let other = eqb-false j i at in
-            ap is_some (leaves_no_gap c me v i j batch history right own is above (omega (arith, under, other))).1
+            ap is_some (leaves_no_gap c me v i j batch history right own is above (omega (arith, under, eqb-false j i at))).1
     go lower true e None is =
         lower (lower_in_marks c (low c me history) i marks (ltb-true (low c me history) i e)) (omega (arith, near)) (λ j above. unused_from j above (j == i) refl)
       where

@@ -76,17 +76,8 @@ module _ (clients : ℕ) (seed : List ℕ) (w : InstallFrames) (differ : IsHeade
   abbrev inner_given : Body
   inner_given = record { sender = 1; message = Meta 16 levels.Inner 16 page_digests }
 
-  abbrev header_page : Body
-  header_page = record { sender = 1; message = Page 16 512 (header_text later_state.space 16) }
-
   hears1 : heard (members c) 0 (w.checkpoint 1) ≡ Some (checkpoint_of 1)
   hears1 = f.checkpoints 1 (omega arith) (omega arith)
-
-  hears2 : heard (members c) 0 (w.checkpoint 2) ≡ Some (checkpoint_of 2)
-  hears2 = f.checkpoints 2 (omega arith) (omega arith)
-
-  hears3 : heard (members c) 0 (w.checkpoint 3) ≡ Some (checkpoint_of 3)
-  hears3 = f.checkpoints 3 (omega arith) (omega arith)
 
   -- ---- whose checkpoints there are
 
@@ -103,10 +94,10 @@ module _ (clients : ℕ) (seed : List ℕ) (w : InstallFrames) (differ : IsHeade
   s1 = stage_checkpoint clients seed root [] (w.checkpoint 1) 1 (λ s. false) None 0 (first_stage clients seed root) refl hears1
 
   s2 : Stage clients seed root h2 p2 None 0
-  s2 = stage_checkpoint clients seed root h1 (w.checkpoint 2) 2 p1 None 0 s1 refl hears2
+  s2 = stage_checkpoint clients seed root h1 (w.checkpoint 2) 2 p1 None 0 s1 refl (f.checkpoints 2 (omega arith) (omega arith))
 
   s3 : Stage clients seed root h3 p3 None 0
-  s3 = stage_checkpoint clients seed root h2 (w.checkpoint 3) 3 p2 None 0 s2 refl hears3
+  s3 = stage_checkpoint clients seed root h2 (w.checkpoint 3) 3 p2 None 0 s2 refl (f.checkpoints 3 (omega arith) (omega arith))
 
   -- ---- the state
 
@@ -116,7 +107,7 @@ module _ (clients : ℕ) (seed : List ℕ) (w : InstallFrames) (differ : IsHeade
   -- the header was taken, and no other page
   none_at_3 : (i : ℕ) → took c 0 (Some 16) h3 i ≡ None
   unfolding took
-  none_at_3 i = others_take_none c 0 16 i h2 (w.checkpoint 3) (checkpoint_of 3) hears3 tt
+  none_at_3 i = others_take_none c 0 16 i h2 (w.checkpoint 3) (checkpoint_of 3) (f.checkpoints 3 (omega arith) (omega arith)) tt
 
   none_at_5 : (i : ℕ) → took c 0 (Some 16) h5 i ≡ None
   none_at_5 i = others_take_none c 0 16 i h4 w.below_root root_given f.gives_root tt ∙ Taken.fetches_tell c 0 16 0 i levels.Root None h3 w.fetch_root f.asks_root.says ∙ none_at_3 i
@@ -232,9 +223,9 @@ module _ (clients : ℕ) (seed : List ℕ) (w : InstallFrames) (differ : IsHeade
     (
       first_point,
       (first_point, refl, gets clients seed root [] (w.checkpoint 1) (checkpoint_of 1) hears1 tt),
-      gets clients seed root h1 (w.checkpoint 2) (checkpoint_of 2) hears2 tt,
+      gets clients seed root h1 (w.checkpoint 2) (checkpoint_of 2) (f.checkpoints 2 (omega arith) (omega arith)) tt,
     ),
-    gets clients seed root h2 (w.checkpoint 3) (checkpoint_of 3) hears3 tt,
+    gets clients seed root h2 (w.checkpoint 3) (checkpoint_of 3) (f.checkpoints 3 (omega arith) (omega arith)) tt,
   )
 
   at_5 : HistoryReaches c 0 h5 first_point
@@ -255,7 +246,7 @@ module _ (clients : ℕ) (seed : List ℕ) (w : InstallFrames) (differ : IsHeade
   at_9 = (
     first_point,
     (first_point, at_7, fetch_sends clients seed root h7 w.fetch_header 512 levels.Page fetches_header f.asks_header (λ here. here)),
-    gets clients seed root h8 w.header header_page f.gives_header tt,
+    gets clients seed root h8 w.header (record { sender = 1; message = Page 16 512 (header_text later_state.space 16) }) f.gives_header tt,
   )
 
   is_installed : (point : Point) × HistoryReaches c 0 (installation w) point × (point.state ≡ later_state)

@@ -64,8 +64,7 @@ count_only p a (suc n) only = go (p n) refl (count_only p a n only)
     go : (b : Bool) → p n ≡ b → (count_below p n ≤ 1) × (n ≤ a → count_below p n ≡ 0) → (cond b (suc (count_below p n)) (count_below p n) ≤ 1) × (suc n ≤ a → cond b (suc (count_below p n)) (count_below p n) ≡ 0)
     go true is rest =
         let here : n ≡ a = only n is in
-        let none : count_below p n ≡ 0 = rest.1 (omega (arith, here)) in
-        (omega (arith, none), λ l. absurd (omega (arith, here, l)))
+        (omega (arith, rest.1 (omega (arith, here))), λ l. absurd (omega (arith, here, l)))
     go false is rest = (rest.0, λ l. rest.1 (omega (arith, l)))
 
 -- ---- the history
@@ -276,15 +275,13 @@ module _ (clients : ℕ) (seed : List ℕ) (me one other : ℕ) (first second ow
         go false e =
             let none : change_taken c (view c []) s first ≡ 0 = taken_of (view c []) s one first x ∙ ap (λ (b : Bool). cond (b && nat_lt (view c []) 1 && is_within c beginning_change) 1 0) e in
             let latest_is : latest_change c h1 s ≡ max 0 (change_taken c (view c []) s first) = refl in
-            let l = above in
-            absurd (omega (arith, none, latest_is, l))
+            absurd (omega (arith, none, latest_is, above))
 
     no_reason_alone : (v : ℕ) → HasToMove c me [] (Got me first) [] v → ⊥
     no_reason_alone v (inl t) = no_time c me me [] first [] v t
     no_reason_alone v (inr (taken, joined)) =
-        let many = leb-true 2 (count_below (is_ahead c me h1) 4) joined.enough in
         let few = (count_only (is_ahead c me h1) one 4 only_one).0 in
-        absurd (omega (arith, many, few))
+        absurd (omega (arith, leb-true 2 (count_below (is_ahead c me h1) 4) joined.enough, few))
 
     pub target_one : target now ≡ 1
     target_one = let was = still2.target_is in let sent : target now ≡ max 1 (target h2) = ap (λ (o : Option Body). max (option_map_or change_from o 0) (target h2)) says in omega (arith, was, sent)
@@ -294,10 +291,7 @@ module _ (clients : ℕ) (seed : List ℕ) (me one other : ℕ) (first second ow
     moved v (inl t) = absurd (no_time c me me h1 second [] v t)
     moved v (inr (taken, joined)) =
         let s = joined.of_one in
-        let is = s.3 in
-        let most = at_most_one s.0 in
-        let sent : target now ≡ max 1 (target h2) = ap (λ (o : Option Body). max (option_map_or change_from o 0) (target h2)) says in
-        omega (arith, is, most, sent)
+        omega (arith, s.3, at_most_one s.0, ap (λ (o : Option Body). max (option_map_or change_from o 0) (target h2)) says)
 
     due1 : Due c me [] first [] h1
     due1 = record {

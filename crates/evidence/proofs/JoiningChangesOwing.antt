@@ -123,8 +123,7 @@ module _ (clients : ℕ) (seed : List ℕ) (me : ℕ) where
   no_quorum : (past : List Entry) → ((s : ℕ) → checkpoints_of c past s ≡ []) → (checkpoint : CheckpointEntry) → is_quorum c (count_checkpoints c past checkpoint) ≡ true → ⊥
   no_quorum past none checkpoint h =
       let zero : count_checkpoints c past checkpoint ≡ 0 = count_none (λ s. says_checkpoint checkpoint (checkpoints_of c past s)) 4 (λ s. ap (says_checkpoint checkpoint) (none s)) in
-      let bad : is_quorum c 0 ≡ true = subst (λ (n : ℕ). is_quorum c n ≡ true) zero h in
-      absurd (let worse : false ≡ true = bad in cc)
+      absurd (let worse : false ≡ true = subst (λ (n : ℕ). is_quorum c n ≡ true) zero h in cc)
 
   pub owes : (before : List Entry) (bytes : List ℕ) (outputs now : List Entry) → Due c me before bytes outputs now → Owes c me before (Got me bytes) outputs now first_point first_point
   owes before bytes outputs now due = record {

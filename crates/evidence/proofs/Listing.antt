@@ -40,9 +40,8 @@ has_under : (page : ℕ → List ℕ) (text : List ℕ) → IsUnder page text �
 has_under page _ top = inl refl
 has_under page _ (inner j l) =
     let low : 0 ≤ j = omega arith in
-    let high : j < 0 + 32 = omega arith in
     inr (has_mapped (λ x. x ≡ concat (page_digests (all_pages page) j)) (λ i. concat (page_digests (all_pages page) i)) (range_with_len 0 32)
-    (has_number (λ i. concat (page_digests (all_pages page) i) ≡ concat (page_digests (all_pages page) j)) 0 32 j low high refl))
+    (has_number (λ i. concat (page_digests (all_pages page) i) ≡ concat (page_digests (all_pages page) j)) 0 32 j low (omega arith) refl))
 
 has_page : (st : State) (i : ℕ) → i < 1024 → Has (λ x. x ≡ page_text st i) (pages_of st)
 unfolding all_pages
@@ -86,8 +85,7 @@ last_first : (c : Configuration) (trace : List Entry) (k : ℕ) (b : List ℕ) (
 last_first c trace k b [] h = let e : k ≡ k + 0 = omega arith in (b, subst (λ (i : ℕ). first_batch c trace i ≡ Some b) e h.0)
 last_first c trace k b (d ∷ batches) h =
     let s = last_first c trace (k + 1) d batches h.1 in
-    let e : k + 1 + length batches ≡ k + suc (length batches) = omega arith in
-    (s.0, subst (λ (i : ℕ). first_batch c trace i ≡ Some s.0) e s.1)
+    (s.0, subst (λ (i : ℕ). first_batch c trace i ≡ Some s.0) (omega arith) s.1)
 
 state_listed : (c : Configuration) (trace : List Entry) (batches : List (List ℕ)) (text : List ℕ) → AreFirst c trace 1 batches
     → Has (λ x. x ≡ text) (state_texts (after_batches c opening batches)) → Has (λ x. x ≡ text) (texts_from c trace trace)
@@ -96,13 +94,9 @@ state_listed c trace (b ∷ batches) text h has =
     let s = last_first c trace 1 b batches h in
     once_listed c trace (ExecutesBatch c (1 + length batches) s.0) text here trace (first_executes c (1 + length batches) s.0 trace s.1)
   where
-    there : (number : ℕ) → number ≡ 1 + length batches → Has (λ x. x ≡ text) (state_texts (state_at c trace number))
-    there number is =
-        let n : length (b ∷ batches) ≡ number = omega arith in
-        subst (λ (st : State). Has (λ x. x ≡ text) (state_texts st)) (sym (same_state c trace (b ∷ batches) number h n)) has
-
     here : (past : List Entry) (e : Entry) → ExecutesBatch c (1 + length batches) (last_first c trace 1 b batches h).0 past e → Has (λ x. x ≡ text) (texts_at c trace past e)
-    here past (Executed r number x) g = there number g.1
+    here past (Executed r number x) g =
+        subst (λ (st : State). Has (λ x. x ≡ text) (state_texts st)) (sym (same_state c trace (b ∷ batches) number h (omega arith))) has
     here past _ g = absurd g
 
 -- ---- each text is listed

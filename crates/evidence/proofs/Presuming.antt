@@ -15,7 +15,7 @@ use Rattle.protocol.specs.System.Trace.{Entry, party_of, is_output, history_of, 
 use Rattle.protocol.specs.System.Trace.Entry.{Invoke, Got, Tick, Executed, Installed, Sent}
 use Rattle.protocol.specs.Replica.State.{opening, page_text}
 use Rattle.protocol.specs.Replica.RightReplica.{waiting_after}
-use Rattle.protocol.specs.System.Texts.{IsUnder, InstallsOver, HasBatch, HasPart, batches_of, parts_of, first_batch}
+use Rattle.protocol.specs.System.Texts.{IsUnder, InstallsOver, HasBatch, HasPart, batches_of, parts_of}
 use Rattle.protocol.specs.System.Texts.IsText.{null, batch, part, page_of, under, installed}
 use Rattle.protocol.specs.Laws.Histories.{ExecutesBatch}
 use Rattle.protocol.proofs.Words.Taking.{same_all}
@@ -105,14 +105,11 @@ replicas_are_correct c r = (there, back)
 pub clients_are_correct : ClientsAreCorrect
 clients_are_correct c k = (there, back)
   where
-    same : 256 + k - 256 ≡ k
-    same = omega arith
-
     there : is_correct_client c (256 + k) ≡ true → (k < c.clients) × (Has (λ l. l ≡ k) c.faulty_clients → ⊥)
     there h =
         let p = and_parts (is_client c (256 + k)) (not (member c.faulty_clients (256 + k - 256))) h in
         let l : 256 + k < 256 + c.clients = ltb-true (256 + k) (256 + c.clients) (and_parts (nat_le 256 (256 + k)) (nat_lt (256 + k) (256 + c.clients)) p.0).1 in
-        (omega arith, left_out c.faulty_clients k (subst (λ x. not (member c.faulty_clients x) ≡ true) same p.1))
+        (omega arith, left_out c.faulty_clients k (subst (λ x. not (member c.faulty_clients x) ≡ true) (omega arith) p.1))
 
     back : (k < c.clients) × (Has (λ l. l ≡ k) c.faulty_clients → ⊥) → is_correct_client c (256 + k) ≡ true
     back h =
@@ -121,7 +118,7 @@ clients_are_correct c k = (there, back)
         let b : 256 + k < 256 + c.clients = omega arith in
         and_from (is_client c (256 + k)) (not (member c.faulty_clients (256 + k - 256)))
         (and_from (nat_le 256 (256 + k)) (nat_lt (256 + k) (256 + c.clients)) (le-leb 256 (256 + k) a) (lt-ltb (256 + k) (256 + c.clients) b))
-        (subst (λ x. not (member c.faulty_clients x) ≡ true) (sym same) (is_left_out c.faulty_clients k h.1))
+        (subst (λ x. not (member c.faulty_clients x) ≡ true) (sym (omega arith)) (is_left_out c.faulty_clients k h.1))
 
 pub correct_are_both : CorrectAreBoth
 correct_are_both c p = (there, back)
@@ -265,9 +262,6 @@ executes_none c k text (e ∷ past) quiet (inl h) = go e quiet.0 h
     go (Executed p n b) quiet h = absurd cc
     go _ quiet h = h
 
-none_first : (c : Configuration) (k : ℕ) (text : List ℕ) (xs : List Entry) → Always (λ past e. is_quiet e ≡ true) xs → first_batch c xs k ≡ Some text → ⊥
-none_first c k text xs quiet h = executes_none c k text xs quiet (first_executes c k text xs h)
-
 installs_none : (c : Configuration) (batches : List (List ℕ)) (text : List ℕ) (xs : List Entry) → Always (λ past e. is_quiet e ≡ true) xs → Once (InstallsOver c batches text) xs → ⊥
 installs_none c batches text [] quiet h = h
 installs_none c batches text (e ∷ past) quiet (inr h) = installs_none c batches text past quiet.1 h
@@ -319,7 +313,7 @@ texts_are_few c trace _ quiet null = inl refl
 texts_are_few c trace text quiet (batch _ h) = inr (inr (once_weaker (HasBatch text) (BringsText text) (brings_batch text) trace h))
 texts_are_few c trace text quiet (part _ h) = inr (inr (brings_part text trace quiet h))
 texts_are_few c trace _ quiet (page_of [] i l h) = inr (inl (inl (i, refl)))
-texts_are_few c trace _ quiet (page_of (x ∷ xs) i l h) = absurd (none_first c 1 x trace quiet h.0)
+texts_are_few c trace _ quiet (page_of (x ∷ xs) i l h) = absurd (executes_none c 1 x trace quiet (first_executes c 1 x trace h.0))
 texts_are_few c trace text quiet (under [] _ h u) = inr (inl (under_opening (page_text opening) text (λ i l. refl) u))
-texts_are_few c trace text quiet (under (x ∷ xs) _ h u) = absurd (none_first c 1 x trace quiet h.0)
+texts_are_few c trace text quiet (under (x ∷ xs) _ h u) = absurd (executes_none c 1 x trace quiet (first_executes c 1 x trace h.0))
 texts_are_few c trace text quiet (installed batches _ h u) = absurd (installs_none c batches text trace quiet u)

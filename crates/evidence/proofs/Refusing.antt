@@ -13,7 +13,7 @@ use Rattle.terms.specs.declared.order.Mode.{Mode}
 use Rattle.terms.specs.declared.order.Mode.TheVariants as modes
 use Rattle.wire.specs.Messages.{fetch as Fetch, BodyData as Body, FrameData as Frame, AuthenticatorData as Authenticator, MacData, macs, signature, ViewChangeData, NewViewData, BatchEntryData as BatchEntry, pre_prepare as PrePrepare, prepare as Prepare, commit as Commit, checkpoint as Checkpoint, view_change as ViewChange, new_view as NewView, reply as Reply, meta as Meta, page as Page}
 use Rattle.signing.specs.Heard.{heard}
-use Rattle.protocol.specs.System.Trace.{Entry, party_of, Once, Always, Has, AreOutputs, Hears}
+use Rattle.protocol.specs.System.Trace.{Entry, Once, Always, Has, AreOutputs, Hears}
 use Rattle.protocol.specs.System.Trace.Entry.{Invoke, Got, Tick, Executed, Installed, Sent, Accepted}
 use Rattle.protocol.specs.Replica.Selection.{is_quorum, is_weak_quorum, passes_by, count_in, vouches, agrees, may_stand_at, may_be_null, null_batch, is_null, is_within, changes_of, how_many}
 use Rattle.protocol.specs.Replica.Certificates.{target, view, is_active_in, is_later, new_view_in, logged, low}
@@ -176,7 +176,7 @@ installs_what_it_has c me k root past lacks right = go lack (is_own_or_got c me 
     go x (inr got) = x.3 got
 
 pub installs_with_header : InstallsWithHeader
-installs_with_header c me k root past right = go (is_own_or_got c me k 512 past old (page_text new 512) (installed.pages 512 within))
+installs_with_header c me k root past right = go (is_own_or_got c me k 512 past old (page_text new 512) (installed.pages 512 (omega arith)))
   where
     old : State
     old = right.1.0.state
@@ -186,9 +186,6 @@ installs_with_header c me k root past right = go (is_own_or_got c me k 512 past 
 
     installed : IsInstalled c me past right.1.0 k root right.0
     installed = right.1.2.moves
-
-    within : 512 < 1024
-    within = omega arith
 
     go : (page_text new 512 ≡ page_text old 512) ⊎ Once (GetsPage c me 512 (page_text new 512)) past → (space : SpaceState) × Once (GetsPage c me 512 (header_text space k)) past
     go (inl same) =
@@ -373,8 +370,7 @@ addressed c me bytes body frame entries past right says is authenticator =
 sealed : (c : Configuration) (me : ℕ) (bytes : List ℕ) (frame : Frame) (authenticator : Authenticator) (past : List Entry) → frame_of bytes ≡ Some frame → frame.authenticator ≡ authenticator → SafeReplica c me (Sent me bytes ∷ past)
     → IsSealedBy c frame authenticator
 sealed c me bytes frame authenticator past is authenticator_is right =
-    let m : MaySend c me past right.1.0 (Sent me bytes) bytes = right.1.2.may in
-    subst (λ (p : Authenticator). IsSealedBy c frame p) authenticator_is (m.is_sealed frame is).0
+    subst (λ (p : Authenticator). IsSealedBy c frame p) authenticator_is (right.1.2.may.is_sealed frame is).0
 
 pub seals_well : SealsWell
 seals_well c me bytes frame entries past is authenticator right = sealed c me bytes frame (macs entries) past is authenticator right
@@ -394,8 +390,7 @@ sent_here bytes me (e ∷ outputs) past are = rw are.0 (inr (sent_here bytes me 
 
 pub sends_no_frame_twice : SendsNoFrameTwice
 sends_no_frame_twice c me bytes outputs past are right =
-    let m : MaySend c me (outputs ++ Sent me bytes ∷ past) right.1.0 (Sent me bytes) bytes = right.1.2.may in
-    m.once (sent_here bytes me outputs past are)
+    right.1.2.may.once (sent_here bytes me outputs past are)
 
 pub replies_to_its_client : RepliesToItsClient
 replies_to_its_client c me client timestamp number mode answer bytes frame entries past says is authenticator right =
@@ -484,8 +479,7 @@ says_nothing i vc h =
       λ has.
           let x = has_some (λ (batch_entry : BatchEntry). batch_entry.number ≡ i) vc.prepared has in
           let other = every_has (λ (batch_entry : BatchEntry). not (batch_entry.number == i)) vc.prepared x.0 p.1 x.1 in
-          let here = eq-eqb x.0.number i x.2 in
-          absurd (let f : not true ≡ true = subst (λ (b : Bool). not b ≡ true) here other in cc),
+          absurd (let f : not true ≡ true = subst (λ (b : Bool). not b ≡ true) (eq-eqb x.0.number i x.2) other in cc),
     )
 
 pub takes_well_selected : TakesWellSelected
@@ -516,9 +510,8 @@ takes_well_selected c past e new h = record {
         → ((w : ℕ) × (w < new.view) × HasFrom (2 * c.faults + 1) c new (SaysNothingAgainst i w (sha256 batch)) × HasFrom (c.faults + 1) c new (SaysForIt i w (sha256 batch)))
         ⊎ ((batch ≡ null_batch) × HasFrom (2 * c.faults + 1) c new (SaysNothing i))
     vouched i batch get above =
-        let place : i ≡ suc new.start + (i - new.start - 1) = omega arith in
         by (or_cases (nat_lt 0 (count_below (may_stand_at c (changes_of c new) i (sha256 batch)) new.view)) (is_null batch && may_be_null c (changes_of c new) i)
-        (stands_at c new.view (changes_of c new) (suc new.start) new.batches (i - new.start - 1) batch s.stand get i place))
+        (stands_at c new.view (changes_of c new) (suc new.start) new.batches (i - new.start - 1) batch s.stand get i (omega arith)))
       where
         by : (nat_lt 0 (count_below (may_stand_at c (changes_of c new) i (sha256 batch)) new.view) ≡ true) ⊎ ((is_null batch && may_be_null c (changes_of c new) i) ≡ true)
             → ((w : ℕ) × (w < new.view) × HasFrom (2 * c.faults + 1) c new (SaysNothingAgainst i w (sha256 batch)) × HasFrom (c.faults + 1) c new (SaysForIt i w (sha256 batch)))
@@ -566,11 +559,8 @@ accepts_at_quorum c me k timestamp answer past right =
       λ s h. answers s m.1 m.4 m.1.mode (latest c me past timestamp m.1.mode s) refl h,
     )
   where
-    own : Always (λ past e. party_of e ≡ me) past
-    own = own_entries c me past right.1
-
     hears : (s : ℕ) (mode : Mode) (v : Vote) → latest c me past timestamp mode s ≡ Some v → Once (Hears c me (record { sender = s; message = Reply me timestamp mode v.number v.answer })) past
-    hears s mode v is = latest_heard c me timestamp mode s v past own is
+    hears s mode v is = latest_heard c me timestamp mode s v past (own_entries c me past right.1) is
 
     answers : (s : ℕ) (vote : Vote) → vote.answer ≡ answer → (mode : Mode) (o : Option Vote) → latest c me past timestamp mode s ≡ o → is_alike vote o ≡ true
         → (other : Outcome) × (outcome_spelling other ≡ outcome_spelling answer) × Once (Hears c me (record { sender = s; message = Reply me timestamp mode vote.number other })) past

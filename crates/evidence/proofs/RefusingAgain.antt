@@ -27,14 +27,11 @@ module _ (c : Configuration) (setting : IsConfiguration c) where
       go None e = omega arith
       go (Some call) e = runs_at_most st call full (call_small c setting frame call e) k cl (runs st call) refl
 
-  frame_full : (k : ℕ) (st : State) (frame : List ℕ) → Full st → Full (run_frame c k st frame)
-  frame_full k st frame full = frames_full c k st (frame ∷ []) full
-
   frames_grow : (k : ℕ) (st : State) (frames : List (List ℕ)) (cl : ℕ) → Full st → last_time st cl ≤ last_time (fold (run_frame c k) st frames) cl
   frames_grow k st [] cl full = omega arith
   frames_grow k st (frame ∷ frames) cl full =
       let a = frame_grows k st frame cl full in
-      let b = frames_grow k (run_frame c k st frame) frames cl (frame_full k st frame full) in
+      let b = frames_grow k (run_frame c k st frame) frames cl (frames_full c k st (frame ∷ []) full) in
       omega arith
 
   -- after a request's frame, its client's last timestamp is at least the request's
@@ -55,9 +52,9 @@ module _ (c : Configuration) (setting : IsConfiguration c) where
   frames_time k st [] frame call full is h = absurd h
   frames_time k st (x ∷ frames) frame call full is (inl h) =
       let a = ran_time k st x call full (ap (call_of c) h ∙ is) in
-      let b = frames_grow k (run_frame c k st x) frames call.client (frame_full k st x full) in
+      let b = frames_grow k (run_frame c k st x) frames call.client (frames_full c k st (x ∷ []) full) in
       omega arith
-  frames_time k st (x ∷ frames) frame call full is (inr h) = frames_time k (run_frame c k st x) frames frame call (frame_full k st x full) is h
+  frames_time k st (x ∷ frames) frame call full is (inr h) = frames_time k (run_frame c k st x) frames frame call (frames_full c k st (x ∷ []) full) is h
 
   executed_grows : (st : State) (batch : List ℕ) (cl : ℕ) → Full st → last_time st cl ≤ last_time (execute c st batch) cl
   executed_grows st batch cl full =
@@ -122,7 +119,7 @@ module _ (c : Configuration) (setting : IsConfiguration c) where
   left_out k st [] frame rest call full is old = no_run k st frame rest call is old
   left_out k st (x ∷ first) frame rest call full is old =
       let grows = frame_grows k st x call.client full in
-      let below = left_out k (run_frame c k st x) first frame rest call (frame_full k st x full) is (omega arith) in
+      let below = left_out k (run_frame c k st x) first frame rest call (frames_full c k st (x ∷ []) full) is (omega arith) in
       (below.0, ap (λ (xs : List Ran). option_map_or (ran_by st k) (call_of c x) [] ++ xs) below.1)
 
 executed_state : (c : Configuration) (st : State) (batch : List ℕ) → execute c st batch ≡ record (fold (run_frame c (suc st.number)) st (requests_of batch)) { number = suc st.number }

@@ -9,9 +9,9 @@ use Rattle.protocol.specs.System.Configuration.{Configuration, span, is_number}
 use Rattle.wire.specs.Messages.{ViewChangeData, BatchEntryData as BatchEntry, view_change as ViewChange}
 use Rattle.protocol.specs.System.Trace.{Entry}
 use Rattle.protocol.specs.System.Trace.Entry.{Invoke}
-use Rattle.protocol.specs.Replica.Certificates.{low, target, is_in_marks}
+use Rattle.protocol.specs.Replica.Certificates.{low, is_in_marks}
 use Rattle.protocol.specs.Replica.RightReplica.{MayViewChange, IsNewViewChange}
-use Rattle.protocol.specs.Client.RightClient.{IsClient, MayInput, SafeClient}
+use Rattle.protocol.specs.Client.RightClient.{MayInput, SafeClient}
 use Rattle.evidence.specs.RefusedChanges.{SendsNewChange, ChangesAboveView, ChangesAboveEarlier, ChangesToNumbers, IsInMarks, BatchEntriesPreparedInMarks, BatchEntriesProposedInMarks, BatchEntriesAscend, BatchEntriesDiffer, ChangesAgainLast, NoCallWhileOpen, CallsOperations}
 use Rattle.evidence.proofs.Refusing.{above_target}
 use Rattle.evidence.proofs.RefusingRuns.{says_may}
@@ -38,8 +38,7 @@ changes_above_earlier c me vc earlier bytes past sends before =
 
 pub changes_to_numbers : ChangesToNumbers
 changes_to_numbers c me vc bytes past sends =
-    let change = new_change c me vc bytes past sends in
-    ltb-true vc.view (2 ^ 48) change.is_view
+    ltb-true vc.view (2 ^ 48) (new_change c me vc bytes past sends).is_view
 
 in_marks : (c : Configuration) (me : ℕ) (past : List Entry) (batch_entry : BatchEntry) → is_in_marks c (low c me past) batch_entry.number ≡ true → IsInMarks c me past batch_entry
 in_marks c me past batch_entry h =
@@ -49,13 +48,11 @@ in_marks c me past batch_entry h =
 
 pub batch_entries_prepared_in_marks : BatchEntriesPreparedInMarks
 batch_entries_prepared_in_marks c me vc batch_entry bytes past sends has =
-    let change = new_change c me vc bytes past sends in
-    in_marks c me past batch_entry (change.prepared.listed batch_entry has).1
+    in_marks c me past batch_entry ((new_change c me vc bytes past sends).prepared.listed batch_entry has).1
 
 pub batch_entries_proposed_in_marks : BatchEntriesProposedInMarks
 batch_entries_proposed_in_marks c me vc batch_entry bytes past sends has =
-    let change = new_change c me vc bytes past sends in
-    in_marks c me past batch_entry (change.proposed.listed batch_entry has).1
+    in_marks c me past batch_entry ((new_change c me vc bytes past sends).proposed.listed batch_entry has).1
 
 pairs_at : {A : Type 0} (R : A → A → Type 0) (xs : List A) (i j : ℕ) (a b : A) → AllPairs R xs → i < j → slice_get xs i ≡ Some a → slice_get xs j ≡ Some b → R a b
 pairs_at R xs i j a b h less first second =
@@ -75,12 +72,9 @@ batch_entries_differ c me i j vc a b bytes past sends less first second =
 pub changes_again_last : ChangesAgainLast
 changes_again_last c me vc earlier bytes past says before right sent = go (says_may c me bytes (record { sender = me; message = ViewChange vc }) past right says)
   where
-    within : earlier.view ≤ target past
-    within = above_target me earlier past sent
-
     go : MayViewChange c me past right.1.0 bytes vc → earlier.view ≤ vc.view
-    go (inl change) = let above = change.newer in omega (arith, within)
-    go (inr again) = let last = again.1 in omega (arith, within)
+    go (inl change) = let above = change.newer in omega (arith, above_target me earlier past sent)
+    go (inr again) = let last = again.1 in omega (arith, above_target me earlier past sent)
 
 -- ---- calls
 
@@ -89,14 +83,11 @@ called_by : (c : Configuration) (me client timestamp : ℕ) (op : Operation) (la
 called_by c me client timestamp op [] past right = right.0.1
 called_by c me client timestamp op (e ∷ later) past right = called_by c me client timestamp op later past right.1
 
-called : (c : Configuration) (me client timestamp : ℕ) (op : Operation) (later past : List Entry)
-    → IsClient c me (later ++ Invoke client timestamp op ∷ past) → MayInput past (Invoke client timestamp op)
-called c me client timestamp op later past h = called_by c me client timestamp op later past (is_client_right c me (later ++ Invoke client timestamp op ∷ past) h)
-
 pub no_call_while_open : NoCallWhileOpen
 no_call_while_open c me client timestamp call op later past opened h =
-    let none = (called c me client timestamp op later past h).1 in
+    let none = (called_by c me client timestamp op later past (is_client_right c me (later ++ Invoke client timestamp op ∷ past) h)).1 in
     absurd (let bad : None ≡ Some call = sym none ∙ opened in cc)
 
 pub calls_operations : CallsOperations
-calls_operations c me client timestamp op later past h = (called c me client timestamp op later past h).2
+calls_operations c me client timestamp op later past h =
+    (called_by c me client timestamp op later past (is_client_right c me (later ++ Invoke client timestamp op ∷ past) h)).2

@@ -15,9 +15,9 @@ use Rattle.signing.specs.Heard.{heard}
 use Rattle.protocol.specs.System.Trace.{Entry, Has}
 use Rattle.protocol.specs.System.Trace.Entry.{Invoke, Got, Sent}
 use Rattle.protocol.specs.Replica.Selection.{is_within}
-use Rattle.protocol.specs.Replica.Certificates.{view, change_taken, latest_change, low, is_active_in, is_in_marks, batch_from, are_genuine, logged, prepare_from, commit_from, prepare_of, commit_of, vote_in, checkpoint_from, checkpoint_in, insert_checkpoint, with_checkpoint, checkpoints_of}
+use Rattle.protocol.specs.Replica.Certificates.{view, change_taken, latest_change, low, is_active_in, is_in_marks, batch_from, are_genuine, prepare_from, commit_from, vote_in, checkpoint_from, checkpoint_in, insert_checkpoint, with_checkpoint, checkpoints_of}
 use Rattle.reply_cache.specs.Replies.{Kept}
-use Rattle.protocol.specs.Replica.State.{State, Call, kept_of, last_time}
+use Rattle.protocol.specs.Replica.State.{State, Call, last_time}
 use Rattle.protocol.specs.Replica.RightReplica.{Point, HistoryReaches, kept_states, IsRootWanted}
 use Rattle.protocol.specs.Replica.Owed.{Owes, Counts, IsReplica, IsNoOlder, has_number}
 use Rattle.evidence.specs.RefusedChanges.{Answers, GotChange, IsNoRoot, DropsWrites, DropsRequestsOfReplicas, DropsOldRequests, DropsPassedRequests, DropsPrePreparesOfBackups, DropsPrePreparesWhileInactive, DropsPrePreparesOutsideMarks, DropsSecondPrePrepares, DropsPreparesOfPrimaries, DropsPreparesWhileInactive, DropsSecondPrepares, DropsCommitsWhileInactive, DropsSecondCommits, DropsLowCheckpoints, DropsCheckpointsOfNoNumber, DropsSecondCheckpoints, DropsPassedCheckpoints, DropsLowChanges, DropsUnboundChanges, DropsPassedChanges, DropsNewViews, DropsFetches, DropsLowDigests, DropsLowPages, DropsOtherRoots, DropsOtherDigests, DropsOtherPages}
@@ -60,17 +60,13 @@ pub drops_requests_of_replicas : DropsRequestsOfReplicas
 drops_requests_of_replicas c me s timestamp op bytes past small a =
     answered c me s (Request timestamp modes.Ordered op) bytes past a (λ point leaves k. let is : s ≡ 256 + k.0 = k.1 in absurd (omega arith))
 
--- the kept reply has the last timestamp
-last_of_kept : (st : State) (k : ℕ) (kept : Kept) → kept_of st k ≡ Some kept → last_time st k ≡ kept.timestamp
-last_of_kept st k kept h = ap (λ (o : Option Kept). option_map_or (λ (x : Kept). x.timestamp) o 0) h
-
 -- an ordered request that counts is the last that ran, or newer than it and no older than those that wait
 ordered_counts : (c : Configuration) (me k timestamp : ℕ) (op : Operation) (bytes : List ℕ) (past : List Entry) (point : Point)
     → Counts c me past point bytes (256 + k) (Request timestamp modes.Ordered op)
     → (last_time point.state k ≡ timestamp) ⊎ ((last_time point.state k < timestamp) × IsNoOlder point.waiting k timestamp op)
 ordered_counts c me k timestamp op bytes past point (n, is, inl x) =
     let same : k ≡ n = (let e : 256 + k ≡ 256 + n = is in omega arith) in
-    inl (ap (last_time point.state) same ∙ last_of_kept point.state n x.0 x.1 ∙ x.2)
+    inl (ap (last_time point.state) same ∙ (ap (λ (o : Option Kept). option_map_or (λ (x : Kept). x.timestamp) o 0) x.1) ∙ x.2)
 ordered_counts c me k timestamp op bytes past point (n, is, inr x) =
     let same : k ≡ n = (let e : 256 + k ≡ 256 + n = is in omega arith) in
     inr (subst (λ (m : ℕ). (last_time point.state m < timestamp) × IsNoOlder point.waiting m timestamp op) (sym same) x)
@@ -119,26 +115,19 @@ given_at c me past v i bytes body give given hears h = go (is_active_in c past v
     go true false e f k = absurd cc
     go false d e f k = absurd cc
 
-inactive : (c : Configuration) (past : List Entry) (v : ℕ) → is_active_in c past v ≡ false → is_active_in c past v ≡ true → ⊥
-inactive c past v e f = absurd (let bad : false ≡ true = sym e ∙ f in cc)
-
-taken_before : (o : Option (List ℕ)) (first : List ℕ) → o ≡ Some first → o ≡ None → ⊥
-taken_before o first e f = absurd (let bad : Some first ≡ None = sym e ∙ f in cc)
-
 pub drops_pre_prepares_of_backups : DropsPrePreparesOfBackups
 drops_pre_prepares_of_backups c me s v i batch bytes past other a =
     answered c me s (PrePrepare v i batch) bytes past a (λ point leaves k.
     let g = given_at c me past v i bytes (record { sender = s; message = PrePrepare v i batch }) (batch_from c me v i) batch a.hears k.0 in
     let t = then_some_gives ((v == v) && (i == i) && (s == primary c v) && are_genuine c me batch) batch batch g.gives in
     let p = and_parts ((v == v) && (i == i) && (s == primary c v)) (are_genuine c me batch) t.0 in
-    let q = and_parts ((v == v) && (i == i)) (s == primary c v) p.0 in
-    other (sym (eqb-true s (primary c v) q.1)))
+    other (sym (eqb-true s (primary c v) (and_parts ((v == v) && (i == i)) (s == primary c v) p.0).1)))
 
 pub drops_pre_prepares_while_inactive : DropsPrePreparesWhileInactive
 drops_pre_prepares_while_inactive c me s v i batch bytes past idle a =
     answered c me s (PrePrepare v i batch) bytes past a (λ point leaves k.
     let g = given_at c me past v i bytes (record { sender = s; message = PrePrepare v i batch }) (batch_from c me v i) batch a.hears k.0 in
-    inactive c past v idle g.active)
+    (absurd (let bad : false ≡ true = sym idle ∙ g.active in cc)))
 
 pub drops_pre_prepares_outside_marks : DropsPrePreparesOutsideMarks
 drops_pre_prepares_outside_marks c me s v i batch bytes past outside a =
@@ -148,7 +137,7 @@ drops_pre_prepares_outside_marks c me s v i batch bytes past outside a =
 
 pub drops_second_pre_prepares : DropsSecondPrePrepares
 drops_second_pre_prepares c me s v i batch other bytes past is a =
-    answered c me s (PrePrepare v i batch) bytes past a (λ point leaves k. taken_before (logged c me past v i) other is k.1)
+    answered c me s (PrePrepare v i batch) bytes past a (λ point leaves k. absurd (let bad : Some other ≡ None = sym is ∙ k.1 in cc))
 
 pub drops_prepares_of_primaries : DropsPreparesOfPrimaries
 drops_prepares_of_primaries c me s v i digest bytes past is a =
@@ -156,28 +145,27 @@ drops_prepares_of_primaries c me s v i digest bytes past is a =
     let g = given_at c me past v i bytes (record { sender = s; message = Prepare v i digest }) (prepare_from c s v i) digest a.hears k.0 in
     let t = then_some_gives ((s == s) && (v == v) && (i == i) && not (s == primary c v)) digest digest g.gives in
     let p = and_parts ((s == s) && (v == v) && (i == i)) (not (s == primary c v)) t.0 in
-    let same = eq-eqb s (primary c v) (sym is) in
-    absurd (let bad : not true ≡ true = subst (λ (b : Bool). not b ≡ true) same p.1 in cc))
+    absurd (let bad : not true ≡ true = subst (λ (b : Bool). not b ≡ true) (eq-eqb s (primary c v) (sym is)) p.1 in cc))
 
 pub drops_prepares_while_inactive : DropsPreparesWhileInactive
 drops_prepares_while_inactive c me s v i digest bytes past idle a =
     answered c me s (Prepare v i digest) bytes past a (λ point leaves k.
     let g = given_at c me past v i bytes (record { sender = s; message = Prepare v i digest }) (prepare_from c s v i) digest a.hears k.0 in
-    inactive c past v idle g.active)
+    (absurd (let bad : false ≡ true = sym idle ∙ g.active in cc)))
 
 pub drops_second_prepares : DropsSecondPrepares
 drops_second_prepares c me s v i digest first bytes past is a =
-    answered c me s (Prepare v i digest) bytes past a (λ point leaves k. taken_before (prepare_of c me past v i s) first is k.1)
+    answered c me s (Prepare v i digest) bytes past a (λ point leaves k. absurd (let bad : Some first ≡ None = sym is ∙ k.1 in cc))
 
 pub drops_commits_while_inactive : DropsCommitsWhileInactive
 drops_commits_while_inactive c me s v i digest bytes past idle a =
     answered c me s (Commit v i digest) bytes past a (λ point leaves k.
     let g = given_at c me past v i bytes (record { sender = s; message = Commit v i digest }) (commit_from s v i) digest a.hears k.0 in
-    inactive c past v idle g.active)
+    (absurd (let bad : false ≡ true = sym idle ∙ g.active in cc)))
 
 pub drops_second_commits : DropsSecondCommits
 drops_second_commits c me s v i digest first bytes past is a =
-    answered c me s (Commit v i digest) bytes past a (λ point leaves k. taken_before (commit_of c me past v i s) first is k.1)
+    answered c me s (Commit v i digest) bytes past a (λ point leaves k. absurd (let bad : Some first ≡ None = sym is ∙ k.1 in cc))
 
 -- ---- checkpoints
 

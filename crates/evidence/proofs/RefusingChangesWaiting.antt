@@ -1,5 +1,5 @@
 -- The definitions refuse that a request waits too short or too long.
-use Rattle.std.proofs.Common.{◌≡◌, ℕ, ◌+◌, ◌-◌, ◌≤◌, ◌<◌, ◌⊎◌, inl, inr, Bool, true, false, cond, not, filter, ◌&&◌, ◌||◌, List, [], ◌∷◌, ◌++◌, refl, sym, ap, ◌∙◌, subst, arith, Option, Some, None, eqb-true}
+use Rattle.std.proofs.Common.{◌≡◌, ℕ, ◌+◌, ◌-◌, ◌<◌, ◌⊎◌, inl, inr, Bool, true, false, cond, not, filter, ◌&&◌, ◌||◌, List, [], ◌∷◌, ◌++◌, refl, sym, ap, ◌∙◌, subst, arith, Option, Some, None, eqb-true}
 use Rattle.std.specs.Prelude.{◌==◌, nat_lt, option_and_then}
 use Rattle.std.specs.List.{list_all}
 use Rattle.std.specs.Option.{option_map_or}
@@ -67,15 +67,12 @@ waits_once_got c me k timestamp op bytes past hears small newest point leaves =
 
     in_clients : is_client c (256 + k) ≡ true
     in_clients =
-        let a : 256 ≤ 256 + k = omega arith in
-        let b : 256 + k < 256 + c.clients = omega (arith, small) in
-        rw (le-leb 256 (256 + k) a, lt-ltb (256 + k) (256 + c.clients) b) refl
+        rw (le-leb 256 (256 + k) (omega arith), lt-ltb (256 + k) (256 + c.clients) (omega (arith, small))) refl
 
     calls : call_in c (record { sender = 256 + k; message = Request timestamp modes.Ordered op }) ≡ Some call
     calls =
-        let same : 256 + k - 256 ≡ k = omega arith in
         ap (λ (b : Bool). cond b (let x : Call = record { client = 256 + k - 256; timestamp = timestamp; op = op } in Some x) None) in_clients
-        ∙ ap (λ (n : ℕ). let x : Call = record { client = n; timestamp = timestamp; op = op } in Some x) same
+        ∙ ap (λ (n : ℕ). let x : Call = record { client = n; timestamp = timestamp; op = op } in Some x) (omega arith)
 
     after : (old : Point) → waiting_after c me old bytes ≡ with_waiting old.state old.waiting call
     after old =

@@ -8,7 +8,7 @@ use Rattle.wire.specs.Words.{said}
 use Rattle.protocol.specs.System.Configuration.{Configuration}
 use Rattle.protocol.specs.System.Trace.{Entry}
 use Rattle.protocol.specs.System.Trace.Entry.{Got, Sent}
-use Rattle.protocol.specs.Replica.Transfers.{fetch_sent, place_from, is_fetch, NoneAsked, IsNext, in_place}
+use Rattle.protocol.specs.Replica.Transfers.{fetch_sent, place_from, NoneAsked, IsNext, in_place}
 use Rattle.protocol.specs.Replica.RightReplica.{MayFetch, SafeReplica, IsAskedAgain}
 use Rattle.evidence.specs.Refused.{FetchesNewest, FetchesOnce, FetchesWhatIsTold, FetchesWhatDiffers}
 use Rattle.evidence.proofs.RefusingRuns.{says_may}
@@ -28,23 +28,19 @@ fetches_newest c me k n index other level above bytes earlier past says sent bel
 -- a fetch was sent in the event
 asked_here : (me n other : ℕ) (above : Level) (earlier : List ℕ) (past : List Entry) → said earlier ≡ Some (record { sender = me; message = Fetch n above other }) → NoneAsked (Sent me earlier ∷ past) → ⊥
 asked_here me n other above earlier past sent none =
-    let is : is_fetch (Sent me earlier) ≡ true = ap (λ (o : Option Body). is_some (option_and_then place_from o)) sent in
-    absurd (let bad : true ≡ false = sym is ∙ none.0 in cc)
+    absurd (let bad : true ≡ false = sym (ap (λ (o : Option Body). is_some (option_and_then place_from o)) sent) ∙ none.0 in cc)
 
 pub fetches_once : FetchesOnce
 fetches_once c me k n index other level above bytes earlier past says below sent right = go (may_fetch c me k index level bytes (Sent me earlier ∷ past) says right).next
   where
-    asked : NoneAsked (Sent me earlier ∷ past) → ⊥
-    asked none = asked_here me n other above earlier past sent none
-
     first : (root : List ℕ) (l : Level) → l ≢ levels.Root → IsNext c me (Sent me earlier ∷ past) (in_place c me k (Sent me earlier ∷ past) right.1.0.state) k root l index → ⊥
     first root levels.Root other_level h = other_level refl
-    first root levels.Inner other_level h = asked h.0
-    first root levels.Page other_level h = asked h.0
+    first root levels.Inner other_level h = asked_here me n other above earlier past sent h.0
+    first root levels.Page other_level h = asked_here me n other above earlier past sent h.0
 
     go : IsNext c me (Sent me earlier ∷ past) (in_place c me k (Sent me earlier ∷ past) right.1.0.state) k (may_fetch c me k index level bytes (Sent me earlier ∷ past) says right).root level index ⊎ IsAskedAgain (Sent me earlier ∷ past) k level index → ⊥
     go (inl h) = first (may_fetch c me k index level bytes (Sent me earlier ∷ past) says right).root level below h
-    go (inr again) = asked again.1
+    go (inr again) = asked_here me n other above earlier past sent again.1
 
 pub fetches_what_is_told : FetchesWhatIsTold
 fetches_what_is_told c me k index level bytes frame past says below none right = go (may_fetch c me k index level bytes (Got me frame ∷ past) says right).next

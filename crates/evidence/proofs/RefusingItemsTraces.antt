@@ -18,26 +18,20 @@ use Rattle.protocol.proofs.Words.Elements.{has_weaker}
 
 -- Each operation but an upgrade keeps the version of a space.
 keeps_version : (ts : Contents) (client : ℕ) (o : Operation) → (o ≡ upgrade → ⊥) → (tuples_after ts client o).version ≡ ts.version
-keeps_version ts client o other = go (refuses ts.version client o)
+keeps_version ts client o other = either (refuses ts.version client o) ts (served_after ts o) refl (served o other)
   where
     either : (b : Bool) (us vs : Contents) → us.version ≡ ts.version → vs.version ≡ ts.version → (cond b us vs).version ≡ ts.version
     either true us vs u v = u
     either false us vs u v = v
 
-    added : (t : TupleTree) → (with_newest ts t).version ≡ ts.version
-    added t = either (has_room ts) _ _ refl refl
-
     served : (o : Operation) → (o ≡ upgrade → ⊥) → (served_after ts o).version ≡ ts.version
-    served (out t) other = added t
+    served (out t) other = either (has_room ts) _ _ refl refl
     served (rdp p) other = refl
     served (inp p) other = refl
-    served (cas p t) other = either (is_some (first_match p ts)) _ _ refl (added t)
+    served (cas p t) other = either (is_some (first_match p ts)) _ _ refl (either (has_room ts) _ _ refl refl)
     served (rd_all n p) other = refl
     served (in_all n p) other = refl
     served upgrade other = absurd (other refl)
-
-    go : (b : Bool) → (cond b ts (served_after ts o)).version ≡ ts.version
-    go b = either b ts (served_after ts o) refl (served o other)
 
 -- Where nothing upgrades it, an operation that a space of version 1 answers, and not by a refusal, is one of version 1.
 abbrev NoneUpgrades : List Item → Type 0
@@ -66,12 +60,6 @@ module _ (c : Configuration) (writer reader : ℕ) (t : TupleTree) (p : Template
   abbrev IsWrite : Item → Type 0
   IsWrite x = (x.client ≡ 256 + writer) × (x.timestamp ≡ 1) × (x.op ≡ out t)
 
-  abbrev IsRead : Item → Type 0
-  IsRead x = (x.client ≡ 256 + reader) × (x.timestamp ≡ 1) × (x.op ≡ rdp p)
-
-  not_both : (x : Item) → x.client ≡ 256 + writer → x.client ≡ 256 + reader → ⊥
-  not_both x w r = differ (omega (arith, w, r))
-
   -- ---- a write, then a read that finds nothing
 
   abbrev late : List Entry
@@ -81,7 +69,7 @@ module _ (c : Configuration) (writer reader : ℕ) (t : TupleTree) (p : Template
   Early x = IsWrite x × (x.position ≤ 1)
 
   abbrev Late : Item → Type 0
-  Late x = IsRead x × (2 ≤ x.position)
+  Late x = ((x.client ≡ 256 + reader) × (x.timestamp ≡ 1) × (x.op ≡ rdp p)) × (2 ≤ x.position)
 
   abbrev Misses : Item → Type 0
   Misses x = (x.client ≡ 256 + reader) × (x.answer ≡ absent)
@@ -150,13 +138,10 @@ module _ (c : Configuration) (writer reader : ℕ) (t : TupleTree) (p : Template
     abbrev alone : Contents
     alone = record { version = versions.One; tuples = t ∷ [] }
 
-    is_written : written ≡ alone
-    is_written = ap (λ (b : Bool). cond (b || false) no_tuples (with_newest no_tuples t)) plain_write
-
     -- for each client: none is forbidden to read
     finds : outcome written 0 (rdp p) ≡ found t
     finds =
-        ap (λ (ts : Contents). outcome ts 0 (rdp p)) is_written
+        ap (λ (ts : Contents). outcome ts 0 (rdp p)) (ap (λ (b : Bool). cond (b || false) no_tuples (with_newest no_tuples t)) plain_write)
         ∙ ap (λ (b : Bool). cond (b || false) refused (served_outcome alone (rdp p))) plain_read
         ∙ ap (λ (b : Bool). found_or_absent (if b then Some t else None)) matches
 
@@ -177,7 +162,7 @@ module _ (c : Configuration) (writer reader : ℕ) (t : TupleTree) (p : Template
     misses_none (x ∷ items) each once order legal writes misses = go (each x (inl refl)) writes misses
       where
         go : Early x ⊎ Late x → (x.client ≡ 256 + writer) ⊎ Has (λ y. y.client ≡ 256 + writer) items → Misses x ⊎ Has Misses items → ⊥
-        go (inr l) (inl w) misses = not_both x w l.0.0
+        go (inr l) (inl w) misses = differ (omega (arith, w, l.0.0))
         go (inr l) (inr w) misses =
             let high = l.1 in
             let low = lowest (λ y. (y.client ≡ 256 + writer) × Has (λ z. z ≡ y) items) 1 x items early order (has_there items w) in
@@ -193,8 +178,8 @@ module _ (c : Configuration) (writer reader : ℕ) (t : TupleTree) (p : Template
               where
                 by : Early y ⊎ Late y → y.position ≤ 1
                 by (inl e) = e.1
-                by (inr l) = absurd (not_both y h.0 l.0.0)
-        go (inl e) writes (inl m) = not_both x e.0.0 m.0
+                by (inr l) = absurd (differ (omega (arith, h.0, l.0.0)))
+        go (inl e) writes (inl m) = differ (omega (arith, e.0.0, m.0))
         go (inl e) writes (inr m) = after_write items reads (subst (λ (o : Operation). LegalFrom (tuples_after no_tuples (x.client - 256) o) items) e.0.2 legal.1) m
           where
             again : (y : Item) → IsWrite y → (ys : List Item) → Has (λ z. z ≡ y) ys → Has (λ z. (z.client ≡ x.client) × (z.timestamp ≡ x.timestamp)) ys
@@ -224,7 +209,7 @@ module _ (c : Configuration) (writer reader : ℕ) (t : TupleTree) (p : Template
   Writes x = IsWrite x × (2 ≤ x.position)
 
   abbrev Reads : Item → Type 0
-  Reads x = IsRead x × (x.position ≤ 1)
+  Reads x = ((x.client ≡ 256 + reader) × (x.timestamp ≡ 1) × (x.op ≡ rdp p)) × (x.position ≤ 1)
 
   abbrev Finds : Item → Type 0
   Finds x = (x.client ≡ 256 + reader) × (x.answer ≡ found t) × (x.position ≤ 1)
@@ -246,7 +231,7 @@ module _ (c : Configuration) (writer reader : ℕ) (t : TupleTree) (p : Template
       nothing false e = let g : ⊥ = cc in g
 
       go : Writes x ⊎ Reads x → Finds x ⊎ Has Finds items → (Reads x → Has Finds items → ⊥) → ⊥
-      go (inl w) (inl f) below = not_both x w.0.0 f.0
+      go (inl w) (inl f) below = differ (omega (arith, w.0.0, f.0))
       go (inl w) (inr f) below =
           let high = w.1 in
           let low = lowest Finds 1 x items (λ y h. h.2) order f in

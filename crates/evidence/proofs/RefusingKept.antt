@@ -180,8 +180,7 @@ ordered n i j [] a b r less first second = absurd cc
 ordered n i zero (x ∷ xs) a b r less first second = absurd (omega arith)
 ordered n zero (suc j) (x ∷ xs) a b r less first second =
     let same : x ≡ a = cc in
-    let l : suc x.number ≤ b.number = above (suc x.number) j xs b r.1 second in
-    subst (λ (y : CheckpointEntry). y.number < b.number) same l
+    subst (λ (y : CheckpointEntry). y.number < b.number) same (above (suc x.number) j xs b r.1 second)
 ordered n (suc i) (suc j) (x ∷ xs) a b r less first second = let l : i < j = omega arith in ordered (suc x.number) i j xs a b r.1 l first second
 
 -- ---- parts of states
@@ -220,15 +219,12 @@ listed : (c : Configuration) (me : ℕ) (vc : ViewChangeData) (bytes : List ℕ)
     → (vc.low ≤ checkpoint.number) × HasSnapshot c checkpoint.number past
 listed c me vc bytes past sends checkpoint has =
     each_has P vc.checkpoints checkpoint
-    (subst (λ (checkpoints : List CheckpointEntry). Each P checkpoints) (sym change.checkpoints)
+    (subst (λ (checkpoints : List CheckpointEntry). Each P checkpoints) (sym (new_change c me vc bytes past sends).checkpoints)
     (each_mapped P checkpoint_of (reverse (kept_states vc.low point.snapshots))
     (each_turned Q (kept_states vc.low point.snapshots) [] (kept_above (λ (st : State). HasSnapshot c st.number past) vc.low point.snapshots (each_snapshot c me past point sends.is_safe.1.1)) tt))) has
   where
     point : Point
     point = sends.is_safe.1.0
-
-    change : IsNewViewChange c me past point vc
-    change = new_change c me vc bytes past sends
 
     P : CheckpointEntry → Type 0
     P x = (vc.low ≤ x.number) × HasSnapshot c x.number past
@@ -238,8 +234,7 @@ listed c me vc bytes past sends checkpoint has =
 
 pub lists_none_below : ListsNoneBelow
 lists_none_below c me vc checkpoint bytes past sends has =
-    let change = new_change c me vc bytes past sends in
-    subst (λ (h : ℕ). h ≤ checkpoint.number) change.low (listed c me vc bytes past sends checkpoint has).0
+    subst (λ (h : ℕ). h ≤ checkpoint.number) (new_change c me vc bytes past sends).low (listed c me vc bytes past sends checkpoint has).0
 
 pub lists_snapshots : ListsSnapshots
 lists_snapshots c me vc checkpoint bytes past sends has = (listed c me vc bytes past sends checkpoint has).1

@@ -199,22 +199,19 @@ pub checkpoints_were_brought : CheckpointsWereBrought
 checkpoints_were_brought c s checkpoint [] has = absurd (subst (λ (xs : List CheckpointEntry). Has (λ x. x ≡ checkpoint) xs) (no_checkpoints c s) has)
 checkpoints_were_brought c s checkpoint (e ∷ past) has = go (checkpoint_in c e) refl (subst (λ (xs : List CheckpointEntry). Has (λ x. x ≡ checkpoint) xs) (checkpoints_with c e past s) has) (checkpoints_were_brought c s checkpoint past)
   where
-    further : (checkpoint.number < 2 ^ 48) × Once (λ earlier e. BringsCheckpoint c s checkpoint.number checkpoint.digest e) past → (checkpoint.number < 2 ^ 48) × Once (λ earlier e. BringsCheckpoint c s checkpoint.number checkpoint.digest e) (e ∷ past)
-    further h = (h.0, inr h.1)
-
     go : (o : Option (ℕ × CheckpointEntry)) → checkpoint_in c e ≡ o → Has (λ x. x ≡ checkpoint) (with_checkpoint s o (checkpoints_of c past s))
         → (Has (λ x. x ≡ checkpoint) (checkpoints_of c past s) → (checkpoint.number < 2 ^ 48) × Once (λ earlier e. BringsCheckpoint c s checkpoint.number checkpoint.digest e) past)
         → (checkpoint.number < 2 ^ 48) × Once (λ earlier e. BringsCheckpoint c s checkpoint.number checkpoint.digest e) (e ∷ past)
-    go None is there below = further (below there)
+    go None is there below = ((below there).0, inr (below there).1)
     go (Some x) is there below = pick (x.0 == s) refl there
       where
         from : x.0 ≡ s → (x.1 ≡ checkpoint) ⊎ Has (λ y. y ≡ checkpoint) (checkpoints_of c past s) → (checkpoint.number < 2 ^ 48) × Once (λ earlier e. BringsCheckpoint c s checkpoint.number checkpoint.digest e) (e ∷ past)
         from own (inl here) =
             let g = subst (λ (m : CheckpointEntry). Gives c s m e) here (subst (λ (n : ℕ). Gives c n x.1 e) own (gives c x e is)) in
             (g.number, inl g.brings)
-        from own (inr was) = further (below was)
+        from own (inr was) = ((below was).0, inr (below was).1)
 
         pick : (b : Bool) → (x.0 == s) ≡ b → Has (λ y. y ≡ checkpoint) (cond b (take 3 (insert_checkpoint x.1 (checkpoints_of c past s))) (checkpoints_of c past s))
             → (checkpoint.number < 2 ^ 48) × Once (λ earlier e. BringsCheckpoint c s checkpoint.number checkpoint.digest e) (e ∷ past)
         pick true own k = from (eqb-true x.0 s own) (has_of_inserted x.1 checkpoint (checkpoints_of c past s) (has_of_take 3 checkpoint (insert_checkpoint x.1 (checkpoints_of c past s)) k))
-        pick false own k = further (below k)
+        pick false own k = ((below k).0, inr (below k).1)

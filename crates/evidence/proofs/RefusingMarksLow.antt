@@ -185,9 +185,6 @@ pub low_is_marked : LowIsMarked
 low_is_marked c me [] = inl (low_at_first c me)
 low_is_marked c me (e ∷ past) = from (max_is (low c me past) (max (stable_at c me past e) (max (installed_at e) (started_at c past e)))) (low_is_marked c me past)
   where
-    grown : low c me (e ∷ past) ≡ max (low c me past) (max (stable_at c me past e) (max (installed_at e) (started_at c past e)))
-    grown = low_with c me e past
-
     here : (n : ℕ) → (n ≡ 0) ⊎ IsMarkAt c me n past e → low c me (e ∷ past) ≡ n → (low c me (e ∷ past) ≡ 0) ⊎ Once (IsMarkAt c me (low c me (e ∷ past))) (e ∷ past)
     here n (inl none) is = inl (is ∙ none)
     here n (inr checkpoint) is = inr (inl (subst (λ (m : ℕ). IsMarkAt c me m past e) (sym is) checkpoint))
@@ -206,6 +203,6 @@ low_is_marked c me (e ∷ past) = from (max_is (low c me past) (max (stable_at c
     from : (max (low c me past) (max (stable_at c me past e) (max (installed_at e) (started_at c past e))) ≡ low c me past)
         ⊎ (max (low c me past) (max (stable_at c me past e) (max (installed_at e) (started_at c past e))) ≡ max (stable_at c me past e) (max (installed_at e) (started_at c past e)))
         → (low c me past ≡ 0) ⊎ Once (IsMarkAt c me (low c me past)) past → (low c me (e ∷ past) ≡ 0) ⊎ Once (IsMarkAt c me (low c me (e ∷ past))) (e ∷ past)
-    from (inl k) (inl none) = inl (grown ∙ k ∙ none)
-    from (inl k) (inr was) = inr (inr (subst (λ (m : ℕ). Once (IsMarkAt c me m) past) (sym (grown ∙ k)) was))
-    from (inr k) was = rest (max_is (stable_at c me past e) (max (installed_at e) (started_at c past e))) (grown ∙ k)
+    from (inl k) (inl none) = inl (low_with c me e past ∙ k ∙ none)
+    from (inl k) (inr was) = inr (inr (subst (λ (m : ℕ). Once (IsMarkAt c me m) past) (sym (low_with c me e past ∙ k)) was))
+    from (inr k) was = rest (max_is (stable_at c me past e) (max (installed_at e) (started_at c past e))) (low_with c me e past ∙ k)

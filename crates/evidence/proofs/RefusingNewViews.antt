@@ -1,5 +1,5 @@
 -- The definitions refuse a primary that could send a new view, and does not.
-use Rattle.std.proofs.Common.{◌≡◌, ◌≢◌, ℕ, ◌<◌, ◌⊎◌, inl, inr, true, List, [], ◌∷◌, ◌++◌, bytes_eq, refl, sym, ap, ◌∙◌, subst, arith, Some}
+use Rattle.std.proofs.Common.{◌≡◌, ◌≢◌, ℕ, ◌<◌, ◌⊎◌, inl, inr, true, List, [], ◌∷◌, ◌++◌, refl, sym, ap, ◌∙◌, subst, arith, Some}
 use Rattle.std.specs.Prelude.{option_and_then}
 use Rattle.std.proofs.lemmas.Slice.Eq.{bytes_eq-Decides}
 use Rattle.wire.specs.Lists.{Each}
@@ -62,13 +62,10 @@ beginning_with root = record { view = 1; low = 0; checkpoints = record { number 
 new_with : List ℕ → List ℕ → List ℕ → List ℕ → NewViewData
 new_with root a b d = record { view = 1; changes = a ∷ b ∷ d ∷ []; start = 0; root = root; batches = [] }
 
-same : (xs : List ℕ) → bytes_eq xs xs ≡ true
-same xs = (bytes_eq-Decides xs xs).1 refl
-
 selected : (clients : ℕ) (seed root a b d : List ℕ) → signed_change (four clients seed) a ≡ Some (1, beginning_with root) → signed_change (four clients seed) b ≡ Some (2, beginning_with root)
     → signed_change (four clients seed) d ≡ Some (3, beginning_with root) → may_select (four clients seed) (new_with root a b d) ≡ true
 unfolding may_select beginning_with new_with
-selected clients seed root a b d ha hb hd = rw (ha, hb, hd) (rw (same root) refl)
+selected clients seed root a b d ha hb hd = rw (ha, hb, hd) (rw ((bytes_eq-Decides root root).1 refl) refl)
 
 carried : (c : Configuration) (me : ℕ) (now : List Entry) (root a b d : List ℕ) → signed_change c a ≡ Some (1, beginning_with root) → signed_change c b ≡ Some (2, beginning_with root)
     → signed_change c d ≡ Some (3, beginning_with root) → HasLatestChange c me now (1, beginning_with root) → HasLatestChange c me now (2, beginning_with root) → HasLatestChange c me now (3, beginning_with root)
@@ -144,9 +141,6 @@ module _ (clients : ℕ) (seed first second own : List ℕ) (x : ChangesInBeginn
     ),
   )
 
-  latest_now : (s : ℕ) → latest_change c h2 s ≡ 1 → latest_change c now s ≡ 1
-  latest_now s is = omega (arith, is)
-
   pub begun_is_selected : may_select c (beginning_view root own first second) ≡ true
   unfolding beginning_with new_with
   begun_is_selected = selected clients seed root own first second (signs 1 own z) (signs 2 first x) (signs 3 second y)
@@ -160,8 +154,8 @@ module _ (clients : ℕ) (seed first second own : List ℕ) (x : ChangesInBeginn
     selected = selected clients seed root own first second (signs 1 own z) (signs 2 first x) (signs 3 second y);
     changes = carried c 1 now root own first second (signs 1 own z) (signs 2 first x) (signs 3 second y)
         (inr (refl, inl (joining.says clients seed 1 2 3 first second own apart first_other second_other x y z), target_now))
-        (inl (first_other, inr (inr (inl first_brought)), latest_now 2 (joining.of_first clients seed 1 2 3 first second own apart first_other second_other x y z)))
-        (inl (second_other, inr (inl second_brought), latest_now 3 (joining.of_second clients seed 1 2 3 first second own apart first_other second_other x y z)));
+        (inl (first_other, inr (inr (inl first_brought)), omega (arith, joining.of_first clients seed 1 2 3 first second own apart first_other second_other x y z)))
+        (inl (second_other, inr (inl second_brought), omega (arith, joining.of_second clients seed 1 2 3 first second own apart first_other second_other x y z)));
     batches = tt;
   }
 

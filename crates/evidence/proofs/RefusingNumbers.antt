@@ -37,9 +37,7 @@ goes_back_to_no_number c me v i j batch other bytes past says free above there r
 
 pub pre_prepares_nearby : PrePreparesNearby
 pre_prepares_nearby c me v i batch bytes past says free right =
-    let near = (has_next c me v i batch bytes past says free right).near in
-    let number = newest_state c me past right.1.0 right.1.1 in
-    omega (arith, near, number)
+    omega (arith, (has_next c me v i batch bytes past says free right).near, newest_state c me past right.1.0 right.1.1)
 
 -- ---- replies
 
@@ -48,12 +46,9 @@ ran_here : (c : Configuration) (me : ℕ) (input : Entry) (past outputs : List E
     → (x : Ran) → Has (λ y. y ≡ x) point.ran → Has (Executes x.kept.number []) outputs
 ran_here c me input past [] is all point h x has = go input is h.2.may h.2.moves
   where
-    none : point.ran ≡ [] → Has (Executes x.kept.number []) []
-    none empty = absurd (subst (λ (rans : List Ran). Has (λ y. y ≡ x) rans) empty has)
-
     go : (e : Entry) → is_output e ≡ false → May c me past h.0 e → Moves c me past h.0 e point → Has (Executes x.kept.number []) []
-    go (Got p bytes) is may move = none (ap (λ (q : Point). q.ran) move)
-    go (Tick p) is may move = none (ap (λ (q : Point). q.ran) move)
+    go (Got p bytes) is may move = absurd (subst (λ (rans : List Ran). Has (λ y. y ≡ x) rans) (ap (λ (q : Point). q.ran) move) has)
+    go (Tick p) is may move = absurd (subst (λ (rans : List Ran). Has (λ y. y ≡ x) rans) (ap (λ (q : Point). q.ran) move) has)
     go (Invoke a b d) is may move = absurd may
     go (Accepted a b d) is may move = absurd may
     go _ is may move = absurd (let bad : true ≡ false = is in cc)

@@ -128,13 +128,11 @@ answers_ran c me ran input outputs past has goes =
 
 pub prepares_logged : PreparesLogged
 prepares_logged c me v i batch input outputs past none some active backup goes =
-    let e = event_of c me outputs input past goes in
-    has_reverse _ outputs (e.owes.prepares v i batch none some active backup)
+    has_reverse _ outputs ((event_of c me outputs input past goes).owes.prepares v i batch none some active backup)
 
 pub commits_prepared : CommitsPrepared
 commits_prepared c me v i batch input outputs past not_yet prepared active goes =
-    let e = event_of c me outputs input past goes in
-    has_reverse _ outputs (e.owes.commits v i batch not_yet prepared active)
+    has_reverse _ outputs ((event_of c me outputs input past goes).owes.commits v i batch not_yet prepared active)
 
 pub executes_committed : ExecutesCommitted
 executes_committed c me v batch input outputs past committed goes =
@@ -165,8 +163,7 @@ numbers_at : (c : Configuration) (me v i : ℕ) (batch bytes : List ℕ) (input 
 numbers_at c me v i batch bytes input newer older past says none goes =
     let e = event_of c me (newer ++ Sent me bytes ∷ older) input past goes in
     let all = subst (λ (xs : List Entry). AtOutputs (NumbersOnce c me) (input ∷ past) xs) (reversed_append newer (Sent me bytes ∷ older) []) e.owes.numbers_once in
-    let at = behind_older (NumbersOnce c me) (input ∷ past) older (Sent me bytes ∷ reverse newer) all in
-    at.0 v i batch says none
+    (behind_older (NumbersOnce c me) (input ∷ past) older (Sent me bytes ∷ reverse newer) all).0 v i batch says none
 
 pub numbers_none_twice : NumbersNoneTwice
 numbers_none_twice c me v i client timestamp batch bytes input newer older past says none has numbered goes =

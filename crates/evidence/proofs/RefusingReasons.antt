@@ -25,9 +25,6 @@ Input = Entry × List Entry
 no_tick : (me : ℕ) (frame : List ℕ) (past before : List Entry) → ◌≡◌ {A = Option Input} (Some (Got me frame, past)) (Some (Tick me, before)) → ⊥
 no_tick me frame past before is = let same : Got me frame ≡ Tick me = ap (λ (p : Input). p.0) (some_injective _ _ is) in cc
 
-same_past : (me : ℕ) (past before : List Entry) → ◌≡◌ {A = Option Input} (Some (Tick me, past)) (Some (Tick me, before)) → past ≡ before
-same_past me past before is = ap (λ (p : Input). p.1) (some_injective _ _ is)
-
 -- so the replica joins others
 joins : (c : Configuration) (me v : ℕ) (frame : List ℕ) (past : List Entry) (waiting : List Call) → TimesOut c me (Got me frame ∷ past) waiting v ⊎ JoinsOthers c me (Got me frame ∷ past) v → JoinsOthers c me (Got me frame ∷ past) v
 joins c me v frame past waiting (inl t) = absurd (no_tick me frame past t.before t.tick)
@@ -48,18 +45,15 @@ nothing_waits c me point (old, first, step) = ap (λ (p : Point). p.waiting) ste
 pub no_change_at_first : NoChangeAtFirst
 no_change_at_first c me vc bytes sends = go (new_change c me vc bytes (Tick me ∷ []) sends).reason
   where
-    point : Point
-    point = sends.is_safe.1.0
-
     below : (before : List Entry) → [] ≡ before → view c before < target before → ⊥
     below before is less = let first : view c [] < 0 = subst (λ (xs : List Entry). view c xs < target xs) (sym is) less in absurd (omega arith)
 
-    go : TimesOut c me (Tick me ∷ []) point.waiting vc.view ⊎ JoinsOthers c me (Tick me ∷ []) vc.view → ⊥
+    go : TimesOut c me (Tick me ∷ []) sends.is_safe.1.0.waiting vc.view ⊎ JoinsOthers c me (Tick me ∷ []) vc.view → ⊥
     go (inl t) = waits t.waits
       where
-        waits : (point.waiting ≢ []) ⊎ (view c t.before < target t.before) → ⊥
-        waits (inl some) = some (nothing_waits c me point sends.is_safe.1.1)
-        waits (inr less) = below t.before (same_past me [] t.before t.tick) less
+        waits : (sends.is_safe.1.0.waiting ≢ []) ⊎ (view c t.before < target t.before) → ⊥
+        waits (inl some) = some (nothing_waits c me sends.is_safe.1.0 sends.is_safe.1.1)
+        waits (inr less) = below t.before (ap (λ (p : Input). p.1) (some_injective _ _ t.tick)) less
     go (inr j) = none_ahead c me j.of_one.0 (Tick me ∷ []) refl j.of_one.2
 
 pub no_change_at_frame : NoChangeAtFrame
@@ -83,7 +77,7 @@ pub ticks_move_by_one : TicksMoveByOne
 ticks_move_by_one c me vc bytes past sends few = go (new_change c me vc bytes (Tick me ∷ past) sends).reason
   where
     go : TimesOut c me (Tick me ∷ past) sends.is_safe.1.0.waiting vc.view ⊎ JoinsOthers c me (Tick me ∷ past) vc.view → vc.view ≡ suc (max (view c past) (target past))
-    go (inl t) = t.next ∙ ap (λ (xs : List Entry). suc (sought_view c xs)) (sym (same_past me past t.before t.tick))
+    go (inl t) = t.next ∙ ap (λ (xs : List Entry). suc (sought_view c xs)) (sym (ap (λ (p : Input). p.1) (some_injective _ _ t.tick)))
     go (inr j) =
         let enough = leb-true (c.faults + 1) (count_below (is_ahead c me (Tick me ∷ past)) (replicas c)) j.enough in
         absurd (omega (arith, few))

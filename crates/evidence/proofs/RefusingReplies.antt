@@ -28,13 +28,10 @@ pub ran_of : (c : Configuration) (k : ℕ) (st : State) (frames : List (List ℕ
 ran_of c k st [] x h = absurd h
 ran_of c k st (frame ∷ frames) x h = go (call_of c frame) refl h (ran_of c k (run_frame c k st frame) frames x)
   where
-    later : RanOf c k frames x → RanOf c k (frame ∷ frames) x
-    later r = record { number = r.number; time = r.time; frame = inr r.frame }
-
     test : (call : Call) → call_of c frame ≡ Some call → (b : Bool) (rest : List Ran) → (Has (λ y. y ≡ x) rest → RanOf c k frames x)
         → Has (λ y. y ≡ x) (cond b (record { call = call; kept = kept_by st k call } ∷ []) [] ++ rest) → RanOf c k (frame ∷ frames) x
-    test call is false rest below h = later (below h)
-    test call is true rest below (inr h) = later (below h)
+    test call is false rest below h = record { number = (below h).number; time = (below h).time; frame = inr (below h).frame }
+    test call is true rest below (inr h) = record { number = (below h).number; time = (below h).time; frame = inr (below h).frame }
     test call is true rest below (inl h) = record {
       number = sym (ap (λ (y : Ran). y.kept.number) h);
       time = sym (ap (λ (y : Ran). y.kept.timestamp) h) ∙ ap (λ (y : Ran). y.call.timestamp) h;
@@ -43,7 +40,7 @@ ran_of c k st (frame ∷ frames) x h = go (call_of c frame) refl h (ran_of c k (
 
     go : (o : Option Call) → call_of c frame ≡ o → Has (λ y. y ≡ x) (option_map_or (ran_by st k) o [] ++ ran_in c k (run_frame c k st frame) frames)
         → (Has (λ y. y ≡ x) (ran_in c k (run_frame c k st frame) frames) → RanOf c k frames x) → RanOf c k (frame ∷ frames) x
-    go None e h below = later (below h)
+    go None e h below = record { number = (below h).number; time = (below h).time; frame = inr (below h).frame }
     go (Some call) e h below = test call e (runs st call) (ran_in c k (run_frame c k st frame) frames) below h
 
 has_request : (c : Configuration) (k : ℕ) (batch : List ℕ) (x : Ran) → RanOf c k (requests_of batch) x → HasRequest c x.call.client x.kept.timestamp batch
@@ -113,9 +110,6 @@ pub replies_of_executed : RepliesOfExecuted
 replies_of_executed c me client timestamp number answer bytes past says none right =
     go (says_may c me bytes (record { sender = me; message = Reply client timestamp modes.Ordered number answer }) past right says)
   where
-    of : OfExecuted c past right.1.0
-    of = of_executed c me past none right.1.0 right.1.1
-
     given : (k : ℕ) (kept : Kept) → Once (ExecutesRequest c kept.number k kept.timestamp) past → reply_of k kept ≡ Reply client timestamp modes.Ordered number answer
         → (k : ℕ) × (client ≡ 256 + k) × Once (ExecutesRequest c number k timestamp) past
     given k kept h is =
@@ -125,5 +119,5 @@ replies_of_executed c me client timestamp number answer bytes past says none rig
     go : MayReply c me past right.1.0 client timestamp modes.Ordered number answer → (k : ℕ) × (client ≡ 256 + k) × Once (ExecutesRequest c number k timestamp) past
     go (inl h) =
         let x = has_some (λ (ran : Ran). reply_of ran.call.client ran.kept ≡ Reply client timestamp modes.Ordered number answer) right.1.0.ran h in
-        given x.0.call.client x.0.kept (of.ran x.0 x.1) x.2
-    go (inr h) = given h.0 h.1 (of.kept h.0 h.1 h.2) h.3
+        given x.0.call.client x.0.kept ((of_executed c me past none right.1.0 right.1.1).ran x.0 x.1) x.2
+    go (inr h) = given h.0 h.1 ((of_executed c me past none right.1.0 right.1.1).kept h.0 h.1 h.2) h.3

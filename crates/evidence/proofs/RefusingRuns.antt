@@ -211,8 +211,7 @@ always_behind P (e ∷ later) xs a = always_behind P later xs a.1
 
 pub outputs_follow : OutputsFollow
 outputs_follow c e other past later output differs run =
-    let a = always_behind OutputFollows later (e ∷ other ∷ past) run.events in
-    differs (sym (a.0 output))
+    differs (sym ((always_behind OutputFollows later (e ∷ other ∷ past) run.events).0 output))
 
 -- ---- replicas
 

@@ -47,9 +47,7 @@ counted : (c : Configuration) (s : Step → Bool) (t : Entry → Bool) → Agree
     → length (filter t v.past) ≡ length (filter s steps) + length (filter t w.past)
 counted c s t a w v _ _ ends = omega arith
 counted c s t a w v _ _ (gives {steps = steps} {e = e} o g) =
-    let below = counted c s t a _ _ _ _ g in
-    let same = count_same t e w.past (a.outputs e o) in
-    below ∙ ap (λ (n : ℕ). length (filter s steps) + n) same
+    (counted c s t a _ _ _ _ g) ∙ ap (λ (n : ℕ). length (filter s steps) + n) (count_same t e w.past (a.outputs e o))
 counted c s t a w v _ _ (called {steps = steps} {client = client} {timestamp = timestamp} {op = op} allowed g) =
     let below = counted c s t a _ _ _ _ g in
     let here = count_more t (Invoke client timestamp op) w.past in

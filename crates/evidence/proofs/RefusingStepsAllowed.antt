@@ -87,13 +87,11 @@ may_come c w flush h = tt
 
 pub allows_what_may_come : AllowsWhatMayCome
 allows_what_may_come c steps step trace feeds may =
-    let past : feeds.0.past ≡ trace = past_of c feeds.0 steps trace feeds.1 in
-    allowed c feeds.0 step (subst (λ (xs : List Entry). MayCome c feeds.0.frames xs step) (sym past) may)
+    allowed c feeds.0 step (subst (λ (xs : List Entry). MayCome c feeds.0.frames xs step) (sym (past_of c feeds.0 steps trace feeds.1)) may)
 
 pub allows_no_other : AllowsNoOther
 allows_no_other c steps step trace feeds is =
-    let past : feeds.0.past ≡ trace = past_of c feeds.0 steps trace feeds.1 in
-    subst (λ (xs : List Entry). MayCome c feeds.0.frames xs step) past (may_come c feeds.0 step is)
+    subst (λ (xs : List Entry). MayCome c feeds.0.frames xs step) (past_of c feeds.0 steps trace feeds.1) (may_come c feeds.0 step is)
 
 -- ---- a frame that a step made is one of the world's
 

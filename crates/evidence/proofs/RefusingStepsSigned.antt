@@ -19,8 +19,7 @@ use Rattle.signing.proofs.Signed.{signature_of-verifies}
 use Rattle.signing.proofs.Heard.{verifies-Decides, signed_is_heard, signer_is_heard}
 use Rattle.signing.specs.Heard.{signed_body}
 use Rattle.protocol.specs.System.Configuration.{Configuration, replicas, is_replica, members}
-use Rattle.protocol.specs.System.Schedule.{meant_for, signed_bytes}
-use Rattle.protocol.specs.Replica.RightReplica.{others}
+use Rattle.protocol.specs.System.Schedule.{signed_bytes}
 use Rattle.evidence.specs.RefusedSteps.{SignedFramesAreHeard}
 use Rattle.tuple_tree.proofs.NumberBytes.{no_bytes, bytes_more}
 use Rattle.wire.proofs.Saying.{reads_frames, reads_said}
@@ -84,11 +83,6 @@ without me start zero n (suc total) e t =
 without me start (suc k) n (suc total) e t =
     kept me start (range_with_len (start + 1) total) (λ f. omega (arith, e, f)) ∙ ap (λ xs. start ∷ xs) (without me (start + 1) k n total (omega arith) (omega arith))
 
-for_others : (c : Configuration) (replica : ℕ) (s : List ℕ) → is_replica c replica ≡ true → meant_for c replica (signature s) ≡ others c replica
-for_others c replica s h =
-    let l : replica < replicas c = ltb-true replica (replicas c) h in
-    sym (without replica 0 replica (replicas c - suc replica) (replicas c) (omega arith) (omega arith))
-
 -- ---- the law
 
 known : (c : Configuration) (replica : ℕ) (m : Message) → is_signed m ≡ true → is_replica c replica ≡ true → sends (members c) replica m ≡ true
@@ -103,11 +97,9 @@ signed_frames_are_heard c replica leaf message valid right within may kind short
     let bytes : List ℕ = signed_bytes c replica leaf text in
     let frame : Frame = record { body = body; authenticator = signature (signature_of seed leaf text) } in
     let verifies = signature_of-verifies seed text leaf within in
-    let below : replica < replicas c = ltb-true replica (replicas c) right in
-    let most = valid.most in
     let spelled : SpellsFrame bytes frame = record {
       valid = record {
-        sender = omega (arith, below, most);
+        sender = omega (arith, ltb-true replica (replicas c) right, valid.most);
         message = may;
         authenticator = (verifies.formed.whole, signature_bytes seed leaf text within, verifies.formed.leaf);
         proved = sym kind;
@@ -123,7 +115,9 @@ signed_frames_are_heard c replica leaf message valid right within may kind short
       says = reads_said bytes frame spelled;
       has_signature = refl;
       is_sealed = (verifies-Decides (public_key seed) text (signature_of seed leaf text)).1 verifies;
-      is_for = for_others c replica (signature_of seed leaf text) right;
+      is_for =
+          let l : replica < replicas c = ltb-true replica (replicas c) right in
+          sym (without replica 0 replica (replicas c - suc replica) (replicas c) (omega arith) (omega arith));
       is_heard = λ p other. signed_is_heard (members c) p bytes body told other;
       is_told = told;
     }

@@ -66,8 +66,7 @@ largest_has limit (batch_entry ∷ batch_entries) some = go (nat_le batch_entry.
         → Has (λ (x : BatchEntry). x.number ≡ max batch_entry.number (largest limit batch_entries)) (batch_entry ∷ batch_entries)
     larger true e below some =
         let le = leb-true batch_entry.number (largest limit batch_entries) e in
-        let is : largest limit batch_entries ≡ max batch_entry.number (largest limit batch_entries) = omega arith in
-        inr (subst (λ m. Has (λ (x : BatchEntry). x.number ≡ m) batch_entries) is (below (omega arith)))
+        inr (subst (λ m. Has (λ (x : BatchEntry). x.number ≡ m) batch_entries) (omega arith) (below (omega arith)))
     larger false e below some =
         let gt = leb-false batch_entry.number (largest limit batch_entries) e in
         inl (omega arith)
@@ -88,8 +87,7 @@ largest_of-prepared limit (x ∷ xs) some =
         → SomePrepared (x ∷ xs) (max (largest limit x.1.prepared) (largest_of limit xs))
     go true e below =
         let le = leb-true (largest limit x.1.prepared) (largest_of limit xs) e in
-        let is : largest_of limit xs ≡ max (largest limit x.1.prepared) (largest_of limit xs) = omega arith in
-        inr (subst (λ m. SomePrepared xs m) is (below (omega arith)))
+        inr (subst (λ m. SomePrepared xs m) (omega arith) (below (omega arith)))
     go false e below =
         let gt = leb-false (largest limit x.1.prepared) (largest_of limit xs) e in
         let is : largest limit x.1.prepared ≡ max (largest limit x.1.prepared) (largest_of limit xs) = omega arith in
@@ -104,8 +102,7 @@ ends : (c : Configuration) (set : List (ℕ × ViewChangeData)) (start : ℕ) (b
 ends c set start [] long = inl refl
 ends c set start (batch ∷ batches) long =
     let most = largest_of-le (start + span c) set in
-    let is : largest_of (start + span c) set ≡ start + length (batch ∷ batches) = omega arith in
-    inr (subst (λ m. SomePrepared set m) is (largest_of-prepared (start + span c) set (omega arith)), omega arith)
+    inr (subst (λ m. SomePrepared set m) (omega arith) (largest_of-prepared (start + span c) set (omega arith)), omega arith)
 
 long_enough : (c : Configuration) (set : List (ℕ × ViewChangeData)) (start : ℕ) (batches : List (List ℕ))
     → ((i : ℕ) → SomePrepared set i → i ≤ start + 2 * c.period → i ≤ start + length batches)
@@ -160,8 +157,7 @@ below_some test (suc n) k less h = go (test n) refl (below_some test n k)
         pick true lt = below (ltb-true k n lt) h
         pick false ge =
             let more = ltb-false k n ge in
-            let same : k ≡ n = omega arith in
-            absurd (let f : true ≡ false = sym h ∙ ap test same ∙ e in cc)
+            absurd (let f : true ≡ false = sym h ∙ ap test (omega arith) ∙ e in cc)
 
 of_may_stand : (c : Configuration) (view : ℕ) (set : List (ℕ × ViewChangeData)) (i : ℕ) (batch : List ℕ) → ascending set ≡ true → MayStand c view set i batch → may_stand c view set i batch ≡ true
 of_may_stand c view set i batch order (inl h) =
@@ -186,8 +182,7 @@ all_stand c view set first (batch ∷ batches) h =
     (let place : first + 0 ≡ first = omega arith in
     subst (λ i. may_stand c view set i batch ≡ true) place (h 0 batch refl))
     (all_stand c view set (suc first) batches (λ k other get.
-    let place : first + suc k ≡ suc first + k = omega arith in
-    subst (λ i. may_stand c view set i other ≡ true) place (h (suc k) other get)))
+    subst (λ i. may_stand c view set i other ≡ true) (omega arith) (h (suc k) other get)))
 
 -- ---- the rules, together
 

@@ -45,9 +45,7 @@ count_of_have c set count test P f order have =
     omega arith
   where
     passes : (s : ℕ) → (vc : ViewChangeData) × Has (λ x. x ≡ (s, vc)) set × P vc → passes_by test set s ≡ true
-    passes s x =
-        let is = change_of set s x.0 order x.1 in
-        rw is (f x.0 x.2)
+    passes s x = rw (change_of set s x.0 order x.1) (f x.0 x.2)
 
 -- ---- what a view change says of a number
 

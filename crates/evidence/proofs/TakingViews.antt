@@ -18,7 +18,7 @@ use Rattle.protocol.specs.System.Trace.{Entry, Has}
 use Rattle.protocol.specs.System.Trace.Entry.{Got, Sent}
 use Rattle.protocol.specs.Replica.Selection.{may_select, change_in}
 use Rattle.protocol.specs.Replica.Certificates.{view, view_after, target, is_later, new_view_in, new_view_from, taken, change_from, is_active_in, checkpoint_from, checkpoints_of, is_stable, stable_at, started_at, low, is_in_marks, counts_at, logged, begun_proposal, batch_begun, prepare_of, prepare_from, vote_in, Prepared}
-use Rattle.protocol.specs.Replica.RightReplica.{first_point, others, IsAddressed, Executes, MayPrepare, MaySend, IsStep}
+use Rattle.protocol.specs.Replica.RightReplica.{first_point, others, IsAddressed, Executes, MaySend, IsStep}
 use Rattle.protocol.specs.Replica.Owed.{Owes, IsReplica, NumbersOnce, SendsMessage}
 use Rattle.evidence.specs.Examples.{four}
 use Rattle.evidence.specs.ExamplesOfChanges.{holding_view, IsForOthers, NewViewsAreTaken}
@@ -86,14 +86,11 @@ module _ (clients : ℕ) (seed : List ℕ) (me : ℕ) (batch root a b d new_view
     stable_none : stable_at c me [] (Got me new_view) ≡ 0
     stable_none = ap (λ (o : Option (ℕ × CheckpointEntry)). option_map_or (λ (y : ℕ × CheckpointEntry). cond (is_stable c me h1 y.1) y.1.number 0) o 0) (brings_no_checkpoint c (Got me new_view) begins hears tt)
 
-    starts : started_at c [] (Got me new_view) ≡ 0
-    starts = ap (λ (o : Option NewViewData). option_map_or (λ (n : NewViewData). n.start) o 0) takes
-
     low_is : low c me h1 ≡ 0
     unfolding low
     low_is =
         ap (λ (n : ℕ). max 0 (max n (max 0 (started_at c [] (Got me new_view))))) stable_none
-        ∙ ap (λ (n : ℕ). max 0 (max 0 (max 0 n))) starts
+        ∙ ap (λ (n : ℕ). max 0 (max 0 (max 0 n))) (ap (λ (o : Option NewViewData). option_map_or (λ (n : NewViewData). n.start) o 0) takes)
 
     active : is_active_in c h1 1 ≡ true
     active = ap (λ (n : ℕ). (n == 1) && nat_le (target h1) 1) view_is
@@ -151,10 +148,8 @@ module _ (clients : ℕ) (seed : List ℕ) (me : ℕ) (batch root a b d new_view
     own_alone : (v i : ℕ) (digest : List ℕ) (s : ℕ) → has_digest digest (prepare_of c me now v i s) ≡ true → member (me ∷ []) s ≡ true
     own_alone v i digest s h =
         let t = if_digest ((me == s) && (1 == v) && (1 == i) && not (s == primary c v)) digest (sha256 batch) (subst (λ (o : Option (List ℕ)). has_digest digest o ≡ true) (votes v i s) h) in
-        let p = and_parts ((me == s) && (1 == v) && (1 == i)) (not (s == primary c v)) t in
-        let q = and_parts ((me == s) && (1 == v)) (1 == i) p.0 in
-        let r = and_parts (me == s) (1 == v) q.0 in
-        ap (λ (y : Bool). y || false) r.0
+        let q = and_parts ((me == s) && (1 == v)) (1 == i) (and_parts ((me == s) && (1 == v) && (1 == i)) (not (s == primary c v)) t).0 in
+        ap (λ (y : Bool). y || false) (and_parts (me == s) (1 == v) q.0).0
 
     unprepared : (v i : ℕ) (given : List ℕ) → Prepared c me now v i given → ⊥
     unprepared v i given h =
@@ -209,16 +204,13 @@ module _ (clients : ℕ) (seed : List ℕ) (me : ℕ) (batch root a b d new_view
     addressed (macs entries) h = h
     addressed (signature s) h = tt
 
-    may_prepare : MayPrepare c me h1 1 1 (sha256 batch)
-    may_prepare = record { is_backup = λ is. backup (sym is); active = active; batch = batch; is_logged = here; digest_is = refl }
-
     may : MaySend c me h1 first_point (Sent me prepare) prepare
     may = record {
       body = prepares;
       says = x.says;
       own = refl;
       seen = tt;
-      say = may_prepare;
+      say = record { is_backup = λ is. backup (sym is); active = active; batch = batch; is_logged = here; digest_is = refl };
       is_sealed = λ frame is. let s = x.is_sealed frame is in (s.0, addressed frame.authenticator s.1);
       leaf = unsigned_have_no_leaf (h1) prepare (prepares) (x.says) refl;
       once = λ here. here;

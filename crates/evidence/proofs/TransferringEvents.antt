@@ -14,7 +14,7 @@ use Rattle.protocol.specs.System.Frames.{IsSealed}
 use Rattle.protocol.specs.System.Trace.{Entry, Has}
 use Rattle.protocol.specs.System.Trace.Entry.{Got, Sent}
 use Rattle.protocol.specs.Replica.Selection.{is_quorum}
-use Rattle.protocol.specs.Replica.Certificates.{logged, count_checkpoints}
+use Rattle.protocol.specs.Replica.Certificates.{count_checkpoints}
 use Rattle.protocol.specs.Replica.State.{Call, opening, call_in}
 use Rattle.protocol.specs.Replica.RightReplica.{Point, first_point, with_waiting, waiting_after, others, Executes, IsAddressed, IsStep, MayFetch, MaySend, SentInEvent}
 use Rattle.protocol.specs.Replica.Transfers.{fetch_sent, fetching}
@@ -51,9 +51,6 @@ module _ (clients : ℕ) (seed root : List ℕ) where
   abbrev Proceeding : List Entry → Type 0
   Proceeding past = HistoryIsPrompt c 0 past [] first_point first_point
 
-  none_logged : (past : List Entry) (p : ℕ → Bool) (asked : Option (ℕ × (Level × ℕ))) (k : ℕ) → At past p asked k → (v i : ℕ) (batch : List ℕ) → logged c 0 past v i ≡ Some batch → ⊥
-  none_logged past p asked k st v i batch h = absurd (let bad : None ≡ Some batch = sym (st.logged_is v i) ∙ h in cc)
-
   -- a message that the replica receives, and the proof obligations of its event
   record Due (before : List Entry) (bytes : List ℕ) (outputs now : List Entry) : Type 0 where
     pub body : Body
@@ -70,9 +67,9 @@ module _ (clients : ℕ) (seed root : List ℕ) where
   owes before bytes outputs now p asked k st due = record {
     numbers = λ v i call active is_primary waits free. absurd waits;
     numbers_once = due.numbers_once;
-    prepares = λ v i batch none some active backup. absurd (none_logged now p asked k st v i batch some);
-    commits = λ v i batch none some active. absurd (none_logged now p asked k st v i batch some.logged);
-    executes = λ v batch h. none_logged now p asked k st v 1 batch h.prepared.logged;
+    prepares = λ v i batch none some active backup. absurd (absurd (let bad : None ≡ Some batch = sym (st.logged_is v i) ∙ some in cc));
+    commits = λ v i batch none some active. absurd (absurd (let bad : None ≡ Some batch = sym (st.logged_is v i) ∙ some.logged in cc));
+    executes = λ v batch h. absurd (let bad : None ≡ Some batch = sym (st.logged_is v 1) ∙ h.prepared.logged in cc);
     replies = λ ran h. absurd h;
     checkpoints = λ n h multiple. absurd (due.none_executed n h);
     again = λ n t op kept asks there same. absurd (given_is (record { sender = 256 + n; message = Request t modes.Ordered op }) asks);

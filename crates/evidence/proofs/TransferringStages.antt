@@ -211,6 +211,5 @@ module _ (clients : ℕ) (seed root : List ℕ) where
   pub quorum_here : (past : List Entry) (p : ℕ → Bool) (asked : Option (ℕ × (Level × ℕ))) (k : ℕ) → Stage past p asked k → nat_le 3 (count_below p 4) ≡ true
       → is_quorum c (count_checkpoints c past checkpoint) ≡ true
   quorum_here past p asked k st enough =
-      let same : ((16 == 16) && bytes_eq root root) ≡ true = (bytes_eq-Decides root root).1 refl in
       subst (λ (n : ℕ). is_quorum c n ≡ true) (sym (count_is past p asked k st checkpoint))
-      (subst (λ (b : Bool). is_quorum c (count_below (λ s. b && p s) 4) ≡ true) (sym same) enough)
+      (subst (λ (b : Bool). is_quorum c (count_below (λ s. b && p s) 4) ≡ true) (sym ((bytes_eq-Decides root root).1 refl)) enough)

@@ -16,7 +16,7 @@ use Rattle.signing.specs.Heard.{heard}
 use Rattle.wire.specs.Words.{said}
 use Rattle.protocol.specs.System.Trace.{Entry, party_of, Once}
 use Rattle.protocol.specs.System.Trace.Entry.{Invoke, Got, Tick, Sent, Accepted}
-use Rattle.protocol.specs.Client.RightClient.{OpenCall, last_call, open_call, Vote, vote_of, newest_vote, latest, count_alike, is_complete, is_ordered_request, went_ordered, is_answered, Reaction, fallback, on_reply, on_got, reaction, IsReaction, IsClient, MayAccept, MayAsk, MayRequest, MayClient, SafeClient}
+use Rattle.protocol.specs.Client.RightClient.{OpenCall, last_call, open_call, Vote, vote_of, newest_vote, latest, count_alike, is_complete, is_ordered_request, went_ordered, is_answered, Reaction, fallback, on_reply, on_got, reaction, IsReaction, IsClient, MayAccept, MayAsk, MayClient, SafeClient}
 use Rattle.protocol.specs.Client.RightClient.Reaction.{nothing, asks, accepts}
 use Rattle.evidence.specs.RefusedRuns.{going_on, AsksOrdered}
 use Rattle.evidence.specs.Clients.{WaitsForAnswers, FallsBackOnce, IgnoresOthers, RestsWithoutCall}
@@ -26,8 +26,7 @@ use Rattle.evidence.proofs.RefusingRuns.{vote_in, brings, gave, always_behind}
 
 nothing_only : (c : Configuration) (me : ℕ) (r : Reaction) (outputs : List Entry) → r ≡ nothing → IsReaction c me r (reverse outputs) → outputs ≡ []
 nothing_only c me r outputs is h =
-    let k = subst (λ (x : Reaction). IsReaction c me x (reverse outputs)) is h in
-    sym (reverse-reverse outputs) ∙ ap reverse k
+    sym (reverse-reverse outputs) ∙ ap reverse (subst (λ (x : Reaction). IsReaction c me x (reverse outputs)) is h)
 
 -- ---- a reply that completes nothing
 
@@ -94,8 +93,7 @@ module _ (c : Configuration) (me : ℕ) where
   asked_last t (Sent p bytes ∷ past) right (inl h) =
       let m = right.0.1 in
       let is = some_injective m.0 (record { sender = h.0; message = Request t modes.Ordered h.1 }) (sym m.1 ∙ h.2) in
-      let ask : MayRequest past t modes.Ordered h.1 = subst (λ (b : Body). MayAsk past b.message) is m.3 in
-      opened_last (record { timestamp = t; op = h.1 }) past ask.0
+      opened_last (record { timestamp = t; op = h.1 }) past (subst (λ (b : Body). MayAsk past b.message) is m.3).0
   asked_last t (Invoke x y z ∷ past) right (inr h) = let l = asked_last t past right.1 h in let n = right.0.1.0 in omega arith
   asked_last t (_ ∷ past) right (inr h) = asked_last t past right.1 h
   asked_last t (_ ∷ past) right (inl h) = absurd h
