@@ -143,9 +143,6 @@ module _ (c : Configuration) (setting : IsConfiguration c) (later start : List E
   prompt : Reacts c me (reaction c me) [] mine
   prompt = subst (Reacts c me (reaction c me) []) is_mine (goes.clients me client refl)
 
-  known : is_client c me ≡ true
-  known = (and_parts (is_client c me) _ client).0
-
   below : (r : ℕ) → is_correct_replica c r ≡ true → r < replicas c
   below r correct = ltb-true r (replicas c) (and_parts (is_replica c r) _ correct).0
 
@@ -196,10 +193,9 @@ module _ (c : Configuration) (setting : IsConfiguration c) (later start : List E
           sealed_is_heard c me r (Request call.timestamp mode call.op) request.bytes request.posted.says
           (λ frame is plain.
           let s = request.posted.is_sealed frame is in
-          let zero_first : 0 ≤ r = omega arith in
           let small : r < 0 + replicas c = (let l = below r correct in omega arith) in
-          (s.0, subst (λ (xs : List ℕ). Has (λ x. x ≡ r) xs) (sym s.1) (in_range 0 (replicas c) r zero_first small)))
-          refl known (apart_from r correct)
+          (s.0, subst (λ (xs : List ℕ). Has (λ x. x ≡ r) xs) (sym s.1) (in_range 0 (replicas c) r (omega arith) small)))
+          refl (and_parts (is_client c me) _ client).0 (apart_from r correct)
 
       pub gets_request : HasEntry (Got r request.bytes) later
       gets_request = all me r request.bytes request.is_sent hears_request.meant_is (correct_replica c r correct)
@@ -304,11 +300,8 @@ module _ (c : Configuration) (setting : IsConfiguration c) (later start : List E
         → HasEntry (Tick me) later → ⊥
     contradiction keeps enough each tick = not_all_alike modes.Ordered first.vote.number first.vote.answer keeps enough by same
       where
-        request : Asked c me modes.Ordered call later
-        request = asked tick
-
         by : (r : ℕ) → keeps r ≡ true → Voted c trace mine me call.timestamp modes.Ordered r
-        by r h = votes request r (each r h).0 (each r h).1
+        by r h = votes (asked tick) r (each r h).0 (each r h).1
 
         some : (r : ℕ) × (r < replicas c) × (false ≡ false) × (keeps r ≡ true)
         some = let n = none_pass (replicas c) in let more : count_below (λ s. false) (replicas c) < count_below keeps (replicas c) = omega arith in some_more keeps (λ s. false) (replicas c) more

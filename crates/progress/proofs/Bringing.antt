@@ -16,7 +16,6 @@ use Rattle.progress.proofs.Answering.{executed_calls_are_accepted}
 
 -- a schedule feeds the tick with which it begins
 pub tick_is_fed : (c : Configuration) (w v : World) (p : ℕ) (rest steps : List Step) (entries : List Entry) → StepsLead c w steps entries v → steps ≡ ticks p ∷ rest → HasEntry (Tick p) entries
-tick_is_fed c w v p rest _ _ ends is = absurd cc
 tick_is_fed c w v p rest _ _ (gives o g) is = inr (tick_is_fed c _ v p rest _ _ g is)
 tick_is_fed c w v p rest _ _ (ticked {party = q} a g) is = let same : q ≡ p = cc in inl (ap (λ (x : ℕ). Tick x) same)
 tick_is_fed c w v p rest _ _ _ is = absurd cc

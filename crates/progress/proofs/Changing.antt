@@ -66,8 +66,7 @@ module _ (c : Configuration) (setting : IsConfiguration c) (trace : List Entry) 
     signer : (s : ℕ) × (is_correct_replica c s ≡ true) × (passes_by (λ vc. true) (changes_of c new) s ≡ true)
     signer =
         let enough = leb-true (2 * c.faults + 1) (count_in c (λ vc. true) (changes_of c new)) (selects c new selected).enough in
-        let more : c.faults < count_below (passes_by (λ vc. true) (changes_of c new)) (3 * c.faults + 1) = omega arith in
-        correct_of c setting (passes_by (λ vc. true) (changes_of c new)) more
+        correct_of c setting (passes_by (λ vc. true) (changes_of c new)) (omega arith)
 
     change : (vc : ViewChangeData) × (change_by (changes_of c new) signer.0 ≡ Some vc) × (true ≡ true)
     change = passes_change (λ vc. true) (changes_of c new) signer.0 signer.2
@@ -148,12 +147,10 @@ module _ (c : Configuration) (setting : IsConfiguration c) (trace : List Entry) 
         go (inl l) = let m = n.none_beyond q correct in omega arith
         go (inr l) =
             let one = n.above in
-            let some : 1 ≤ view c (history_of q trace) = omega arith in
-            let b = left_by c (history_of q trace) some in
+            let b = left_by c (history_of q trace) (omega arith) in
             let m = at_most q correct b.0 b.1 in
             let u = b.2 in
-            let is : b.0.view ≡ v = omega arith in
-            let there = primary_is_there q correct b.0 b.1 is in
+            let there = primary_is_there q correct b.0 b.1 (omega arith) in
             let z = none in
             absurd (omega arith)
 

@@ -64,9 +64,7 @@ entry_target c me w i b past (Sent p bytes) r h =
     let t = (entry_batch c me w i b past (Sent p bytes) h).1 in
     let is : ◌≡◌ {A = Body} r.may.body (record { sender = primary c w; message = PrePrepare w i b }) =
     some_injective r.may.body (record { sender = primary c w; message = PrePrepare w i b }) (sym r.may.says ∙ t.1 ∙ ap Some (pre_prepare_is c me w i b t.0.sender t.0.message t.2).0) in
-    let say : MayPrePrepare c me past r.point (Sent p bytes) w i b = subst (λ (x : Body). MaySay c me past r.point (Sent p bytes) bytes x.message) is r.may.say in
-    (active_parts c past w say.active).1
-entry_target c me w i b past (Invoke x y z) r h = absurd cc
+    (active_parts c past w (subst (λ (x : Body). MaySay c me past r.point (Sent p bytes) bytes x.message) is r.may.say).active).1
 entry_target c me w i b past _ r h = absurd cc
 
 proposal_target : (c : Configuration) (me w i : ℕ) (b : List ℕ) (past : List Entry) (e : Entry) → RightAt c me past e → proposal c me past e w i ≡ Some b → target past ≤ w
@@ -91,8 +89,7 @@ change_proposes c s w i b vc past (Sent p bytes) says h = go (or_else_cases (beg
     begun : (m : Bool) → cond m (option_and_then (batch_begun w i) (taken c past (Sent p bytes))) None ≡ Some b → ⊥
     begun true k =
         let t = and_then_some (batch_begun w i) (taken c past (Sent p bytes)) b k in
-        let n = (takes c 0 past (Sent p bytes) t.0 t.1).brought in
-        let bad : None ≡ Some t.0 = sym (ap (option_and_then (new_view_from c)) says) ∙ n in
+        let bad : None ≡ Some t.0 = sym (ap (option_and_then (new_view_from c)) says) ∙ (takes c 0 past (Sent p bytes) t.0 t.1).brought in
         cc
     begun false k = cc
 
@@ -131,8 +128,7 @@ logged_before c s w i b vc (x ∷ newer) past e right says less h =
 offer_target : (c : Configuration) (s w i : ℕ) (b : List ℕ) (past : List Entry) (point : Point) (p : ℕ) (bytes : List ℕ) (sender : ℕ) (message : Message) → offer_from w i (record { sender = sender; message = message }) ≡ Some b
     → MaySay c s past point (Sent p bytes) bytes message → target past ≤ w
 offer_target c s w i b past point p bytes sender (PrePrepare u j d) h say =
-    let g = then_some_gives ((u == w) && (j == i)) d b h in
-    let is : u ≡ w = eqb-true u w (and_parts (u == w) (j == i) g.0).0 in
+    let is : u ≡ w = eqb-true u w (and_parts (u == w) (j == i) (then_some_gives ((u == w) && (j == i)) d b h).0).0 in
     let l = (active_parts c past u say.active).1 in
     omega arith
 offer_target c s w i b past point p bytes sender (NewView new) h say = go say.1
@@ -372,8 +368,7 @@ module _ (c : Configuration) (setting : IsConfiguration c) (trace : List Entry) 
 
   have : (s : ℕ) → 0 ≤ s → s < 0 + replicas c → from s ≡ true → Change c Voter s
   have s l m h =
-      let small : s < replicas c = omega arith in
-      let t = says s small h in
+      let t = says s (omega arith) h in
       let x = t.1 in
       let b = bytes_of s x.0 x.1 in
       record { bytes = b.bytes; vc = x.0; signed = b.signed; holds = record { latest = x.1; is_correct = t.0; chosen = h; is_view = x.2; within = x.3; low_is = x.4; lists = x.5 } }
@@ -478,9 +473,7 @@ module _ (c : Configuration) (setting : IsConfiguration c) (trace : List Entry) 
   in_the_set s h =
       let q = and_parts (nat_lt s (replicas c)) (from s) h in
       let l = ltb-true s (replicas c) q.0 in
-      let zero_first : 0 ≤ s = omega arith in
-      let below : s < 0 + replicas c = omega arith in
-      g.there s zero_first below q.1
+      g.there s (omega arith) (omega arith) q.1
 
   quorum : (Q : ViewChangeData → Type 0) → ((x : ℕ × ViewChangeData) → Has (λ y. y ≡ x) g.set → Q x.1) → SoManyHave (2 * c.faults + 1) c g.set Q
   quorum Q q = (inside, so_many, λ s h. let t = in_the_set s h in (t.0, t.1, q (s, t.0) t.1))
@@ -603,11 +596,9 @@ module _ (c : Configuration) (setting : IsConfiguration c) (trace : List Entry) 
           stand : (k : ℕ) (batch : List ℕ) → slice_get (x.batch ∷ rest.batches) k ≡ Some batch → MayStand c v g.set (first + k) batch
           stand zero batch get =
               let same : x.batch ≡ batch = some_injective x.batch batch get in
-              let place : first ≡ first + 0 = omega arith in
-              subst (λ (j : ℕ). MayStand c v g.set j batch) place (subst (λ (y : List ℕ). MayStand c v g.set first y) same x.stands)
+              subst (λ (j : ℕ). MayStand c v g.set j batch) (omega arith) (subst (λ (y : List ℕ). MayStand c v g.set first y) same x.stands)
           stand (suc k) batch get =
-              let place : suc first + k ≡ first + suc k = omega arith in
-              subst (λ (j : ℕ). MayStand c v g.set j batch) place (rest.stand k batch get)
+              subst (λ (j : ℕ). MayStand c v g.set j batch) (omega arith) (rest.stand k batch get)
 
   -- ---- the new view
 
@@ -642,10 +633,7 @@ module _ (c : Configuration) (setting : IsConfiguration c) (trace : List Entry) 
           let x = t.0 in
           let y = t.1 in
           let n = ltb-true top.number (2 ^ 48) t.2 in
-          let a : start < i = omega arith in
-          let b : i ≤ start + span c = omega arith in
-          let d : i < 2 ^ 48 = omega arith in
-          chosen i a b (lt-ltb i (2 ^ 48) d)
+          chosen i (omega arith) (omega arith) (lt-ltb i (2 ^ 48) (omega arith))
 
   filled : Filled (suc start) (top.number - start)
   filled = fill (suc start) (top.number - start) choose

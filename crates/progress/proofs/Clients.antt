@@ -42,21 +42,19 @@ module _ (c : Configuration) (k : ℕ) (call : OpenCall) (start : List Entry) (o
   more e part same (inr o) = inr (same ∙ o)
 
   by_entry : (e : Entry) (part : List Entry) → (party_of e ≡ me) × MayClient (MayAccept c me) me (part ++ start) e → Either part → Either (e ∷ part)
-  by_entry (Invoke x y z) part right (inl a) = inl (a.0, inr a.1)
   by_entry (Invoke x y z) part right (inr o) = let bad : None ≡ Some call = sym right.1.1 ∙ o in absurd cc
-  by_entry (Accepted x y z) part right (inl a) = inl (a.0, inr a.1)
   by_entry (Accepted x y z) part right (inr o) =
       let own : 256 + x ≡ 256 + k = right.0 in
       let client : x ≡ k = omega arith in
       let m = right.1 in
-      let same : m.0 ≡ call = some_injective m.0 call (sym m.2 ∙ o) in
-      let time : y ≡ call.timestamp = sym m.3 ∙ ap (λ (o : OpenCall). o.timestamp) same in
+      let time : y ≡ call.timestamp = sym m.3 ∙ ap (λ (o : OpenCall). o.timestamp) (some_injective m.0 call (sym m.2 ∙ o)) in
       inl (z, inl (rw (client, time) refl))
   by_entry (Got x y) part right either = more (Got x y) part refl either
   by_entry (Tick x) part right either = more (Tick x) part refl either
   by_entry (Executed x y z) part right either = more (Executed x y z) part refl either
   by_entry (Installed x y z) part right either = more (Installed x y z) part refl either
   by_entry (Sent x y) part right either = more (Sent x y) part refl either
+  by_entry _ part right (inl a) = inl (a.0, inr a.1)
 
   pub open_or_accepted : (part : List Entry) → SafeClient c me (part ++ start) → Either part
   open_or_accepted [] right = inr opened
@@ -230,14 +228,13 @@ module _ (c : Configuration) (me : ℕ) (call : OpenCall) (vote : Vote) where
 
   few_while_open : (xs outputs : List Entry) → Reacts c me (reaction c me) outputs xs → open_call xs ≡ Some call → NoneAccepts outputs → Few xs
   unfolding latest
-  few_while_open [] outputs r opened none = absurd cc
   few_while_open (Invoke x y z ∷ past) outputs r opened none = call_begins x y z past
   few_while_open (Got p bytes ∷ past) outputs r opened none = by_got p bytes past outputs opened none r.1.1 (few_while_open past [] r.1.2 opened (λ k t a h. h)) (heard (members c) me bytes) refl
   few_while_open (Tick p ∷ past) outputs r opened none = few_while_open past [] r.1.2 opened (λ k t a h. h)
   few_while_open (Sent p bytes ∷ past) outputs r opened none = few_while_open past (Sent p bytes ∷ outputs) r.1 opened (no_accept (Sent p bytes) outputs none (λ k t a e. cc))
   few_while_open (Executed x y z ∷ past) outputs r opened none = few_while_open past (Executed x y z ∷ outputs) r.1 opened (no_accept (Executed x y z) outputs none (λ k t a e. cc))
   few_while_open (Installed x y z ∷ past) outputs r opened none = few_while_open past (Installed x y z ∷ outputs) r.1 opened (no_accept (Installed x y z) outputs none (λ k t a e. cc))
-  few_while_open (Accepted x y z ∷ past) outputs r opened none = absurd cc
+  few_while_open _ outputs r opened none = absurd cc
 
 pub open_calls_lack_quorums : OpenCallsLackQuorums
 open_calls_lack_quorums c me history call vote prompt opened = few_while_open c me call vote history [] prompt opened (λ k t a h. h)

@@ -262,8 +262,7 @@ module _ (c : Configuration) (setting : IsConfiguration c) (trace : List Entry) 
         unlogged (Some x) is =
             let now = logged_later c q v i x (reverse f.outs ++ f.input ∷ []) f.before is in
             let here : logged c q (reverse f.outs ++ f.input ∷ f.before) v i ≡ Some x = subst (λ (xs : List Entry). logged c q xs v i ≡ Some x) (append_assoc (reverse f.outs) (f.input ∷ []) f.before) now in
-            let same : x ≡ batch = some_injective x batch (sym here ∙ f.holds) in
-            absurd (f.not_yet (is ∙ ap Some same))
+            absurd (f.not_yet (is ∙ ap Some (some_injective x batch (sym here ∙ f.holds))))
 
         given_it : SendsMessage q (Prepare v i (sha256 batch)) f.outs
         given_it = f.owes.prepares v i batch (unlogged (logged c q f.before v i) refl) f.holds (active q one f.newer (reverse f.outs ++ f.input ∷ f.before) batch f.is f.holds) backup
@@ -313,8 +312,7 @@ module _ (c : Configuration) (setting : IsConfiguration c) (trace : List Entry) 
         let k = voter_commits c trace s q v i y.0 safe unforged other one y.1 in
         let l = once_stays (Logs c q v i y.0) (logs_stay c q v i y.0) (whole q)
         (once_weaker (CommitsAt c q v i y.0) (λ past e. Logs c q v i y.0 past) (λ past e t. record { batch = t.0.batch; is_logged = t.0.prepared.logged; digest = t.0.digest_is }) (whole q) k) in
-        let same : l.batch ≡ batch = some_injective l.batch batch (sym l.is_logged ∙ logs_it q one) in
-        y.1 ∙ ap Some (sym l.digest ∙ ap sha256 same)
+        y.1 ∙ ap Some (sym l.digest ∙ ap sha256 (some_injective l.batch batch (sym l.is_logged ∙ logs_it q one)))
 
     pub committed_by_log : (s : ℕ) → is_correct_replica c s ≡ true → Committed c s (whole s) v i batch
     committed_by_log s other = go (settled s other)
@@ -345,8 +343,7 @@ module _ (c : Configuration) (setting : IsConfiguration c) (trace : List Entry) 
             let y = logs s (record { sender = p0; message = PrePrepare v i batch }) x (prepares_batch c s v i batch (genuine s other)) in
             let one = logged_was_offered c trace s v i y.0 safe unforged other from y.1 in
             let two = logged_was_offered c trace p0 v i batch safe unforged from from begins in
-            let same : y.0 ≡ batch = some_injective y.0 batch (sym one ∙ two) in
-            y.1 ∙ ap Some same
+            y.1 ∙ ap Some (some_injective y.0 batch (sym one ∙ two))
 
     pub committed : (s : ℕ) → is_correct_replica c s ≡ true → Committed c s (whole s) v i batch
     committed s other = committed_by_log logs_it s other

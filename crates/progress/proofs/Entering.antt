@@ -41,12 +41,10 @@ signed_for c p (signature text) h s small differ = go (nat_lt s p) refl
     go : (b : Bool) → nat_lt s p ≡ b → Has (λ x. x ≡ s) (range_with_len 0 p ++ range_with_len (suc p) (replicas c - suc p))
     go true e =
         let l = ltb-true s p e in
-        let zero_first : 0 ≤ s = omega arith in
         let inside : s < 0 + p = omega arith in
-        has_left (λ x. x ≡ s) (range_with_len 0 p) (range_with_len (suc p) (replicas c - suc p)) (in_range 0 p s zero_first inside)
+        has_left (λ x. x ≡ s) (range_with_len 0 p) (range_with_len (suc p) (replicas c - suc p)) (in_range 0 p s (omega arith) inside)
     go false e =
-        let l = ltb-false s p e in
-        let above : suc p ≤ s = omega (arith, l, differ) in
+        let above : suc p ≤ s = omega (arith, (ltb-false s p e), differ) in
         let inside : s < suc p + (replicas c - suc p) = omega (arith, above, small) in
         has_right (λ x. x ≡ s) (range_with_len 0 p) (range_with_len (suc p) (replicas c - suc p)) (in_range (suc p) (replicas c - suc p) s above inside)
 
@@ -115,9 +113,7 @@ primary_sent c v part start point leaves b = go b.entry refl b.brings
     go : (e : Entry) → b.entry ≡ e → new_view_in c e ≡ Some b.new → NewViewSent c (primary c v) v part
     go (Got q bytes) is h =
         let r = and_then_some (new_view_from c) (heard (members c) q bytes) b.new h in
-        let t = begins c r.0 b.new r.2 in
-        let o = heard_was_opened (members c) q bytes r.0 r.1 in
-        absurd (o.other (same r.0 t ∙ sym (ap party_of (sym is) ∙ own)))
+        absurd ((heard_was_opened (members c) q bytes r.0 r.1).other (same r.0 (begins c r.0 b.new r.2) ∙ sym (ap party_of (sym is) ∙ own)))
     go (Sent q bytes) is h =
         let r = and_then_some (new_view_from c) (said bytes) b.new h in
         let t = begins c r.0 b.new r.2 in
@@ -125,13 +121,10 @@ primary_sent c v part start point leaves b = go b.entry refl b.brings
           bytes = bytes;
           new = b.new;
           is_sent = subst (λ (x : ℕ). HasEntry (Sent x bytes) part) (ap party_of (sym is) ∙ own) (subst (λ (x : Entry). HasEntry x part) is there);
-          says = r.1 ∙ ap Some (is_body r.0.sender r.0.message (same r.0 t) t.message_is);
+          says = r.1 ∙ ap Some (rw ((same r.0 t), t.message_is) refl);
           selected = t.selected;
           is_view = b.is_view;
         }
-      where
-        is_body : (sender : ℕ) (message : Message) → sender ≡ primary c v → message ≡ NewView b.new → ◌≡◌ {A = Body} (record { sender = sender; message = message }) (record { sender = primary c v; message = NewView b.new })
-        is_body sender message x y = rw (x, y) refl
     go (Invoke x y z) is h = absurd cc
     go _ is h = absurd cc
 
@@ -146,13 +139,10 @@ in_view c v new newer past e brings is most =
     let here = entered (nat_lt (view c past) v) refl in
     omega arith
   where
-    grown : target past ≤ target (e ∷ past)
-    grown = target_later (e ∷ []) past
-
     entered : (b : Bool) → nat_lt (view c past) v ≡ b → v ≤ view c (e ∷ past)
     entered true h =
         let t = target_later newer (e ∷ past) in
-        let g = grown in
+        let g = (target_later (e ∷ []) past) in
         let l : target past ≤ new.view = omega arith in
         let above : nat_lt (view c past) new.view ≡ true = subst (λ (n : ℕ). nat_lt (view c past) n ≡ true) (sym is) h in
         let later : is_later (view c past) (target past) new ≡ true = and_from (nat_lt (view c past) new.view) (nat_le (target past) new.view) above (le-leb (target past) new.view l) in

@@ -123,8 +123,7 @@ module _ (c : Configuration) where
   executed_logged xs point leaves first none j one l =
       let k = number_committed c p0 j one xs point leaves none l in
       let v = logged_view c p0 k.0 j k.1 xs (right_always c p0 xs point leaves) k.2.prepared.logged in
-      let is : k.0 ≡ 0 = omega arith in
-      (k.1, subst (λ (u : ℕ). logged c p0 xs u j ≡ Some k.1) is k.2.prepared.logged)
+      (k.1, subst (λ (u : ℕ). logged c p0 xs u j ≡ Some k.1) (omega arith) k.2.prepared.logged)
 
   is_there : (o : Option (List ℕ)) → is_some o ≡ true → (d : List ℕ) × (o ≡ Some d)
   is_there None h = absurd cc
@@ -153,8 +152,7 @@ module _ (c : Configuration) where
               let n = ltb-false (low c p0 past) j m in
               let a = low_reached c p0 past leaves.0 leaves.1 before in
               let r = number_reached c p0 past leaves.0 leaves.1 in
-              let most : j ≤ leaves.0.state.number = omega arith in
-              executed_logged past leaves.0 leaves.1 before (λ r k root m. none r k root (inr m)) j one most
+              executed_logged past leaves.0 leaves.1 before (λ r k root m. none r k root (inr m)) j one (omega arith)
 
       earlier : (o : Option (List ℕ)) → logged c p0 past 0 i ≡ o → view c past ≡ 0 → or_else o (proposal c p0 past e 0 i) ≡ Some b → ((x : List ℕ) → logged c p0 past 0 i ≡ Some x → (d : List ℕ) × (logged c p0 past 0 j ≡ Some d)) → (d : List ℕ) × (logged c p0 past 0 j ≡ Some d)
       earlier (Some x) is before h below = below x is
@@ -220,9 +218,7 @@ module _ (c : Configuration) (setting : IsConfiguration c) (later start : List E
           go true e = is_given j b (subst (λ (n : ℕ). logged c first_primary whole 0 n ≡ Some b) (sym (eqb-true j i e)) h)
           go false e =
               let d = eqb-false j i e in
-              let less : j < i = omega arith in
-              let one : 1 ≤ j = omega arith in
-              let k = filled c whole point leaves is_first none_here i j b h one less in
+              let k = filled c whole point leaves is_first none_here i j b h (omega arith) (omega arith) in
               is_given j k.0 k.1
 
   -- so the primary's next number is free
@@ -236,9 +232,7 @@ module _ (c : Configuration) (setting : IsConfiguration c) (later start : List E
       used j above less =
           let n = number_reached c first_primary whole point leaves in
           let m = reached_history first_primary trace in
-          let one : 1 ≤ j = omega arith in
-          let most : j ≤ point.state.number = omega arith in
-          ap is_some (executed_logged c whole point leaves is_first none_here j one most).1
+          ap is_some (executed_logged c whole point leaves is_first none_here j (omega arith) (omega arith)).1
 
       unused : (j : ℕ) → suc (reached trace first_primary) ≤ j → logged c first_primary whole 0 j ≡ None
       unused j least = go (logged c first_primary whole 0 j) refl
@@ -256,9 +250,7 @@ module _ (c : Configuration) (setting : IsConfiguration c) (later start : List E
       go (suc n) is =
           let a = number_reached c first_primary whole point leaves in
           let b = reached_history first_primary trace in
-          let one : 1 ≤ suc n = omega arith in
-          let most : suc n ≤ point.state.number = omega arith in
-          let k = executed_logged c whole point leaves is_first none_here (suc n) one most in
+          let k = executed_logged c whole point leaves is_first none_here (suc n) (omega arith) (omega arith) in
           all_reach (suc n) k.0 k.1 r correct
 
 -- ---- the law
@@ -281,9 +273,6 @@ module _ (c : Configuration) (setting : IsConfiguration c) (again later start : 
     where
       first : IsBy c middle kept.point.state
       first = by_at c middle run (primary c 0) [] (history_of (primary c 0) middle) kept.point f.from refl kept.leaves
-
-      time : last_time kept.point.state k ≡ call.timestamp
-      time = ap (λ (o : Option Kept). option_map_or (λ (x : Kept). x.timestamp) o 0) kept.is_kept ∙ kept.time
 
       keeps : (r : ℕ) → is_correct_replica c r ≡ true → KeepsReply c r (history_of r middle) k call.timestamp
       keeps r correct = keeps_reply c middle run k client call still r [] (history_of r middle) its correct refl leaves_r late
@@ -311,7 +300,7 @@ module _ (c : Configuration) (setting : IsConfiguration c) (again later start : 
               let grows = by_grows c setting middle opening 1 kept.point.state.number its.state.number k level opening_full in
               let one : last_time kept.point.state k ≡ last_time (state_by c middle opening 1 kept.point.state.number) k = ap (λ (s : State). last_time s k) first.is in
               let two : last_time its.state k ≡ last_time (state_by c middle opening 1 its.state.number) k = ap (λ (s : State). last_time s k) by.is in
-              let t = time in
+              let t = (ap (λ (o : Option Kept). option_map_or (λ (x : Kept). x.timestamp) o 0) kept.is_kept ∙ kept.time) in
               omega arith
 
   -- the primary numbered the call, so each correct replica executed it

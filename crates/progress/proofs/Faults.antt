@@ -91,9 +91,7 @@ module _ (c : Configuration) (trace : List Entry) (silent : AreFaultySilent c tr
       let mine : HasEntry (Got q whole) (history_of q trace) = subst (λ (x : ℕ). HasEntry (Got x whole) (history_of q trace)) right.0.own (inside (Got p whole) (inl refl)) in
       (each_has (IsOfNoFaulty c q) (frames_in whole) bytes (silent q whole correct (in_trace q (Got q whole) trace mine)) h).signed body signed
   seen_of_none q correct (Sent p whole ∷ past) inside right bytes (inl (inl is)) body signed =
-      let says : said bytes ≡ Some body = signed_said c bytes body signed in
-      let here : said whole ≡ Some body = rw is says in
-      let own : body.sender ≡ q = speaks_as_itself c q body past (Sent p whole) right.0 here in
+      let own : body.sender ≡ q = speaks_as_itself c q body past (Sent p whole) right.0 (rw is (signed_said c bytes body signed)) in
       ap (is_faulty_replica c) own ∙ not_faulty c q correct
   seen_of_none q correct (Sent p whole ∷ past) inside right bytes (inl (inr h)) body signed =
       let m = right.0.may in
@@ -106,11 +104,10 @@ module _ (c : Configuration) (trace : List Entry) (silent : AreFaultySilent c tr
 -- the frame of a view change in a set
 set_frame : (c : Configuration) (frames : List (List ℕ)) (set : List (ℕ × ViewChangeData)) → AreSigned c frames set → (x : ℕ × ViewChangeData) → Has (λ y. y ≡ x) set
     → (bytes : List ℕ) × Has (λ y. y ≡ bytes) frames × SpellsChange c bytes x.0 x.1
-set_frame c [] [] signed x h = absurd h
 set_frame c [] (y ∷ ys) signed x h = absurd signed
-set_frame c (frame ∷ frames) [] signed x h = absurd h
 set_frame c (frame ∷ frames) (y ∷ ys) signed x (inl is) = (frame, inl refl, subst (λ (z : ℕ × ViewChangeData). SpellsChange c frame z.0 z.1) is signed.0)
 set_frame c (frame ∷ frames) (y ∷ ys) signed x (inr h) = let r = set_frame c frames ys signed.1 x h in (r.0, inr r.1, r.2)
+set_frame c _ [] signed x h = absurd h
 
 -- the view change of a set that has the number prepared
 some_prepared : (set : List (ℕ × ViewChangeData)) (i : ℕ) → SomePrepared set i → (x : ℕ × ViewChangeData) × Has (λ y. y ≡ x) set × Has (λ (b : BatchEntry). b.number ≡ i) x.1.prepared
@@ -165,9 +162,8 @@ module _ (c : Configuration) (setting : IsConfiguration c) (trace : List Entry) 
                 let most = Silence.said_target c x.0 x.1 (history_of x.0 trace) says in
                 let m = n.none_beyond x.0 sender in
                 let l = logged_view c x.0 v b.number (a.holds.is_new.prepared.listed b h).0.0 a.past (right_always c x.0 a.past a.holds.point a.holds.leaves) is in
-                let zero_is : v ≡ 0 = omega arith in
                 let here = logged_later c x.0 0 b.number (a.holds.is_new.prepared.listed b h).0.0 (a.newer ++ a.entry ∷ []) a.past
-                (subst (λ (u : ℕ). logged c x.0 a.past u b.number ≡ Some (a.holds.is_new.prepared.listed b h).0.0) zero_is is) in
+                (subst (λ (u : ℕ). logged c x.0 a.past u b.number ≡ Some (a.holds.is_new.prepared.listed b h).0.0) (omega arith) is) in
                 let bad : None ≡ Some (a.holds.is_new.prepared.listed b h).0.0 = sym (n.silent x.0 b.number sender)
                 ∙ subst (λ (xs : List Entry). logged c x.0 xs 0 b.number ≡ Some (a.holds.is_new.prepared.listed b h).0.0) (sym (a.splits ∙ sym (append_assoc a.newer (a.entry ∷ []) a.past))) here in
                 cc

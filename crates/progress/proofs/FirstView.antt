@@ -38,7 +38,6 @@ at_reached : (me k : ℕ) (e : Entry) (past : List Entry) → party_of e ≡ me 
 at_reached me k (Executed r number batch) past own h =
     let here : cond (r == me) number 0 ≡ number = ap (λ (b : Bool). cond b number 0) (eq-eqb r me own) in
     omega arith
-at_reached me k (Invoke x y z) past own h = absurd h
 at_reached me k _ past own h = absurd h
 
 executes_reached : (c : Configuration) (me k : ℕ) (xs : List Entry) (point : Point) → HistoryReaches c me xs point → Once (Executes k) xs → k ≤ reached xs me
@@ -50,13 +49,9 @@ executes_reached c me k (e ∷ past) point leaves (inr h) = let l = executes_rea
 checkpoint_body : (s : ℕ) (m : CheckpointEntry) (sender : ℕ) (message : Message) → checkpoint_from (record { sender = sender; message = message }) ≡ Some (s, m)
     → ◌≡◌ {A = Body} (record { sender = sender; message = message }) (record { sender = s; message = Checkpoint m.number m.digest })
 checkpoint_body s m sender (Checkpoint number root) h =
-    let x : ℕ × CheckpointEntry = (sender, record { number = number; digest = root }) in
-    let y : ℕ × CheckpointEntry = (s, m) in
-    let g = then_some_gives {A = ℕ × CheckpointEntry} (is_number number) x y h in
-    let es : sender ≡ s = ap (λ (z : ℕ × CheckpointEntry). z.0) g.1 in
-    let en : number ≡ m.number = ap (λ (z : ℕ × CheckpointEntry). z.1.number) g.1 in
+    let g = then_some_gives {A = ℕ × CheckpointEntry} (is_number number) (sender, record { number = number; digest = root }) (s, m) h in
     let ed : root ≡ m.digest = ap (λ (z : ℕ × CheckpointEntry). z.1.digest) g.1 in
-    rw (es, en, ed) refl
+    rw ((ap (λ (z : ℕ × CheckpointEntry). z.0) g.1), (ap (λ (z : ℕ × CheckpointEntry). z.1.number) g.1), ed) refl
 checkpoint_body s m sender _ h = absurd cc
 
 -- its own checkpoint is of a number that it executed before
@@ -73,7 +68,6 @@ own_checkpoint c me m (Sent p bytes) past point leaves h =
     let same : ◌≡◌ {A = Body} may.body (record { sender = me; message = Checkpoint m.number m.digest }) = some_injective may.body (record { sender = me; message = Checkpoint m.number m.digest }) (sym may.says ∙ r.1 ∙ ap Some body) in
     let say : MayCheckpoint c past leaves.0 m.number m.digest = subst (λ (b : Body). MaySay c me past leaves.0 (Sent p bytes) bytes b.message) same may.say in
     executes_reached c me m.number past leaves.0 leaves.1 say.executed
-own_checkpoint c me m (Invoke x y z) past point leaves h = absurd cc
 own_checkpoint c me m _ past point leaves h = absurd cc
 
 own_reached : (c : Configuration) (me : ℕ) (checkpoint : CheckpointEntry) (xs : List Entry) (point : Point) → HistoryReaches c me xs point → says_checkpoint checkpoint (checkpoints_of c xs me) ≡ true
@@ -135,8 +129,7 @@ module _ (c : Configuration) (me : ℕ) where
   low_reached [] point leaves first = omega arith
   low_reached (e ∷ past) point leaves first =
       let g = view_grows c e past in
-      let before : view c past ≡ 0 = omega arith in
-      let a = low_reached past leaves.0 leaves.1 before in
+      let a = low_reached past leaves.0 leaves.1 (omega arith) in
       let b = reached_grows e past me in
       let x = stable_reached e past point leaves in
       let y = installed_reached e past leaves.2.own in
@@ -157,8 +150,7 @@ module _ (c : Configuration) (me : ℕ) where
           → (u : ℕ) × (b : List ℕ) × Committed c me (e ∷ past) u i b
       same e new is number below =
           let n : point.state.number ≡ new.state.number = ap (λ (p : Point). p.state.number) is in
-          let m : i ≤ leaves.0.state.number = omega arith in
-          later e (below m)
+          later e (below (omega arith))
 
       go : (e : Entry) → May c me past leaves.0 e → Moves c me past leaves.0 e point → ((r k : ℕ) (root : List ℕ) → e ≡ Installed r k root → ⊥)
           → (i ≤ leaves.0.state.number → (u : ℕ) × (b : List ℕ) × Committed c me past u i b) → (u : ℕ) × (b : List ℕ) × Committed c me (e ∷ past) u i b
@@ -170,14 +162,11 @@ module _ (c : Configuration) (me : ℕ) where
       go (Installed r k root) may move other below = absurd (other r k root refl)
       go (Executed r k batch) may move other below = by (nat_le i leaves.0.state.number) refl
         where
-          number : point.state.number ≡ suc leaves.0.state.number
-          number = ap (λ (q : Point). q.state.number) move ∙ executed_number c leaves.0.state batch
-
           by : (b : Bool) → nat_le i leaves.0.state.number ≡ b → (u : ℕ) × (b : List ℕ) × Committed c me (Executed r k batch ∷ past) u i b
           by true f = later (Executed r k batch) (below (leb-true i leaves.0.state.number f))
           by false f =
               let m = leb-false i leaves.0.state.number f in
-              let n = number in
+              let n = (ap (λ (q : Point). q.state.number) move ∙ executed_number c leaves.0.state batch) in
               let next = may.next in
               let is : k ≡ i = omega arith in
               let here : Committed c me past may.in_view i batch = subst (λ (x : ℕ). Committed c me past may.in_view x batch) is may.committed in
@@ -232,17 +221,14 @@ module _ (c : Configuration) (setting : IsConfiguration c) (later start : List E
     left q correct l =
         let a = low_reached c q (whole q) (point q correct) (leaves q correct) (is_first q correct) in
         let b = number_reached c q (whole q) (point q correct) (leaves q correct) in
-        let most : i ≤ (point q correct).state.number = omega arith in
         let k = number_committed c q i positive (whole q) (point q correct) (leaves q correct)
-        (λ r n root h. none_here r n root h) most in
+        (λ r n root h. none_here r n root h) (omega arith) in
         let d = logged_view c q k.0 i k.1 (whole q) (right_always c q (whole q) (point q correct) (leaves q correct)) k.2.prepared.logged in
         let f = is_first q correct in
-        let zero_is : k.0 ≡ 0 = omega arith in
-        let here : Committed c q (whole q) 0 i k.1 = subst (λ (u : ℕ). Committed c q (whole q) u i k.1) zero_is k.2 in
+        let here : Committed c q (whole q) 0 i k.1 = subst (λ (u : ℕ). Committed c q (whole q) u i k.1) (omega arith) k.2 in
         let one = logged_was_offered c trace q 0 i k.1 (λ p h. is_replica_right c p (history_of p trace) (is_run.replicas p h)) unforged correct from here.prepared.logged in
         let two = logged_was_offered c trace (primary c 0) 0 i given.batch (λ p h. is_replica_right c p (history_of p trace) (is_run.replicas p h)) unforged from from begun in
-        let same : k.1 ≡ given.batch = some_injective k.1 given.batch (sym one ∙ two) in
-        subst (λ (b : List ℕ). Committed c q (whole q) 0 i b) same here
+        subst (λ (b : List ℕ). Committed c q (whole q) 0 i b) (some_injective k.1 given.batch (sym one ∙ two)) here
       where
         none_here : (r n : ℕ) (root : List ℕ) → HasEntry (Installed r n root) (whole q) → ⊥
         none_here r n root h =
@@ -254,14 +240,12 @@ module _ (c : Configuration) (setting : IsConfiguration c) (later start : List E
       where
         within : low c q (whole q) < i → StaysInMarks c i later start q
         within l =
-            let e = given.each q correct in
-            let near = e.0 in
+            let near = (given.each q correct).0 in
             let is = history_append q later start in
             let g = low_later c q (history_of q later) (history_of q start) in
             let same : low c q (whole q) ≡ low c q (history_of q later ++ history_of q start) = ap (low c q) is in
-            let below : low c q (history_of q start) < i = omega arith in
             let high : i ≤ low c q (whole q) + span c = omega arith in
-            record { first = in_marks (low c q (history_of q start)) below near; last = in_marks (low c q (whole q)) l high }
+            record { first = in_marks (low c q (history_of q start)) (omega arith) near; last = in_marks (low c q (whole q)) l high }
           where
             in_marks : (h : ℕ) → h < i → i ≤ h + span c → is_in_marks c h i ≡ true
             in_marks h a b = and_from (nat_lt h i && nat_le i (h + span c)) (is_number i) (and_from (nat_lt h i) (nat_le i (h + span c)) (lt-ltb h i a) (le-leb i (h + span c) b)) given.number

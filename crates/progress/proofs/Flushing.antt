@@ -54,11 +54,8 @@ grows_by w u more is = record {
   many = let n = length-append w.frames more in let m : length u.frames ≡ length (w.frames ++ more) = ap length is in omega arith;
 }
 
-grows_same : (w : World) → Grows w w
-grows_same w = record { frames = λ i made h. h; many = omega arith }
-
 frames_grow : (c : Configuration) (w v : World) (steps : List Step) (entries : List Entry) → StepsLead c w steps entries v → Grows w v
-frames_grow c w v _ _ ends = grows_same w
+frames_grow c w v _ _ ends = record { frames = λ i made h. h; many = omega arith }
 frames_grow c w v _ _ (gives {e = e} o g) = grows_on w (with_entry c w e) v (grows_by w (with_entry c w e) (made_by c e) refl) (frames_grow c _ v _ _ g)
 frames_grow c w v _ _ (called {client = k} {timestamp = t} {op = op} a g) = grows_on w (with_entry c w (Invoke k t op)) v (grows_by w (with_entry c w (Invoke k t op)) [] refl) (frames_grow c _ v _ _ g)
 frames_grow c w v _ _ (delivers {frame = i} {party = p} {made = made} a s g) =
@@ -95,16 +92,12 @@ made_since c w v _ _ p bytes (gives {e = e} o g) (inl is) = record { index = len
     there : slice_get (w.frames ++ made_by c e) (length w.frames) ≡ Some (frame_sent c p bytes)
     there = subst (λ (x : Entry). slice_get (w.frames ++ made_by c x) (length w.frames) ≡ Some (frame_sent c p bytes)) (sym is) (get_last w.frames (frame_sent c p bytes))
 made_since c w v _ _ p bytes (gives {e = e} o g) (inr h) = earlier c w (with_entry c w e) v p bytes (grows_by w (with_entry c w e) (made_by c e) refl) (made_since c _ v _ _ p bytes g h)
-made_since c w v _ _ p bytes (called a g) (inl is) = absurd cc
 made_since c w v _ _ p bytes (called {client = k} {timestamp = t} {op = op} a g) (inr h) =
     earlier c w (with_entry c w (Invoke k t op)) v p bytes (grows_by w (with_entry c w (Invoke k t op)) [] refl) (made_since c _ v _ _ p bytes g h)
-made_since c w v _ _ p bytes (delivers a s g) (inl is) = absurd cc
 made_since c w v _ _ p bytes (delivers {frame = i} {party = q} {made = made} a s g) (inr h) =
     let u : World = record (with_entry c w (Got q made.bytes)) { delivered = (i, q) ∷ w.delivered } in
     earlier c w u v p bytes (grows_by w u [] refl) (made_since c _ v _ _ p bytes g h)
-made_since c w v _ _ p bytes (gets a g) (inl is) = absurd cc
 made_since c w v _ _ p bytes (gets {party = q} {text = text} a g) (inr h) = earlier c w (with_entry c w (Got q text)) v p bytes (grows_by w (with_entry c w (Got q text)) [] refl) (made_since c _ v _ _ p bytes g h)
-made_since c w v _ _ p bytes (ticked a g) (inl is) = absurd cc
 made_since c w v _ _ p bytes (ticked {party = q} a g) (inr h) = earlier c w (with_entry c w (Tick q)) v p bytes (grows_by w (with_entry c w (Tick q)) [] refl) (made_since c _ v _ _ p bytes g h)
 made_since c w v _ _ p bytes (seals {sender = s} {receivers = rs} {body = b} a j g) h =
     let u : World = with_frame w (sealed_bytes c s rs b) rs in
@@ -114,6 +107,7 @@ made_since c w v _ _ p bytes (signs {replica = r} {leaf = l} {receivers = rs} {b
     earlier c w u v p bytes (grows_by w u (record { bytes = signed_bytes c r l b; receivers = rs } ∷ []) refl) (made_since c _ v _ _ p bytes g h)
 made_since c w v _ _ p bytes (flushes x g) h = made_since c _ v _ _ p bytes g h
 made_since c w v _ _ p bytes (flushed j x g) h = made_since c _ v _ _ p bytes g h
+made_since c w v _ _ p bytes _ (inl is) = absurd cc
 
 -- ---- frames that are delivered were made, and are received
 
@@ -141,10 +135,8 @@ got_since c w v _ _ (delivers {entries = entries} {frame = n} {party = p} {made 
     go : Has (λ x. x ≡ (i, q)) ((n, p) ∷ w.delivered) ⊎ HasEntry (Got q made.bytes) entries → Has (λ x. x ≡ (i, q)) w.delivered ⊎ HasEntry (Got q made.bytes) (Got p m.bytes ∷ entries)
     go (inl (inl same)) =
         let number : n ≡ i = ap (λ (x : ℕ × ℕ). x.0) same in
-        let party : p ≡ q = ap (λ (x : ℕ × ℕ). x.1) same in
         let there : slice_get v.frames i ≡ Some m = subst (λ (j : ℕ). slice_get v.frames j ≡ Some m) number ((frames_grow c _ v _ _ g).frames n m (get_left w.frames [] n m s)) in
-        let frame : m ≡ made = some_injective m made (sym there ∙ is) in
-        inr (inl (rw (party, frame) refl))
+        inr (inl (rw ((ap (λ (x : ℕ × ℕ). x.1) same), (some_injective m made (sym there ∙ is))) refl))
     go (inl (inr k)) = inl k
     go (inr k) = inr (inr k)
 got_since c w v _ _ (gets {entries = entries} {party = p} {text = text} a g) i q made d is = got_more w (with_entry c w (Got p text)) v (Got p text) entries refl (got_since c _ v _ _ g) i q made d is
@@ -192,13 +184,8 @@ reached_made c w reached = made_first c new_world w reached.0 (reverse w.past) r
 -- one that is no flush is not the last
 next_step : (step : Step) (steps : List Step) → (step ≡ flush → ⊥) → EndsInFlush (step ∷ steps) → EndsInFlush steps
 next_step flush [] other h = absurd (other refl)
-next_step (calls k op) [] other h = absurd h
-next_step (deliver i p) [] other h = absurd h
-next_step (feed p text) [] other h = absurd h
-next_step (seal s rs b) [] other h = absurd h
-next_step (sign r l rs b) [] other h = absurd h
-next_step (ticks p) [] other h = absurd h
 next_step step (next ∷ steps) other h = h
+next_step _ [] other h = absurd h
 
 none_left : (c : Configuration) (w v : World) (steps : List Step) (entries : List Entry) → StepsLead c w steps entries v → EndsInFlush steps → pending c v ≡ None
 none_left c w v _ _ ends h = absurd h
@@ -254,8 +241,7 @@ module _ (c : Configuration) (d : List (ℕ × ℕ)) where
           let number : first ≡ first + 0 = omega arith in
           subst (λ (n : ℕ). Has (λ y. y ≡ (n, q)) d) number (all_got first x.receivers q e (subst (λ (m : Made). Has (λ y. y ≡ q) m.receivers) (sym same) h) correct)
       go None e none (suc i) is below =
-          let number : suc first + i ≡ first + suc i = omega arith in
-          subst (λ (n : ℕ). Has (λ y. y ≡ (n, q)) d) number (below i made q none is h correct)
+          subst (λ (n : ℕ). Has (λ y. y ≡ (n, q)) d) (omega arith) (below i made q none is h correct)
 
 -- ---- the law
 

@@ -67,9 +67,7 @@ one_more c P from first n have rest = go (from first) refl
         pick s l m h true is = (x.vc, inl (ap (λ (k : ℕ). (let p : ℕ × ViewChangeData = (k, x.vc) in p)) (eqb-true first s is)))
         pick s l m h false is =
             let d = eqb-false first s is in
-            let a : suc first ≤ s = omega arith in
-            let b : s < suc first + n = omega arith in
-            let r = rest.there s a b h in
+            let r = rest.there s (omega arith) (omega arith) h in
             (r.0, inr r.1)
     go false e = record {
       frames = rest.frames;
@@ -85,9 +83,7 @@ one_more c P from first n have rest = go (from first) refl
         pick s l m h true is = absurd (let same : first ≡ s = eqb-true first s is in let bad : false ≡ true = sym e ∙ ap from same ∙ h in cc)
         pick s l m h false is =
             let d = eqb-false first s is in
-            let a : suc first ≤ s = omega arith in
-            let b : s < suc first + n = omega arith in
-            rest.there s a b h
+            rest.there s (omega arith) (omega arith) h
 
 pub gather : (c : Configuration) (P : ℕ × ViewChangeData → Type 0) (from : ℕ → Bool) (first n : ℕ) → ((s : ℕ) → first ≤ s → s < first + n → from s ≡ true → Change c P s) → Gathered c P from first n
 gather c P from first zero have = record { frames = []; set = []; signed = tt; order = refl; above = tt; each = tt; there = λ s l m h. absurd (omega arith) }
@@ -120,9 +116,7 @@ module _ (c : Configuration) (v start : ℕ) (root : List ℕ) (P : ℕ × ViewC
   have Q q s h =
       let p = and_parts (nat_lt s (replicas c)) (from s) h in
       let l = ltb-true s (replicas c) p.0 in
-      let zero_first : 0 ≤ s = omega arith in
-      let below : s < 0 + replicas c = omega arith in
-      let t = g.there s zero_first below p.1 in
+      let t = g.there s (omega arith) (omega arith) p.1 in
       (t.0, t.1, q (s, t.0) (bare (s, t.0) (each_has P g.set (s, t.0) g.each t.1)))
 
   quorum : (Q : ViewChangeData → Type 0) → ((x : ℕ × ViewChangeData) → IsBare c v start root x → Q x.1) → SoManyHave (2 * c.faults + 1) c g.set Q

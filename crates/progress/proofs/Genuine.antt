@@ -20,10 +20,8 @@ request_is_heard c setting k call bytes client request r correct =
     sealed_is_heard c (256 + k) r (Request call.timestamp modes.Ordered call.op) bytes request.says
     (λ frame is plain.
     let s = request.is_sealed frame is in
-    let zero_first : 0 ≤ r = omega arith in
     let l = small in
-    let below : r < 0 + replicas c = omega arith in
-    (s.0, subst (λ (xs : List ℕ). Has (λ x. x ≡ r) xs) (sym s.1) (in_range 0 (replicas c) r zero_first below)))
+    (s.0, subst (λ (xs : List ℕ). Has (λ x. x ≡ r) xs) (sym s.1) (in_range 0 (replicas c) r (omega arith) (omega arith))))
     refl (and_parts (is_client c (256 + k)) _ client).0 other
   where
     small : r < replicas c

@@ -36,8 +36,7 @@ frame_grows c setting k st frame cl full = go (call_of c frame) refl
     test call is true e =
         let small : call.client < 256 = call_small c setting frame call is in
         let f : length st.replies ≡ 256 = full in
-        let l : call.client < length st.replies = omega arith in
-        time_grows st k call cl l (ltb-true (last_time st call.client) call.timestamp e)
+        time_grows st k call cl (omega arith) (ltb-true (last_time st call.client) call.timestamp e)
 
     go : (o : Option Call) → call_of c frame ≡ o → last_time st cl ≤ last_time (option_map_or (run_call st k) o st) cl
     go None is = omega arith
@@ -69,8 +68,7 @@ unfolding state_by
 by_grows c setting xs st k zero m cl l full = from_grows c setting xs st k m cl full
 by_grows c setting xs st k (suc n) zero cl l full = absurd (omega arith)
 by_grows c setting xs st k (suc n) (suc m) cl l full =
-    let l' : n ≤ m = omega arith in
-    by_grows c setting xs (execute c st (batch_of xs k)) (suc k) n m cl l' (executed_full c st (batch_of xs k) full)
+    by_grows c setting xs (execute c st (batch_of xs k)) (suc k) n m cl (omega arith) (executed_full c st (batch_of xs k) full)
 
 -- ---- a correct client invoked each call to which a reply is kept
 
@@ -124,8 +122,7 @@ times_grow c trace run r later middle past old new cl correct splits before behi
     let a = number_reached c r past old before in
     let b = number_reached c r (middle ++ past) new behind in
     let l = later_reached r middle past in
-    let n : old.state.number ≤ new.state.number = omega arith in
-    let grows = by_grows c run.setting trace opening 1 old.state.number new.state.number cl n opening_full in
+    let grows = by_grows c run.setting trace opening 1 old.state.number new.state.number cl (omega arith) opening_full in
     let x : last_time old.state cl ≡ last_time (state_by c trace opening 1 old.state.number) cl = ap (λ (s : State). last_time s cl) first.is in
     let y : last_time new.state cl ≡ last_time (state_by c trace opening 1 new.state.number) cl = ap (λ (s : State). last_time s cl) second.is in
     omega arith
@@ -139,17 +136,14 @@ module _ (c : Configuration) (trace : List Entry) (run : Run c trace) (k : ℕ) 
       let at = ran_at c trace opening 1 st.number (Keeps k kept) (kept_ran-opening c trace st.number k kept there) in
       let f = all_has (FromFrame c (requests_of (batch_of trace at.number))) (ran_in c at.number at.state (requests_of (batch_of trace at.number))) at.ran
       (ran_frames c at.number at.state (requests_of (batch_of trace at.number))) at.is_there in
-      let from = at.from in
       let below = at.below in
-      let l : at.number ≤ st.number = omega arith in
-      let b = by.executed at.number from l in
+      let b = by.executed at.number at.from (omega arith) in
       let same = batch_is c trace at.number b.0 run b.1 in
       let has : Has (λ x. x ≡ f.frame) (requests_of b.0) = subst (λ (x : List ℕ). Has (λ y. y ≡ f.frame) (requests_of x)) same f.is_there in
-      let asked = executed_asked c trace at.number b.0 run b.1 f.frame at.ran.call has f.is_call in
       let party : 256 + at.ran.call.client ≡ 256 + k = ap (λ (x : ℕ). 256 + x) at.holds.1 in
       let mine : is_correct_client c (256 + at.ran.call.client) ≡ true = subst (λ (p : ℕ). is_correct_client c p ≡ true) (sym party) client in
       let says = asks_said c trace f.frame (asking (256 + at.ran.call.client) at.ran.call.timestamp modes.Ordered at.ran.call.op) run.runs (call_body c f.frame at.ran.call f.is_call)
-      (correct_client c (256 + at.ran.call.client) mine) asked in
+      (correct_client c (256 + at.ran.call.client) mine) (executed_asked c trace at.number b.0 run b.1 f.frame at.ran.call has f.is_call) in
       let invoked = asked_op c (256 + at.ran.call.client) at.ran.call.timestamp modes.Ordered at.ran.call.op (history_of (256 + at.ran.call.client) trace) (run.runs.clients (256 + at.ran.call.client) mine) says in
       let most = invokes_le c (256 + at.ran.call.client) at.ran.call.timestamp at.ran.call.op (history_of (256 + at.ran.call.client) trace) (run.runs.clients (256 + at.ran.call.client) mine) invoked in
       let last : last_call (history_of (256 + at.ran.call.client) trace) ≡ call.timestamp = ap (λ (p : ℕ). last_call (history_of p trace)) party ∙ open_last (history_of (256 + k) trace) call opened in

@@ -97,9 +97,6 @@ waiting_replicas_leave c setting r later start run goes unforged correct small w
     behind = leaves_behind c r (history_of r later) (Tick r ∷ history_of r start) (goes.replicas r correct refl).0
         (proceeds_leaves c r (history_of r later ++ Tick r ∷ history_of r start) [] (goes.replicas r correct refl).0 (goes.replicas r correct refl).0 proceeds)
 
-    same_view : view c (Tick r ∷ history_of r start) ≡ view c (history_of r start)
-    same_view = plain_view c (history_of r start) (Tick r) (record { view = refl; change = refl; checkpoint = refl; installed = refl })
-
     -- the tick changes no snapshots
     snapshots : behind.0.snapshots ≡ event.old.snapshots
     snapshots = ap (λ (p : Point). p.snapshots) behind.1.2.moves ∙ ap (λ (p : Point). p.snapshots) (points_are_one c r (history_of r start) behind.1.0 event.old behind.1.1 event.leaves)
@@ -107,7 +104,7 @@ waiting_replicas_leave c setting r later start run goes unforged correct small w
     w : CanChange c r (Tick r ∷ history_of r start) event.old (suc (sought_view c (history_of r start)))
     w =
         let x = waits event.old event.leaves in
-        let v = same_view in
+        let v = (plain_view c (history_of r start) (Tick r) (record { view = refl; change = refl; checkpoint = refl; installed = refl })) in
         let above : view c (Tick r ∷ history_of r start) < suc (sought_view c (history_of r start)) = omega arith in
         let newer : target (Tick r ∷ history_of r start) < suc (sought_view c (history_of r start)) = omega arith in
         let made = view_changes_exist c r (Tick r ∷ history_of r start) event.old behind.0 behind.1 (suc (sought_view c (history_of r start))) above newer small
@@ -154,9 +151,8 @@ primaries_begin_views c trace goes p new correct own left selected changes batch
     go true e = inl (leb-true new.view (view c (history_of p trace)) e)
     go false e =
         let l = leb-false new.view (view c (history_of p trace)) e in
-        let at : view c (history_of p trace) < target (history_of p trace) = omega arith in
         inr (all_begun c p new (history_of p trace) [] (goes.replicas p correct refl).0 (goes.replicas p correct refl).0 (goes.replicas p correct refl).1
-        (record { left = at; view = sym left; primary = own; selected = selected; changes = changes; batches = batches }))
+        (record { left = (omega arith); view = sym left; primary = own; selected = selected; changes = changes; batches = batches }))
 
 -- ---- a frame of a view change
 
@@ -236,8 +232,7 @@ unprepared_views_are_begun c trace run goes p v start root correct own left from
 
     have : (s : ℕ) → 0 ≤ s → s < 0 + replicas c → from s ≡ true → Change c (Latest c p (history_of p trace) v start root) s
     have s l m h =
-        let small : s < replicas c = omega arith in
-        let x = says s small h in
+        let x = says s (omega arith) h in
         let b = bytes_of s x.0 x.1 in
         record { bytes = b.bytes; vc = x.0; signed = b.signed; holds = (x.1, (x.2, x.3, x.4)) }
 

@@ -137,9 +137,7 @@ module _ (c : Configuration) (me : ℕ) (past : List Entry) (right : Always (Rig
           go true e = inl (l.number ∙ eqb-true first i e)
           go false e =
               let d = eqb-false first i e in
-              let x : suc first ≤ i = omega arith in
-              let y : i < suc first + n = omega arith in
-              inr (rest.all v i b x y p)
+              inr (rest.all v i b (omega arith) (omega arith) p)
   prepared_with first n (inr none) rest = record {
     entries = rest.entries;
     above = each_weaker (λ e. suc first ≤ e.number) (λ e. first ≤ e.number) (λ e a. omega arith) rest.entries rest.above;
@@ -153,13 +151,10 @@ module _ (c : Configuration) (me : ℕ) (past : List Entry) (right : Always (Rig
         where
           go : (t : Bool) → (first == i) ≡ t → Has (λ e. e.number ≡ i) rest.entries
           go true e =
-              let same = eqb-true first i e in
-              absurd (none v b (logged_below v i b p.logged) (subst (λ (j : ℕ). Prepared c me past v j b) (sym same) p))
+              absurd (none v b (logged_below v i b p.logged) (subst (λ (j : ℕ). Prepared c me past v j b) (sym (eqb-true first i e)) p))
           go false e =
               let d = eqb-false first i e in
-              let x : suc first ≤ i = omega arith in
-              let y : i < suc first + n = omega arith in
-              rest.all v i b x y p
+              rest.all v i b (omega arith) (omega arith) p
 
   prepared_from : (first n : ℕ) → PreparedFrom first n
   prepared_from first zero = record { entries = []; above = tt; each = tt; all = λ v i b l m p. absurd (omega arith); order = tt }
@@ -195,9 +190,7 @@ module _ (c : Configuration) (me : ℕ) (past : List Entry) (right : Always (Rig
           let m = marks_parts c (low c me past) i marks in
           let l = m.0 in
           let k = m.1 in
-          let x : suc (low c me past) ≤ i = omega arith in
-          let y : i < suc (low c me past) + span c = omega arith in
-          prepareds.all v i b x y p
+          prepareds.all v i b (omega arith) (omega arith) p
 
   -- ---- each digest that was pre-prepared for a number
 
@@ -245,14 +238,12 @@ module _ (c : Configuration) (me : ℕ) (past : List Entry) (right : Always (Rig
           go : (t : Bool) → bytes_eq (sha256 b) (sha256 x) ≡ t → (u : Bool) → (v == n) ≡ u → Has (λ y. (y.number ≡ i) × (y.digest ≡ sha256 b) × (v ≤ y.view)) (new ∷ filter (is_other (sha256 x)) rest.entries)
           go true e u f = inl (refl, sym ((bytes_eq-Decides (sha256 b) (sha256 x)).0 e), omega arith)
           go false e true f =
-              let here : logged c me past n i ≡ Some b = subst (λ (k : ℕ). logged c me past k i ≡ Some b) (eqb-true v n f) h in
-              let same : x ≡ b = some_injective x b (sym is ∙ here) in
+              let same : x ≡ b = some_injective x b (sym is ∙ (subst (λ (k : ℕ). logged c me past k i ≡ Some b) (eqb-true v n f) h)) in
               inl (refl, ap sha256 same, omega arith)
           go false e false f =
               let d = eqb-false v n f in
-              let m : v < n = omega arith in
               inr (has_filtered (λ y. (y.number ≡ i) × (y.digest ≡ sha256 b) × (v ≤ y.view)) (is_other (sha256 x))
-              (λ y k. ap (λ (z : List ℕ). not (bytes_eq z (sha256 x))) k.1 ∙ ap not e) rest.entries (rest.all v b m h))
+              (λ y k. ap (λ (z : List ℕ). not (bytes_eq z (sha256 x))) k.1 ∙ ap not e) rest.entries (rest.all v b (omega arith) h))
 
   digests_in : (i n : ℕ) → Digests i n
   digests_in i zero = record { entries = []; each = tt; all = λ v b l h. absurd (omega arith); differ = tt }
@@ -326,9 +317,7 @@ module _ (c : Configuration) (me : ℕ) (past : List Entry) (right : Always (Rig
           let m = marks_parts c (low c me past) i marks in
           let l = m.0 in
           let k = m.1 in
-          let x : suc (low c me past) ≤ i = omega arith in
-          let y : i < suc (low c me past) + span c = omega arith in
-          proposeds.all v i b x y h
+          proposeds.all v i b (omega arith) (omega arith) h
 
 pub view_changes_exist : ViewChangesExist
 view_changes_exist c me past point behind leaves v above newer small reason = (

@@ -109,9 +109,6 @@ module _ (c : Configuration) (setting : IsConfiguration c) (again later start : 
       first : IsBy c middle kept.point.state
       first = by_at c middle run (primary c v) [] (history_of (primary c v) middle) kept.point f.from refl kept.leaves
 
-      time : last_time kept.point.state k ≡ call.timestamp
-      time = ap (λ (o : Option Kept). option_map_or (λ (x : Kept). x.timestamp) o 0) kept.is_kept ∙ kept.time
-
       keeps : (r : ℕ) → is_correct_replica c r ≡ true → KeepsReply c r (history_of r middle) k call.timestamp
       keeps r correct = keeps_reply c middle run k client call still r [] (history_of r middle) its correct refl leaves_r late
         where
@@ -138,7 +135,7 @@ module _ (c : Configuration) (setting : IsConfiguration c) (again later start : 
               let grows = by_grows c setting middle opening 1 kept.point.state.number its.state.number k level opening_full in
               let one : last_time kept.point.state k ≡ last_time (state_by c middle opening 1 kept.point.state.number) k = ap (λ (s : State). last_time s k) first.is in
               let two : last_time its.state k ≡ last_time (state_by c middle opening 1 its.state.number) k = ap (λ (s : State). last_time s k) by.is in
-              let t = time in
+              let t = (ap (λ (o : Option Kept). option_map_or (λ (x : Kept). x.timestamp) o 0) kept.is_kept ∙ kept.time) in
               omega arith
 
   -- the primary numbered the call, so each correct replica executed it

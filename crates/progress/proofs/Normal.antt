@@ -43,9 +43,7 @@ request_ran c setting k st frame call is full = subst (λ (o : Option Call). cal
     test true e =
         let small : call.client < 256 = call_small c setting frame call is in
         let f : length st.replies ≡ 256 = full in
-        let l : call.client < length st.replies = omega arith in
-        let same : call.timestamp ≤ call.timestamp = omega arith in
-        subst (λ (x : ℕ). call.timestamp ≤ x) (sym (time_here st k call l)) same
+        subst (λ (x : ℕ). call.timestamp ≤ x) (sym (time_here st k call (omega arith))) (omega arith)
     test false e = let l = ltb-false (last_time st call.client) call.timestamp e in omega arith
 
 frames_ran : (c : Configuration) → IsConfiguration c → (k client t : ℕ) (st : State) (frames : List (List ℕ)) → Full st
@@ -116,14 +114,12 @@ module _ (c : Configuration) (setting : IsConfiguration c) (again middle : List 
     at_least n is_n =
         let b = by.executed i positive high in
         let is : batch_of middle i ≡ batch = batch_is c middle i b.0 run b.1 ∙ is_batch b.0 b.1 in
-        let number : i ≡ 1 + n = omega arith in
         let next : state_by c middle opening 1 (suc n) ≡ execute c (state_by c middle opening 1 n) batch =
-        by_next c middle opening 1 n i number ∙ ap (λ (x : List ℕ). execute c (state_by c middle opening 1 n) x) is in
+        by_next c middle opening 1 n i (omega arith) ∙ ap (λ (x : List ℕ). execute c (state_by c middle opening 1 n) x) is in
         let ran = batch_ran c setting k call.timestamp (state_by c middle opening 1 n) batch (by_full c middle opening 1 n opening_full) has in
         let ran' : call.timestamp ≤ last_time (state_by c middle opening 1 (suc n)) k = subst (λ (s : State). call.timestamp ≤ last_time s k) (sym next) ran in
         let top = high in
-        let l : suc n ≤ point.state.number = omega arith in
-        let grows = by_grows c setting middle opening 1 (suc n) point.state.number k l opening_full in
+        let grows = by_grows c setting middle opening 1 (suc n) point.state.number k (omega arith) opening_full in
         let own : last_time point.state k ≡ last_time (state_by c middle opening 1 point.state.number) k = ap (λ (s : State). last_time s k) by.is in
         omega arith
 

@@ -74,13 +74,10 @@ module _ (c : Configuration) (setting : IsConfiguration c) (later start : List E
   stands_at : StandsAtPrimary c v k call.timestamp trace
   stands_at = go waits
     where
-      number : reached trace p0 ≡ point.state.number
-      number = sym (number_reached c p0 whole point leaves ∙ reached_history p0 trace)
-
       go : Has (λ x. x ≡ (let y : Call = record { client = k; timestamp = call.timestamp; op = call.op } in y)) point.waiting ⊎ (call.timestamp ≤ last_time point.state k) → StandsAtPrimary c v k call.timestamp trace
       go (inr l) = inl (keeps_reply c trace run k client call still p0 [] whole point correct refl leaves l)
       go (inl w) = inr (λ n free. all_numbered c p0 v n (record { client = k; timestamp = call.timestamp; op = call.op }) refl whole [] point point (λ e. refl) proceeds active w
-          (subst (λ (m : ℕ). IsFree c p0 whole m v n) number free))
+          (subst (λ (m : ℕ). IsFree c p0 whole m v n) (sym (number_reached c p0 whole point leaves ∙ reached_history p0 trace)) free))
 
 pub open_calls_are_numbered : OpenCallsAreNumbered
 open_calls_are_numbered c setting later start run goes unforged apart k call client opened tick all v correct active = go (accepted_or_not k call.timestamp (history_of (256 + k) later))

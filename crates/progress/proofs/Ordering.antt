@@ -156,15 +156,12 @@ module _ (c : Configuration) (setting : IsConfiguration c) (later start : List E
       active : is_active_in c (since.middle ++ first p0) v ≡ true
       active = active_at p0 from (since.newer ++ since.entry ∷ []) since.middle since_whole
 
-      is_view : view c (since.middle ++ first p0) ≡ v
-      is_view = eqb-true (view c (since.middle ++ first p0)) v (and_parts (view c (since.middle ++ first p0) == v) _ active).0
-
       begun : (b : Bool) → cond b (option_and_then (batch_begun v i) (taken c (since.middle ++ first p0) since.entry)) None ≡ Some batch → ⊥
       begun true h =
           let t = and_then_some (batch_begun v i) (taken c (since.middle ++ first p0) since.entry) batch h in
           let above = (takes c p0 (since.middle ++ first p0) since.entry t.0 t.1).above in
           let of = (proposes c v i t.0 batch t.2).view_is in
-          let at = is_view in
+          let at = (eqb-true (view c (since.middle ++ first p0)) v (and_parts (view c (since.middle ++ first p0) == v) _ active).0) in
           omega arith
       begun false h = cc
 

@@ -79,10 +79,6 @@ module _ (c : Configuration) (setting : IsConfiguration c) (k t n : ℕ) (op : O
   safe : SafeClient c me (history_of me later ++ Invoke k t op ∷ history_of me start)
   safe = subst (SafeClient c me) is_mine (run.runs.clients me client)
 
-  -- the call's timestamp is new
-  is_new : t ≡ suc (last_call (history_of me start))
-  is_new = (safe_behind c me (history_of me later) (Invoke k t op ∷ history_of me start) safe).0.1.0
-
   safe_before : SafeClient c me (history_of me start)
   safe_before = (safe_behind c me (history_of me later) (Invoke k t op ∷ history_of me start) safe).1
 
@@ -136,7 +132,7 @@ module _ (c : Configuration) (setting : IsConfiguration c) (k t n : ℕ) (op : O
         go (inl h) = h
         go (inr h) =
             let l = invokes_le c me t may.op (history_of me start) safe_before (asked_op c me t modes.ReadOnly may.op (history_of me start) safe_before h) in
-            let new = is_new in
+            let new = ((safe_behind c me (history_of me later) (Invoke k t op ∷ history_of me start) safe).0.1.0) in
             omega arith
 
     at_number : number ≡ n

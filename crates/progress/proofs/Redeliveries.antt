@@ -20,7 +20,6 @@ module _ (c : Configuration) (i q : ℕ) (made : Made) where
   delivers_fed : (w v : World) (steps : List Step) (entries : List Entry) → StepsLead c w steps entries v → Has (λ x. x ≡ deliver i q) steps → slice_get w.frames i ≡ Some made → HasEntry (Got q made.bytes) entries
   delivers_fed w v _ _ ends h is = absurd h
   delivers_fed w v _ _ (gives {e = e} o g) h is = inr (delivers_fed _ v _ _ g h ((grows_by w (with_entry c w e) (made_by c e) refl).frames i made is))
-  delivers_fed w v _ _ (called a g) (inl same) is = absurd cc
   delivers_fed w v _ _ (called {client = k} {timestamp = t} {op = op} a g) (inr h) is = inr (delivers_fed _ v _ _ g h ((grows_by w (with_entry c w (Invoke k t op)) [] refl).frames i made is))
   delivers_fed w v _ _ (delivers {frame = n} {party = p} {made = m} a s g) (inl same) is =
       let number : n ≡ i = cc in
@@ -30,22 +29,17 @@ module _ (c : Configuration) (i q : ℕ) (made : Made) where
   delivers_fed w v _ _ (delivers {frame = n} {party = p} {made = m} a s g) (inr h) is =
       let u : World = record (with_entry c w (Got p m.bytes)) { delivered = (n, p) ∷ w.delivered } in
       inr (delivers_fed _ v _ _ g h ((grows_by w u [] refl).frames i made is))
-  delivers_fed w v _ _ (gets a g) (inl same) is = absurd cc
   delivers_fed w v _ _ (gets {party = p} {text = text} a g) (inr h) is = inr (delivers_fed _ v _ _ g h ((grows_by w (with_entry c w (Got p text)) [] refl).frames i made is))
-  delivers_fed w v _ _ (ticked a g) (inl same) is = absurd cc
   delivers_fed w v _ _ (ticked {party = p} a g) (inr h) is = inr (delivers_fed _ v _ _ g h ((grows_by w (with_entry c w (Tick p)) [] refl).frames i made is))
-  delivers_fed w v _ _ (seals a j g) (inl same) is = absurd cc
   delivers_fed w v _ _ (seals {sender = s} {receivers = rs} {body = b} a j g) (inr h) is =
       let u : World = with_frame w (sealed_bytes c s rs b) rs in
       delivers_fed _ v _ _ g h ((grows_by w u (record { bytes = sealed_bytes c s rs b; receivers = rs } ∷ []) refl).frames i made is)
-  delivers_fed w v _ _ (signs a j g) (inl same) is = absurd cc
   delivers_fed w v _ _ (signs {replica = r} {leaf = l} {receivers = rs} {body = b} a j g) (inr h) is =
       let u : World = with_frame w (signed_bytes c r l b) rs in
       delivers_fed _ v _ _ g h ((grows_by w u (record { bytes = signed_bytes c r l b; receivers = rs } ∷ []) refl).frames i made is)
-  delivers_fed w v _ _ (flushes x g) (inl same) is = absurd cc
   delivers_fed w v _ _ (flushes x g) (inr h) is = delivers_fed _ v _ _ g (inr (inr h)) is
-  delivers_fed w v _ _ (flushed j x g) (inl same) is = absurd cc
   delivers_fed w v _ _ (flushed j x g) (inr h) is = delivers_fed _ v _ _ g h is
+  delivers_fed w v _ _ _ (inl same) is = absurd cc
 
 -- ---- each frame is among the deliveries, for each of its correct receivers
 
@@ -65,13 +59,7 @@ in_deliveries c first (x ∷ frames) (suc i) q made is h correct =
     (subst (λ (n : ℕ). Has (λ y. y ≡ deliver n q) (deliveries c (suc first) frames)) number (in_deliveries c (suc first) frames i q made is h correct))
 
 one_more : (s t : Step) (steps : List Step) → EndsInFlush (t ∷ steps) → EndsInFlush (s ∷ t ∷ steps)
-one_more (calls k op) t steps h = h
-one_more (deliver i p) t steps h = h
-one_more (feed p text) t steps h = h
-one_more (seal s rs b) t steps h = h
-one_more (sign r l rs b) t steps h = h
-one_more (ticks p) t steps h = h
-one_more flush t steps h = h
+one_more _ t steps h = h
 
 ends_in_flush : (steps : List Step) → EndsInFlush (steps ++ flush ∷ [])
 ends_in_flush [] = tt

@@ -57,9 +57,6 @@ module _ (c : Configuration) (setting : IsConfiguration c) (later start : List E
   safe : AreReplicasSafe c trace
   safe p h = is_replica_right c p (history_of p trace) (is_run.replicas p h)
 
-  parts : (q : ℕ) → whole q ≡ part q ++ first q
-  parts q = history_append q later start
-
   below : (q : ℕ) → is_correct_replica c q ≡ true → q < replicas c
   below q correct = ltb-true q (replicas c) (and_parts (is_replica c q) _ correct).0
 
@@ -109,7 +106,7 @@ module _ (c : Configuration) (setting : IsConfiguration c) (later start : List E
                 (in_history s (Got s shared.bytes) later refl (all q s shared.bytes (in_trace q (Sent q shared.bytes) trace shared.is_sent) hears.meant_is (correct_replica c s other)))
 
             its_whole : whole s ≡ at.newer ++ Got s shared.bytes ∷ (at.middle ++ first s)
-            its_whole = parts s ∙ at.whole
+            its_whole = (history_append s later start) ∙ at.whole
 
             beside : whole s ≡ (at.newer ++ Got s shared.bytes ∷ []) ++ (at.middle ++ first s)
             beside = its_whole ∙ sym (append_assoc at.newer (Got s shared.bytes ∷ []) (at.middle ++ first s))
@@ -177,12 +174,8 @@ module _ (c : Configuration) (setting : IsConfiguration c) (later start : List E
       → ((i : ℕ) → reached start r < i → i ≤ m → (batch : List ℕ) × Committed c r (whole r) v i batch) → reached start r + d ≤ reached trace r
   each_number r m zero correct l given = let grows = later_reached r later start in omega arith
   each_number r m (suc d) correct l given =
-      let less : reached start r + d ≤ m = omega arith in
-      let before = each_number r m d correct less given in
-      let next : reached start r < suc (reached start r + d) = omega arith in
-      let most : suc (reached start r + d) ≤ m = omega arith in
-      let k = given (suc (reached start r + d)) next most in
-      let step = next_number r (reached start r + d) k.0 correct before k.1 in
+      let k = given (suc (reached start r + d)) (omega arith) (omega arith) in
+      let step = next_number r (reached start r + d) k.0 correct (each_number r m d correct (omega arith) given) k.1 in
       omega arith
 
   pub all_numbers : (r m : ℕ) → is_correct_replica c r ≡ true → ((i : ℕ) → reached start r < i → i ≤ m → (batch : List ℕ) × Committed c r (whole r) v i batch) → m ≤ reached trace r
@@ -192,8 +185,7 @@ module _ (c : Configuration) (setting : IsConfiguration c) (later start : List E
       go true e = let l = leb-true m (reached start r) e in let grows = later_reached r later start in omega arith
       go false e =
           let l = leb-false m (reached start r) e in
-          let whole_way : reached start r + (m - reached start r) ≤ m = omega arith in
-          let a = each_number r m (m - reached start r) correct whole_way given in
+          let a = each_number r m (m - reached start r) correct (omega arith) given in
           omega arith
 
 pub given_numbers_are_executed : GivenNumbersAreExecuted

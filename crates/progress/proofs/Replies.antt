@@ -51,9 +51,8 @@ ran_has c xs st k (suc n) p t number answer is (inl h) =
     (subst (λ (j : ℕ). Has (Answers p t number answer j) (ran_in c j st (requests_of (batch_of xs k)))) is h)))
 ran_has c xs st k (suc n) p t number answer is (inr h) =
     let next = executed_number c st (batch_of xs k) in
-    let is' : suc k ≡ suc (execute c st (batch_of xs k)).number = omega arith in
     has_right (Answering p t number answer) (map (ordered_point 0 (suc st.number)) (ran_in c (suc st.number) st (requests_of (batch_of xs k)))) (ran_points c (execute c st (batch_of xs k)) (batches_from xs (suc k) n))
-    (ran_has c xs (execute c st (batch_of xs k)) (suc k) n p t number answer is' h)
+    (ran_has c xs (execute c st (batch_of xs k)) (suc k) n p t number answer (omega arith) h)
 
 pub ran_once : (c : Configuration) → IsConfiguration c → (xs : List Entry) (last p t n m : ℕ) (a b : Outcome)
     → RanBy c xs opening 1 last (Answers p t n a) → RanBy c xs opening 1 last (Answers p t m b) → (n ≡ m) × (a ≡ b)

@@ -104,8 +104,7 @@ untouched c q (e ∷ past) point leaves first silent none =
         let h = may.committed.prepared.logged in
         let l = logged_view c q may.in_view k batch past (right_always c q past leaves.0 leaves.1) h in
         let v = before in
-        let zero_is : may.in_view ≡ 0 = omega arith in
-        absurd (below k batch (subst (λ (u : ℕ). logged c q past u k ≡ Some batch) zero_is h))
+        absurd (below k batch (subst (λ (u : ℕ). logged c q past u k ≡ Some batch) (omega arith) h))
 
 -- ---- low marks if each new view starts at 0
 
@@ -230,8 +229,7 @@ module _ (c : Configuration) (setting : IsConfiguration c) (later start : List E
     pub committed_here : (j : ℕ) → 1 ≤ j → j ≤ point.state.number → (d : List ℕ) × Committed c q xs 1 j d
     committed_here j one l =
         let k = number_committed c q j one xs point leaves none_inside l in
-        let is = in_second k.0 j k.1 k.2.prepared.logged in
-        (k.1, subst (λ (u : ℕ). Committed c q xs u j k.1) is k.2)
+        (k.1, subst (λ (u : ℕ). Committed c q xs u j k.1) (in_second k.0 j k.1 k.2.prepared.logged) k.2)
 
   -- ---- the primary assigned all that it logged
 
@@ -320,8 +318,7 @@ module _ (c : Configuration) (setting : IsConfiguration c) (later start : List E
               let n = ltb-false (low c (primary c 1) past) j m in
               let a = low_here (primary c 1) f.next.from (newer ++ e ∷ []) past beside leaves.0 leaves.1 in
               let r = number_reached c (primary c 1) past leaves.0 leaves.1 in
-              let most : j ≤ leaves.0.state.number = omega arith in
-              let k = committed_here (primary c 1) f.next.from (newer ++ e ∷ []) past beside leaves.0 leaves.1 j one most in
+              let k = committed_here (primary c 1) f.next.from (newer ++ e ∷ []) past beside leaves.0 leaves.1 j one (omega arith) in
               (k.0, k.1.prepared.logged)
 
       earlier : (o : Option (List ℕ)) → logged c (primary c 1) past 1 i ≡ o → or_else o (proposal c (primary c 1) past e 1 i) ≡ Some b
@@ -355,8 +352,7 @@ module _ (c : Configuration) (setting : IsConfiguration c) (later start : List E
           let k = committed_here q correct [] (history_of q (later ++ start)) refl (point q correct) (leaves q correct) i positive most in
           let one = logged_was_offered c trace q 1 i k.0 safe unforged correct f.next.from k.1.prepared.logged in
           let two = logged_was_offered c trace (primary c 1) 1 i batch safe unforged f.next.from f.next.from begun in
-          let same : k.0 ≡ batch = some_injective k.0 batch (sym one ∙ two) in
-          subst (λ (b : List ℕ). Committed c q (history_of q (later ++ start)) 1 i b) same k.1
+          subst (λ (b : List ℕ). Committed c q (history_of q (later ++ start)) 1 i b) (some_injective k.0 batch (sym one ∙ two)) k.1
 
       settled : (q : ℕ) → is_correct_replica c q ≡ true → Committed c q (history_of q (later ++ start)) 1 i batch ⊎ Reaches c 1 i (later ++ start) q
       settled q correct = go (nat_lt (low c q (history_of q (later ++ start))) i) refl
@@ -468,9 +464,6 @@ module _ (c : Configuration) (setting : IsConfiguration c) (again later start : 
       first : IsBy c middle kept.point.state
       first = by_at c middle run (primary c 1) [] (history_of (primary c 1) middle) kept.point f.next.from refl kept.leaves
 
-      time : last_time kept.point.state k ≡ call.timestamp
-      time = ap (λ (o : Option Kept). option_map_or (λ (x : Kept). x.timestamp) o 0) kept.is_kept ∙ kept.time
-
       keeps : (r : ℕ) → is_correct_replica c r ≡ true → KeepsReply c r (history_of r middle) k call.timestamp
       keeps r correct = keeps_reply c middle run k client call still r [] (history_of r middle) its correct refl leaves_r late
         where
@@ -497,7 +490,7 @@ module _ (c : Configuration) (setting : IsConfiguration c) (again later start : 
               let grows = by_grows c setting middle opening 1 kept.point.state.number its.state.number k level opening_full in
               let one : last_time kept.point.state k ≡ last_time (state_by c middle opening 1 kept.point.state.number) k = ap (λ (s : State). last_time s k) first.is in
               let two : last_time its.state k ≡ last_time (state_by c middle opening 1 its.state.number) k = ap (λ (s : State). last_time s k) by.is in
-              let t = time in
+              let t = (ap (λ (o : Option Kept). option_map_or (λ (x : Kept). x.timestamp) o 0) kept.is_kept ∙ kept.time) in
               omega arith
 
   -- the primary numbered the call, so each correct replica executed it
@@ -630,8 +623,7 @@ module _ (c : Configuration) (setting : IsConfiguration c) (asks start : List En
               let m = leb-false 1 (reached (asks ++ start) r) e in
               let a = number_reached c r (history_of r (asks ++ start)) point_then leaves_then in
               let b = reached_history r (asks ++ start) in
-              let zero_is : point_then.state.number ≡ 0 = omega arith in
-              let t = none_behind point_then.state by zero_is in
+              let t = none_behind point_then.state by (omega arith) in
               let p = open_positive c (256 + k) (history_of (256 + k) (asks ++ start)) call (run_then.runs.clients (256 + k) client) still in
               absurd (omega arith)
 

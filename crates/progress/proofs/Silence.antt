@@ -69,7 +69,6 @@ target_here : (c : Configuration) (s t : ℕ) (past : List Entry) (e : Entry) �
 target_here c s t past (Sent p bytes) r some is =
     let k = target_from c s t past (Sent p bytes) r.may.body.sender r.may.body.message r.may.own some (ap (λ (o : Option Body). option_map_or change_from o 0) (sym r.may.says) ∙ is) in
     (k.0, r.may.says ∙ ap Some k.1, k.2)
-target_here c s t past (Got x y) r some is = absurd (omega arith)
 target_here c s t past _ r some is = absurd (omega arith)
 
 pub target_said : (c : Configuration) (s t : ℕ) (xs : List Entry) → Always (RightAt c s) xs → 1 ≤ t → target xs ≡ t → TargetSaid s t xs
@@ -80,13 +79,11 @@ target_said c s t (e ∷ past) right some is = go (nat_le t (target past)) refl 
     go true h below =
         let l = leb-true t (target past) h in
         let grows = target_grows e past in
-        let same : target past ≡ t = omega arith in
-        let b = below same in
+        let b = below (omega arith) in
         record { vc = b.vc; says = inr b.says; is_view = b.is_view }
     go false h below =
         let l = leb-false t (target past) h in
-        let here : change_sent e ≡ t = omega arith in
-        let k = target_here c s t past e right.0 some here in
+        let k = target_here c s t past e right.0 some (omega arith) in
         record { vc = k.0; says = inl k.1; is_view = k.2 }
 
 -- ---- view changes that came
@@ -141,8 +138,7 @@ latest_least c s p vc bytes (e ∷ past) signed within above (inl is) =
     omega arith
 latest_least c s p vc bytes (e ∷ past) signed within above (inr h) =
     let grows = view_grows c e past in
-    let l : view c past < vc.view = omega arith in
-    let below = latest_least c s p vc bytes past signed within l h in
+    let below = latest_least c s p vc bytes past signed within (omega arith) h in
     omega arith
 
 -- if the latest comes to be at least m, a view change counts
@@ -205,9 +201,6 @@ module _ (c : Configuration) (setting : IsConfiguration c) (trace : List Entry) 
   pub safe : AreReplicasSafe c trace
   safe p h = is_replica_right c p (history_of p trace) (is_run.replicas p h)
 
-  run : Run c trace
-  run = run_of c setting trace is_run unforged apart
-
   -- ---- each new view that is taken is the second
 
   module _ (q : ℕ) (correct : is_correct_replica c q ≡ true) (new : NewViewData) (taken_it : Once (Takes c new) (history_of q trace)) where
@@ -220,8 +213,7 @@ module _ (c : Configuration) (setting : IsConfiguration c) (trace : List Entry) 
     signer : (s : ℕ) × (is_correct_replica c s ≡ true) × (passes_by (λ vc. true) (changes_of c new) s ≡ true)
     signer =
         let enough = leb-true (2 * c.faults + 1) (count_in c (λ vc. true) (changes_of c new)) (selects c new selected).enough in
-        let more : c.faults < count_below (passes_by (λ vc. true) (changes_of c new)) (3 * c.faults + 1) = omega arith in
-        correct_of c setting (passes_by (λ vc. true) (changes_of c new)) more
+        correct_of c setting (passes_by (λ vc. true) (changes_of c new)) (omega arith)
 
     change : (vc : ViewChangeData) × (change_by (changes_of c new) signer.0 ≡ Some vc) × (true ≡ true)
     change = passes_change (λ vc. true) (changes_of c new) signer.0 signer.2
@@ -347,12 +339,11 @@ module _ (c : Configuration) (setting : IsConfiguration c) (trace : List Entry) 
       number_zero = go (nat_le 1 point.state.number) refl
         where
           by : IsBy c trace point.state
-          by = by_at c trace run q newer xs point correct splits leaves
+          by = by_at c trace (run_of c setting trace is_run unforged apart) q newer xs point correct splits leaves
 
           go : (b : Bool) → nat_le 1 point.state.number ≡ b → point.state.number ≡ 0
           go true e =
-              let one : 1 ≤ 1 = omega arith in
-              let x = by.executed 1 one (leb-true 1 point.state.number e) in
+              let x = by.executed 1 (omega arith) (leb-true 1 point.state.number e) in
               absurd (none_executed 1 x.0 x.1)
           go false e = let l = leb-false 1 point.state.number e in omega arith
 
@@ -428,10 +419,6 @@ module _ (c : Configuration) (setting : IsConfiguration c) (trace : List Entry) 
       none_listed [] f = refl
       none_listed (x ∷ xs) f = absurd (f x (inl refl))
 
-      same_change : (v l : ℕ) (ms : List CheckpointEntry) (xs ys : List BatchEntry) → v ≡ 1 → l ≡ 0 → ms ≡ checkpoint_of opening ∷ [] → xs ≡ [] → ys ≡ []
-          → ◌≡◌ {A = ViewChangeData} (record { view = v; low = l; checkpoints = ms; prepared = xs; pre_prepared = ys }) beginning_change
-      same_change v l ms xs ys a b d e f = rw (a, b, d, e, f) refl
-
       kept_opening : (h : ℕ) (snapshots : List State) → h ≡ 0 → snapshots ≡ opening ∷ [] → map checkpoint_of (reverse (kept_states h snapshots)) ≡ checkpoint_of opening ∷ []
       kept_opening h snapshots a b = rw (a, b) refl
 
@@ -442,7 +429,7 @@ module _ (c : Configuration) (setting : IsConfiguration c) (trace : List Entry) 
           right = safe q correct
 
           go : At (NewChangeAt c q vc) (history_of q trace) → vc ≡ beginning_change
-          go a = same_change vc.view vc.low vc.checkpoints vc.prepared vc.pre_prepared is_view is_low is_kept no_prepared no_proposed
+          go a = rw (is_view, is_low, is_kept, no_prepared, no_proposed) refl
             where
               beside : history_of q trace ≡ (a.newer ++ a.entry ∷ []) ++ a.past
               beside = a.splits ∙ sym (append_assoc a.newer (a.entry ∷ []) a.past)

@@ -223,7 +223,7 @@ module _ (c : Configuration) (setting : IsConfiguration c) (trace : List Entry) 
                       (once_weaker (Speaks (changing q beginning_change)) (λ earlier e. IsSaying q (ViewChange beginning_change) e) (speaks_saying q (ViewChange beginning_change)) (history_of q trace) says),
                   subst (λ (x : ℕ). target (history_of x trace) ≡ 1) same left,
                 )
-            go false e = inl (differ, came, latest)
+            go false e = inl (differ, came, (let l = least in let m = most in omega arith))
               where
                 differ : q ≢ primary c 1
                 differ = eqb-false q (primary c 1) e
@@ -241,9 +241,6 @@ module _ (c : Configuration) (setting : IsConfiguration c) (trace : List Entry) 
 
                 least : 1 ≤ latest_change c (history_of (primary c 1) trace) q
                 least = latest_least c q (primary c 1) beginning_change frame.bytes (history_of (primary c 1) trace) (ap (option_and_then change_in) signed) (first_within c) (let z = none in omega arith) gets
-
-                latest : latest_change c (history_of (primary c 1) trace) q ≡ 1
-                latest = let l = least in let m = most in omega arith
 
                 first : (vc : ViewChangeData) × Once (BringsChange c (q, vc)) (history_of (primary c 1) trace) × (1 ≤ vc.view)
                 first = first_came c q 1 (history_of (primary c 1) trace) (let o : 1 ≤ 1 = omega arith in o) least

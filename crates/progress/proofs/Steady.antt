@@ -56,12 +56,11 @@ active_parts c past v h =
 -- a replica that is active in a view at first and at last is so in between
 pub active_between : (c : Configuration) (v : ℕ) (newer middle past : List Entry) → is_active_in c past v ≡ true → is_active_in c (newer ++ (middle ++ past)) v ≡ true → is_active_in c (middle ++ past) v ≡ true
 active_between c v newer middle past first last =
-    let a = active_parts c past v first in
     let b = active_parts c (newer ++ (middle ++ past)) v last in
     let x = view_later c middle past in
     let y = view_later c newer (middle ++ past) in
     let z = target_later newer (middle ++ past) in
-    let va = a.0 in
+    let va = (active_parts c past v first).0 in
     let vb = b.0 in
     let tb = b.1 in
     let is : view c (middle ++ past) ≡ v = omega arith in
@@ -79,9 +78,7 @@ active_once c me v i newer now batch point leaves last h =
     let y = target_later newer now in
     let vb = b.0 in
     let tb = b.1 in
-    let is : view c now ≡ v = omega arith in
-    let most : target now ≤ v = omega arith in
-    and_from (view c now == v) (nat_le (target now) v) (eq-eqb (view c now) v is) (le-leb (target now) v most)
+    and_from (view c now == v) (nat_le (target now) v) (eq-eqb (view c now) v (omega arith)) (le-leb (target now) v (omega arith))
 
 pub marks_parts : (c : Configuration) (h i : ℕ) → is_in_marks c h i ≡ true → (h < i) × (i ≤ h + span c) × (is_number i ≡ true)
 marks_parts c h i m =
@@ -94,11 +91,10 @@ pub marks_between : (c : Configuration) (me i : ℕ) (newer middle past : List E
     → is_in_marks c (low c me (middle ++ past)) i ≡ true
 marks_between c me i newer middle past first last =
     let a = marks_parts c (low c me past) i first in
-    let b = marks_parts c (low c me (newer ++ (middle ++ past))) i last in
     let x = low_later c me middle past in
     let y = low_later c me newer (middle ++ past) in
     let ha = a.1 in
-    let lb = b.0 in
+    let lb = (marks_parts c (low c me (newer ++ (middle ++ past))) i last).0 in
     let above : low c me (middle ++ past) < i = omega arith in
     let within : i ≤ low c me (middle ++ past) + span c = omega arith in
     and_from (nat_lt (low c me (middle ++ past)) i && nat_le i (low c me (middle ++ past) + span c)) (is_number i)

@@ -35,8 +35,7 @@ call_heard : (c : Configuration) (me : ℕ) (bytes : List ℕ) (body : Body) (ca
     → heard (members c) me bytes ≡ Some (asking (256 + call.client) call.timestamp modes.Ordered call.op)
 call_heard c me bytes body call hears is =
     let says = heard_said c me bytes body hears in
-    let frame : call_of c bytes ≡ Some call = ap (option_and_then (call_in c)) says ∙ is in
-    hears ∙ sym says ∙ call_body c bytes call frame
+    hears ∙ sym says ∙ call_body c bytes call (ap (option_and_then (call_in c)) says ∙ is)
 
 -- one more waits, or the same as before
 with_cases : (st : State) (waiting : List Call) (call other : Call) → Has (λ x. x ≡ other) (with_waiting st waiting call) → Has (λ x. x ≡ other) waiting ⊎ (call ≡ other)
@@ -135,10 +134,7 @@ module _ (c : Configuration) (trace : List Entry) (run : Run c trace) (k : ℕ) 
       let whole : Once (Hears c r (asking me other.timestamp modes.Ordered other.op)) (history_of r trace) =
       subst (λ (xs : List Entry). Once (Hears c r (asking me other.timestamp modes.Ordered other.op)) xs) (sym splits) (once_append (Hears c r (asking me other.timestamp modes.Ordered other.op)) later past mine) in
       let m = heard_most other.timestamp other.op whole in
-      (m.0, λ same. one_call other.client k other.timestamp call.timestamp other.op call.op own same (m.1 same))
-    where
-      one_call : (a b t u : ℕ) (o p : Operation) → a ≡ b → t ≡ u → o ≡ p → ◌≡◌ {A = Call} (record { client = a; timestamp = t; op = o }) (record { client = b; timestamp = u; op = p })
-      one_call a b t u o p x y z = rw (x, y, z) refl
+      (m.0, λ same. (rw (own, same, (m.1 same)) refl))
 
   -- ---- one more request
 
@@ -179,12 +175,10 @@ module _ (c : Configuration) (trace : List Entry) (run : Run c trace) (k : ℕ) 
       older e =
           let x = some_fails (is_newer its) waiting e in
           let p = or_parts (not (x.0.client == k)) (nat_lt x.0.timestamp call.timestamp) x.2 in
-          let own : x.0.client ≡ k = eqb-true x.0.client k (not-false (x.0.client == k) p.0) in
           let l = ltb-false x.0.timestamp call.timestamp p.1 in
-          let m = most x.0 x.1 own in
+          let m = most x.0 x.1 (eqb-true x.0.client k (not-false (x.0.client == k) p.0)) in
           let u = m.0 in
-          let same : x.0.timestamp ≡ call.timestamp = omega arith in
-          subst (λ (y : Call). Has (λ z. z ≡ y) waiting) (m.1 same) x.1
+          subst (λ (y : Call). Has (λ z. z ≡ y) waiting) (m.1 (omega arith)) x.1
 
       go : (a : Bool) → nat_lt (last_time st k) call.timestamp ≡ a → (b : Bool) → list_all (is_newer its) waiting ≡ b
           → Has (λ x. x ≡ its) (cond (a && b) (filter (λ x. not (x.client == k)) waiting ++ its ∷ []) waiting) ⊎ (call.timestamp ≤ last_time st k)
@@ -236,9 +230,8 @@ module _ (c : Configuration) (trace : List Entry) (run : Run c trace) (k : ℕ) 
   is_the_call : call_in c (asking me call.timestamp modes.Ordered call.op) ≡ Some its
   is_the_call =
       let known : is_client c me ≡ true = (and_parts (is_client c me) _ client).0 in
-      let number : me - 256 ≡ k = omega arith in
       ap (λ (b : Bool). cond {A = Option Call} b (Some (record { client = me - 256; timestamp = call.timestamp; op = call.op })) None) known
-      ∙ ap (λ (x : ℕ). let y : Call = record { client = x; timestamp = call.timestamp; op = call.op } in Some y) number
+      ∙ ap (λ (x : ℕ). let y : Call = record { client = x; timestamp = call.timestamp; op = call.op } in Some y) (omega arith)
 
   pub waits_since : (request : List ℕ) → heard (members c) r request ≡ Some (asking me call.timestamp modes.Ordered call.op)
       → (newer middle past : List Entry) (point : Point) → history_of r trace ≡ newer ++ (middle ++ Got r request ∷ past) → HistoryReaches c r (middle ++ Got r request ∷ past) point

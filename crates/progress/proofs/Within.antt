@@ -43,13 +43,10 @@ record IsSaid (s : ℕ) (m : CheckpointEntry) (body : Body) : Type 0 where
 
 checkpoint_said : (s : ℕ) (m : CheckpointEntry) (sender : ℕ) (message : Message) → checkpoint_from (record { sender = sender; message = message }) ≡ Some (s, m) → IsSaid s m (record { sender = sender; message = message })
 checkpoint_said s m sender (Checkpoint number root) h =
-    let x : ℕ × CheckpointEntry = (sender, record { number = number; digest = root }) in
-    let y : ℕ × CheckpointEntry = (s, m) in
-    let g = then_some_gives {A = ℕ × CheckpointEntry} (is_number number) x y h in
-    let es : sender ≡ s = ap (λ (z : ℕ × CheckpointEntry). z.0) g.1 in
+    let g = then_some_gives {A = ℕ × CheckpointEntry} (is_number number) (sender, record { number = number; digest = root }) (s, m) h in
     let en : number ≡ m.number = ap (λ (z : ℕ × CheckpointEntry). z.1.number) g.1 in
     let ed : root ≡ m.digest = ap (λ (z : ℕ × CheckpointEntry). z.1.digest) g.1 in
-    record { is_body = rw (es, en, ed) refl; small = subst (λ (n : ℕ). is_number n ≡ true) en g.0 }
+    record { is_body = rw ((ap (λ (z : ℕ × CheckpointEntry). z.0) g.1), en, ed) refl; small = subst (λ (n : ℕ). is_number n ≡ true) en g.0 }
 checkpoint_said s m sender _ h = absurd cc
 
 -- a checkpoint with the number came from the replica
@@ -259,8 +256,7 @@ module _ (c : Configuration) (setting : IsConfiguration c) (trace : List Entry) 
           test : (b : Bool) → cond b x.1.number 0 < 2 ^ 48
           test true =
               let k = and_then_some {B = ℕ × CheckpointEntry} checkpoint_from (brought c e) (x.0, x.1) is in
-              let t = checkpoint_said x.0 x.1 k.0.sender k.0.message k.2 in
-              ltb-true x.1.number (2 ^ 48) t.small
+              ltb-true x.1.number (2 ^ 48) (checkpoint_said x.0 x.1 k.0.sender k.0.message k.2).small
           test false = omega arith
 
       installed : (e : Entry) → May c r past leaves.0 e → history_of r trace ≡ (newer ++ e ∷ []) ++ past → installed_at e < 2 ^ 48
