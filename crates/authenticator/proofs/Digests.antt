@@ -6,8 +6,8 @@ use Rattle.sha2.specs.Sha256.{sha256, digest_bytes}
 use Rattle.sha2.proofs.Facts256.{length-sha256}
 use Rattle.tuple_tree.specs.Values.{AreBytes}
 use Rattle.tuple_tree.proofs.Readers.{bytes_append}
-use Rattle.wire.specs.Lists.{Each}
-use Rattle.wire.specs.Spelling.{IsDigest}
+use Rattle.wire_format.specs.Lists.{Each}
+use Rattle.wire_format.specs.Spelling.{IsDigest}
 use Rattle.authenticator.specs.Mac.{hmac_of}
 
 -- ---- a MAC is a digest

@@ -7,10 +7,10 @@ use Rattle.std.proofs.lemmas.List.{map-append, take_more, drop_all}
 use Rattle.terms.specs.declared.parties.Party.{Party}
 use Rattle.authenticator.specs.Keys.{mac_between}
 use Rattle.authenticator.specs.Sealing.{entry_for}
-use Rattle.wire.specs.declared.frames.ReceiverMac.{ReceiverMac}
+use Rattle.wire_format.specs.declared.frames.ReceiverMac.{ReceiverMac}
 use Rattle.terms.specs.Parties.{party_number}
-use Rattle.wire.specs.Messages.{MacData}
-use Rattle.wire.specs.Views.{mac_data}
+use Rattle.wire_format.specs.Messages.{MacData}
+use Rattle.wire_format.specs.Views.{mac_data}
 use Rattle.wire.proofs.Entries.{drop_more}
 use Rattle.authenticator.specs.Authentic.{has_mac, is_mac_for}
 

@@ -1,7 +1,7 @@
 -- The parts of a frame that is spelled.
 use Rattle.std.proofs.Common.{◌≡◌, ◌+◌, [], ◌≤◌, ◌<◌, ◌^◌, ℕ, ◌||◌, List, ◌++◌, length, length-append, arith, subst, sym, refl, lit≤}
-use Rattle.wire.specs.Messages.{MacData, MessageData, view_change, FrameData, AuthenticatorData, macs}
-use Rattle.wire.specs.Spelling.{SpellsFrame, frame_limit, body_spelling, authenticator_spelling, authenticator_is_signed, piece}
+use Rattle.wire_format.specs.Messages.{MacData, MessageData, view_change, FrameData, AuthenticatorData, macs}
+use Rattle.wire_format.specs.Spelling.{SpellsFrame, frame_limit, body_spelling, authenticator_spelling, authenticator_is_signed, piece}
 use Rattle.authenticator.specs.Authentic.{has_mac, proves}
 
 frame_limit-le : (m : MessageData) → frame_limit m ≤ 4194304

@@ -1,10 +1,10 @@
 -- The property of a frame that a refusal shows.
 use Rattle.std.proofs.Common.{◌≡◌, ◌⊎◌, inl, inr, ℕ, Bool, true, false, cond, List, Option, Some, None, ap, sym, refl, subst, ◌∙◌}
-use Rattle.wire.specs.Messages.{FrameData}
-use Rattle.wire.specs.Spelling.{SpellsFrame}
+use Rattle.wire_format.specs.Messages.{FrameData}
+use Rattle.wire_format.specs.Spelling.{SpellsFrame}
 use Rattle.authenticator.specs.declared.sealed.OpenFault.{OpenFault}
 use Rattle.authenticator.specs.declared.sealed.OpenFault.TheVariants as faults
-use Rattle.wire.specs.Messages.{MessageData, request}
+use Rattle.wire_format.specs.Messages.{MessageData, request}
 use Rattle.wire.specs.Headers.{HeaderData, header_of, asks, HasHeader}
 use Rattle.wire.proofs.Whole.{one_frame}
 use Rattle.authenticator.specs.Headers.{takes_part, header_refusal}

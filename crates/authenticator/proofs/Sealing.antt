@@ -1,10 +1,10 @@
 -- A frame with a MAC for each receiver.
 use Rattle.std.proofs.Common.{◌≡◌, refl, false, ◌<◌, ◌≤◌, ℕ, ◌+◌, ◌*◌, List, [], ◌∷◌, ◌++◌, map, length, length-append, nat_lt, arith, ap, subst, sym, ◌∙◌}
 use Rattle.std.proofs.lemmas.List.{length-map}
-use Rattle.wire.specs.Lists.{Each, each_spelling, leads, ascends}
-use Rattle.wire.specs.Counts.{CountsFit}
-use Rattle.wire.specs.Messages.{BodyData, MacData, macs, MessageData, view_change, new_view}
-use Rattle.wire.specs.Spelling.{SpellsFrame, IsMac, mac_spelling, mac_before, body_spelling, authenticator_spelling, piece, frame_limit, frame_spelling, is_signed}
+use Rattle.wire_format.specs.Lists.{Each, each_spelling, leads, ascends}
+use Rattle.wire_format.specs.Counts.{CountsFit}
+use Rattle.wire_format.specs.Messages.{BodyData, MacData, macs, MessageData, view_change, new_view}
+use Rattle.wire_format.specs.Spelling.{SpellsFrame, IsMac, mac_spelling, mac_before, body_spelling, authenticator_spelling, piece, frame_limit, frame_spelling, is_signed}
 use Rattle.authenticator.specs.Keys.{key_between}
 use Rattle.authenticator.specs.Sealing.{IsSealable, IsTooLong, entry_for, sealed_for}
 use Rattle.authenticator.proofs.Lengths.{length-hmac_of}

@@ -2,8 +2,8 @@
 -- Byzantine fault tolerance and proactive recovery, TOCS 2002, on the authentication of messages).
 use Rattle.std.specs.Prelude.{ℕ, Bool, false, ◌&&◌, ◌==◌, List, bytes_eq}
 use Rattle.std.specs.List.{list_any}
-use Rattle.wire.specs.Messages.{BodyData, MacData, AuthenticatorData, macs, signature, FrameData}
-use Rattle.wire.specs.Spelling.{body_spelling}
+use Rattle.wire_format.specs.Messages.{BodyData, MacData, AuthenticatorData, macs, signature, FrameData}
+use Rattle.wire_format.specs.Spelling.{body_spelling}
 use Rattle.authenticator.specs.Keys.{mac_between}
 
 -- the MAC of a body for a party

@@ -1,6 +1,6 @@
 -- The refusals of the frame's grammar, as refusals of opening.
-use Rattle.wire.specs.declared.fault.NoFrame.{NoFrame}
-use Rattle.wire.specs.declared.fault.NoFrame.TheVariants as no_frame
+use Rattle.wire_format.specs.declared.fault.NoFrame.{NoFrame}
+use Rattle.wire_format.specs.declared.fault.NoFrame.TheVariants as no_frame
 use Rattle.authenticator.specs.declared.sealed.OpenFault.{OpenFault}
 use Rattle.authenticator.specs.declared.sealed.OpenFault.TheVariants as faults
 

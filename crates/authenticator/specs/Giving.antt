@@ -5,12 +5,12 @@ use Rattle.terms.specs.Parties.{party_number}
 use Rattle.terms.specs.declared.parties.Party.{Party}
 use Rattle.tuple_codec.specs.Gives.{GivesEach}
 use Rattle.wire.specs.Headers.{header_data}
-use Rattle.wire.specs.Messages.{FrameData}
-use Rattle.wire.specs.Spelling.{SpellsFrame}
-use Rattle.wire.specs.Views.{body_data, frame_data, mac_data}
-use Rattle.wire.specs.declared.frames.ReceiverMac.{ReceiverMac}
+use Rattle.wire_format.specs.Messages.{FrameData}
+use Rattle.wire_format.specs.Spelling.{SpellsFrame}
+use Rattle.wire_format.specs.Views.{body_data, frame_data, mac_data}
+use Rattle.wire_format.specs.declared.frames.ReceiverMac.{ReceiverMac}
 use Rattle.wire.specs.declared.headers.Header.{Header}
-use Rattle.wire.specs.declared.messages.Body.{Body}
+use Rattle.wire_format.specs.declared.messages.Body.{Body}
 use Rattle.authenticator.specs.declared.sealed.Opened.{Opened}
 use Rattle.authenticator.specs.declared.sealed.OpenFault.{OpenFault}
 use Rattle.authenticator.specs.declared.sealed.OpenFault.TheVariants as open_faults

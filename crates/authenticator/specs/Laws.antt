@@ -1,7 +1,7 @@
 -- The laws of sealing and opening.
 use Rattle.std.specs.Prelude.{ℕ, List, Contains, IsTrue}
-use Rattle.wire.specs.Messages.{BodyData}
-use Rattle.wire.specs.Spelling.{SpellsFrame}
+use Rattle.wire_format.specs.Messages.{BodyData}
+use Rattle.wire_format.specs.Spelling.{SpellsFrame}
 use Rattle.authenticator.specs.Membership.{Membership, has_sender}
 use Rattle.authenticator.specs.Authentic.{is_authentic}
 use Rattle.authenticator.specs.Opening.{Opens}

@@ -1,7 +1,7 @@
 -- Who takes part, and the seed of their keys. A party goes by its number: replica r has the number r, client c the
 -- number 256 + c.
 use Rattle.std.specs.Prelude.{ℕ, ◌+◌, ◌*◌, Bool, ◌&&◌, nat_lt, nat_le, List}
-use Rattle.wire.specs.Messages.{MessageData, request, BodyData}
+use Rattle.wire_format.specs.Messages.{MessageData, request, BodyData}
 
 -- a seed, how many replicas may be faulty, and how many clients there are
 pub record Membership : Type 0 where

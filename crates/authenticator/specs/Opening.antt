@@ -1,8 +1,8 @@
 -- Whether a party opens a frame, and why it refuses one. Signatures are not verified here.
 use Rattle.std.specs.Prelude.{ℕ, Bool, ◌||◌, IsTrue, ◌≡◌, false, List, Option, Some, None, if◌then◌else◌}
-use Rattle.wire.specs.Messages.{FrameData}
-use Rattle.wire.specs.Spelling.{SpellsFrame, authenticator_is_signed}
-use Rattle.wire.specs.Faults.{IsTooLarge}
+use Rattle.wire_format.specs.Messages.{FrameData}
+use Rattle.wire_format.specs.Spelling.{SpellsFrame, authenticator_is_signed}
+use Rattle.wire_format.specs.Faults.{IsTooLarge}
 use Rattle.authenticator.specs.declared.sealed.OpenFault.{OpenFault}
 use Rattle.authenticator.specs.declared.sealed.OpenFault.TheVariants as faults
 use Rattle.authenticator.specs.Membership.{Membership, has_sender}

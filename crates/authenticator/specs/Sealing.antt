@@ -1,8 +1,8 @@
 -- The frames that a party seals for others.
 use Rattle.std.specs.Prelude.{◌≡◌, ℕ, ◌<◌, ◌≤◌, false, IsTrue, List, length, map, nat_lt}
-use Rattle.wire.specs.Lists.{ascends}
-use Rattle.wire.specs.Messages.{BodyData, MacData, macs, FrameData}
-use Rattle.wire.specs.Spelling.{IsBody, is_signed, body_spelling, frame_spelling, frame_limit}
+use Rattle.wire_format.specs.Lists.{ascends}
+use Rattle.wire_format.specs.Messages.{BodyData, MacData, macs, FrameData}
+use Rattle.wire_format.specs.Spelling.{IsBody, is_signed, body_spelling, frame_spelling, frame_limit}
 use Rattle.authenticator.specs.Keys.{mac_between}
 
 -- the entry of an authenticator for a party

@@ -8,7 +8,7 @@ ghost use Rattle.authenticator.specs.Keys.{key_between, mac_between, signing_see
 ghost use Rattle.authenticator.specs.Headers.{takes_part};
 ghost use Rattle.authenticator.specs.Membership.{has_sender};
 ghost use Rattle.terms.specs.Parties.{party_number};
-ghost use Rattle.wire.specs.Views.{body_data};
+ghost use Rattle.wire_format.specs.Views.{body_data};
 
 use crate::mac::{Key, hmac};
 use std::alloc::Global;

@@ -2,11 +2,11 @@
 
 ghost use Rattle.std.specs.Prelude.{◌≡◌, ◌+◌, ℕ, List, ◌++◌, IfOk, IfErr, IsTrue, map};
 ghost use Rattle.std.specs.Prelude.{◌≤◌, length};
-ghost use Rattle.wire.specs.Spelling.{IsMac};
-ghost use Rattle.wire.specs.Lists.{Each};
+ghost use Rattle.wire_format.specs.Spelling.{IsMac};
+ghost use Rattle.wire_format.specs.Lists.{Each};
 ghost use Rattle.authenticator.specs.Sealing.{IsSealable};
 ghost use Rattle.terms.specs.Parties.{party_number};
-ghost use Rattle.wire.specs.Views.{body_data, mac_data};
+ghost use Rattle.wire_format.specs.Views.{body_data, mac_data};
 ghost use Rattle.authenticator.specs.Authentic.{has_mac, is_mac_for};
 ghost use Rattle.authenticator.specs.Keys.{mac_between};
 ghost use Rattle.authenticator.specs.Opening.{Refuses};

@@ -2,7 +2,7 @@
 use Rattle.std.specs.Prelude.{◌==◌, nat_lt}
 use Rattle.std.proofs.Common.{◌≡◌, ℕ, ◌<◌, ◌⊎◌, inl, inr, true, List, [], ◌∷◌, arith, ◌&&◌, ◌||◌, eq-eqb, eqb-true}
 use Rattle.std.proofs.lemmas.Bool.{and_parts, and_from, or_cases, or_left, or_right, lt-ltb, ltb-true}
-use Rattle.wire.specs.Spelling.{bytes_before}
+use Rattle.wire_format.specs.Spelling.{bytes_before}
 
 pub bytes_trans : (a b d : List ℕ) → bytes_before a b ≡ true → bytes_before b d ≡ true → bytes_before a d ≡ true
 bytes_trans [] b d h k = absurd cc

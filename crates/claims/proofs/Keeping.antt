@@ -8,10 +8,10 @@ use Rattle.std.proofs.lemmas.List.Kept.{AllPairs-cons}
 use Rattle.sha2.specs.Sha256.{sha256}
 use Rattle.sha2.proofs.Facts256.{length-sha256}
 use Rattle.protocol.specs.System.Configuration.{Configuration, span, is_number}
-use Rattle.wire.specs.Messages.{BatchEntryData as Claim}
-use Rattle.wire.specs.Spelling.{batch_entry_before, named_before, bytes_before}
+use Rattle.wire_format.specs.Messages.{BatchEntryData as Claim}
+use Rattle.wire_format.specs.Spelling.{batch_entry_before, named_before, bytes_before}
 use Rattle.protocol.specs.System.Trace.{Entry, Has}
-use Rattle.wire.specs.Lists.{Each}
+use Rattle.wire_format.specs.Lists.{Each}
 use Rattle.protocol.specs.Replica.Certificates.{low, is_in_marks, logged}
 use Rattle.protocol.proofs.Agreement.Marks.{low_grows}
 use Rattle.protocol.proofs.Words.Elements.{each_has, has_some, has_weaker, each_where, each_weaker}

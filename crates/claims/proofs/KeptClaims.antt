@@ -7,9 +7,9 @@ use Rattle.std.proofs.lemmas.Bool.{and_from}
 use Rattle.std.proofs.lemmas.List.{map-append, set_split, take-map}
 use Rattle.sha2.specs.Sha256.{sha256}
 use Rattle.sha2.proofs.Facts256.{length-sha256}
-use Rattle.wire.specs.Lists.{Each, ascends}
-use Rattle.wire.specs.Messages.{BatchEntryData as Claim}
-use Rattle.wire.specs.Spelling.{batch_entry_before, named_before}
+use Rattle.wire_format.specs.Lists.{Each, ascends}
+use Rattle.wire_format.specs.Messages.{BatchEntryData as Claim}
+use Rattle.wire_format.specs.Spelling.{batch_entry_before, named_before}
 use Rattle.protocol.proofs.Words.Elements.{each_append, each_where, each_weaker}
 use Rattle.claims.specs.declared.claim.Claim.{Claim as Kept}
 use Rattle.claims.specs.ClaimsView.{claims_of, digests_of, texts_in, IsAmong}

@@ -2,7 +2,7 @@
 use Rattle.std.specs.Prelude.{nat_le, nat_lt, filter}
 use Rattle.std.proofs.Common.{◌≡◌, ℕ, zero, suc, ◌<◌, ◌≤◌, Bool, true, false, cond, List, [], ◌∷◌, length, get_or, set, refl, ap, arith}
 use Rattle.std.specs.List.{insert}
-use Rattle.wire.specs.Messages.{BatchEntryData}
+use Rattle.wire_format.specs.Messages.{BatchEntryData}
 use Rattle.claims.specs.declared.claim.Claim.{Claim}
 use Rattle.claims.specs.declared.claim.ClaimOrder.{ClaimOrder}
 use Rattle.claims.specs.ClaimsView.{claim_data, claims_of}

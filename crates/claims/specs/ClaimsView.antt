@@ -2,9 +2,9 @@
 use Rattle.std.specs.Prelude.{◌≡◌, ℕ, List, [], map}
 use Rattle.std.specs.Arc.{arc_value}
 use Rattle.sha2.specs.Sha256.{sha256}
-use Rattle.wire.specs.Messages.{BatchEntryData}
-use Rattle.wire.specs.Spelling.{batch_entry_before, named_before}
-use Rattle.wire.specs.Views.{batch_entry_data}
+use Rattle.wire_format.specs.Messages.{BatchEntryData}
+use Rattle.wire_format.specs.Spelling.{batch_entry_before, named_before}
+use Rattle.wire_format.specs.Views.{batch_entry_data}
 use Rattle.protocol.specs.System.Trace.{Has}
 use Rattle.claims.specs.declared.claim.Claim.{Claim}
 use Rattle.claims.specs.declared.claims.Claims.TheInside.{Inside}

@@ -1,7 +1,7 @@
 -- Words of the private functions that put a claim in its place.
 use Rattle.std.specs.Prelude.{ℕ, zero, suc, Bool, false, ◌||◌, List, [], ◌∷◌, if◌then◌else◌}
-use Rattle.wire.specs.Messages.{BatchEntryData as Claim}
-use Rattle.wire.specs.Spelling.{batch_entry_before, named_before}
+use Rattle.wire_format.specs.Messages.{BatchEntryData as Claim}
+use Rattle.wire_format.specs.Spelling.{batch_entry_before, named_before}
 use Rattle.claims.specs.declared.claim.ClaimOrder.{ClaimOrder}
 use Rattle.claims.specs.declared.claim.ClaimOrder.TheVariants as orders
 use Rattle.claims.specs.Recording.{same_number, same_name, with_claim}

@@ -3,11 +3,11 @@
 -- proactive recovery, TOCS 2002, on the sets P and Q of view changes).
 use Rattle.std.specs.Prelude.{length, ◌≡◌, ℕ, ◌+◌, ◌^◌, ◌≤◌, ◌<◌, ◌⊎◌, Bool, true, ◌&&◌, List, [], ◌∷◌, Some, filter, nat_lt, nat_le, ◌==◌, if◌then◌else◌, bytes_eq, ⊤}
 use Rattle.sha2.specs.Sha256.{sha256}
-use Rattle.wire.specs.Messages.{BatchEntryData as Claim}
-use Rattle.wire.specs.Spelling.{batch_entry_before, named_before}
+use Rattle.wire_format.specs.Messages.{BatchEntryData as Claim}
+use Rattle.wire_format.specs.Spelling.{batch_entry_before, named_before}
 use Rattle.protocol.specs.System.Configuration.{Configuration, span}
 use Rattle.protocol.specs.System.Trace.{Entry, Has}
-use Rattle.wire.specs.Lists.{Each}
+use Rattle.wire_format.specs.Lists.{Each}
 use Rattle.protocol.specs.Replica.Certificates.{low, is_in_marks, logged, Prepared}
 use Rattle.protocol.specs.Replica.RightReplica.{IsPreparedList, IsPrePreparedList}
 

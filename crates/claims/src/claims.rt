@@ -3,9 +3,9 @@
 ghost use Rattle.std.specs.Prelude.{◌≡◌, ◌∷◌, ◌≤◌, filter, length, map, nat_lt, IfOk, OnOk, OnErr, IsTrue};
 ghost use Rattle.std.specs.Arc.{arc_value};
 ghost use Rattle.sha2.specs.Sha256.{sha256};
-ghost use Rattle.wire.specs.Lists.{Each, ascends};
-ghost use Rattle.wire.specs.Spelling.{batch_entry_before, named_before};
-ghost use Rattle.wire.specs.Views.{batch_entry_data};
+ghost use Rattle.wire_format.specs.Lists.{Each, ascends};
+ghost use Rattle.wire_format.specs.Spelling.{batch_entry_before, named_before};
+ghost use Rattle.wire_format.specs.Views.{batch_entry_data};
 ghost use Rattle.claims.specs.ClaimsView as spec;
 ghost use Rattle.claims.specs.ClaimsView.{claims_of, digests_of, texts_in, IsAmong};
 ghost use Rattle.claims.specs.Places as places;

@@ -1,7 +1,7 @@
 //! Digests: their order and their length.
 
 ghost use Rattle.std.specs.Prelude.{◌≡◌};
-ghost use Rattle.wire.specs.Spelling.{IsDigest, bytes_before};
+ghost use Rattle.wire_format.specs.Spelling.{IsDigest, bytes_before};
 
 use terms::Digest;
 

@@ -1,9 +1,9 @@
 //! Proof hints on the entries that the program holds.
 
 ghost use Rattle.std.specs.Prelude.{map};
-ghost use Rattle.wire.specs.Lists.{Each};
-ghost use Rattle.wire.specs.Spelling.{IsBatchEntry, IsCheckpointEntry};
-ghost use Rattle.wire.specs.Views.{batch_entry_data, checkpoint_entry_data};
+ghost use Rattle.wire_format.specs.Lists.{Each};
+ghost use Rattle.wire_format.specs.Spelling.{IsBatchEntry, IsCheckpointEntry};
+ghost use Rattle.wire_format.specs.Views.{batch_entry_data, checkpoint_entry_data};
 
 use crate::digests::note_digest;
 use wire::{BatchEntry, CheckpointEntry};

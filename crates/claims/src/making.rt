@@ -1,9 +1,9 @@
 //! The replica's own view change.
 
 ghost use Rattle.std.specs.Prelude.{◌≡◌, ◌^◌, ◌≤◌, ◌⊎◌, length, IfOk, IfSome, IfNone, IsTrue};
-ghost use Rattle.wire.specs.Lists.{ascends};
-ghost use Rattle.wire.specs.Spelling.{IsViewChange, checkpoint_entry_before};
-ghost use Rattle.wire.specs.Views.{checkpoint_entries_data, view_change_data};
+ghost use Rattle.wire_format.specs.Lists.{ascends};
+ghost use Rattle.wire_format.specs.Spelling.{IsViewChange, checkpoint_entry_before};
+ghost use Rattle.wire_format.specs.Views.{checkpoint_entries_data, view_change_data};
 
 use crate::claims::Claims;
 use crate::entries::{note_checkpoints, note_entries};

@@ -10,8 +10,8 @@ use Rattle.terms.specs.declared.order.Mode.TheVariants as modes
 use Rattle.tuple_codec.specs.Operations.{Outcome}
 use Rattle.tuple_codec.specs.Spelling.{outcome_spelling}
 use Rattle.wire.specs.Headers.{HeaderData, HasHeader}
-use Rattle.wire.specs.Messages.{BodyData as Body, MessageData, reply, FrameData}
-use Rattle.wire.specs.Spelling.{IsMessage, SpellsFrame, authenticator_is_signed, body_spelling, frame_spelling, is_signed, message_type, mode_byte}
+use Rattle.wire_format.specs.Messages.{BodyData as Body, MessageData, reply, FrameData}
+use Rattle.wire_format.specs.Spelling.{IsMessage, SpellsFrame, authenticator_is_signed, body_spelling, frame_spelling, is_signed, message_type, mode_byte}
 use Rattle.authenticator.specs.declared.sealed.OpenFault.{OpenFault}
 use Rattle.authenticator.specs.Headers.{header_refusal}
 use Rattle.authenticator.specs.Membership.{Membership}

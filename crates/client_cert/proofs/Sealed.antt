@@ -12,9 +12,9 @@ use Rattle.terms.specs.declared.parties.ReplicaId.{ReplicaId}
 use Rattle.terms.specs.Parties.{party_number}
 use Rattle.tuple_codec.specs.Operations.{Operation, IsOperation}
 use Rattle.tuple_codec.specs.Spelling.{operation_spelling}
-use Rattle.wire.specs.Lists.{ascends, leads}
-use Rattle.wire.specs.Messages.{BodyData as Body, request as Request}
-use Rattle.wire.specs.Spelling.{SpellsFrame, body_spelling, fields_spelling, mode_byte}
+use Rattle.wire_format.specs.Lists.{ascends, leads}
+use Rattle.wire_format.specs.Messages.{BodyData as Body, request as Request}
+use Rattle.wire_format.specs.Spelling.{SpellsFrame, body_spelling, fields_spelling, mode_byte}
 use Rattle.tuple_codec.proofs.Lengths.{operation_short}
 use Rattle.authenticator.specs.Membership.{Membership}
 use Rattle.authenticator.specs.Sealing.{sealed_for, IsSealable, IsTooLong}

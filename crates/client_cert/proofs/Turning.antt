@@ -7,7 +7,7 @@ use Rattle.std.proofs.lemmas.Bool.{eq-eqb}
 use Rattle.tuple_codec.specs.Operations.{Operation, Outcome}
 use Rattle.terms.specs.declared.order.Mode.{Mode}
 use Rattle.terms.specs.declared.order.Mode.TheVariants as modes
-use Rattle.wire.specs.Messages.{BodyData as Body, reply as Reply}
+use Rattle.wire_format.specs.Messages.{BodyData as Body, reply as Reply}
 use Rattle.quorum.specs.Quorum.{count_below}
 use Rattle.signing.specs.Heard.{heard}
 use Rattle.protocol.specs.System.Configuration.{Configuration, members, replicas}

@@ -6,8 +6,8 @@ use Rattle.terms.specs.declared.order.Mode.{Mode}
 use Rattle.terms.specs.declared.order.Timestamp.{Timestamp}
 use Rattle.terms.specs.declared.parties.ClientId.{ClientId}
 use Rattle.tuple_codec.specs.Operations.{Operation}
-use Rattle.wire.specs.Messages.{BodyData as Body}
-use Rattle.wire.specs.Spelling.{SpellsFrame, body_spelling, frame_limit, piece}
+use Rattle.wire_format.specs.Messages.{BodyData as Body}
+use Rattle.wire_format.specs.Spelling.{SpellsFrame, body_spelling, frame_limit, piece}
 use Rattle.authenticator.specs.Membership.{Membership}
 use Rattle.authenticator.specs.Sealing.{IsSealable, sealed_for}
 use Rattle.protocol.specs.System.Configuration.{Configuration, members}

@@ -11,7 +11,7 @@ use Rattle.tuple_codec.specs.Operations.{Outcome}
 use Rattle.tuple_codec.specs.declared.operations.Answer.{Answer}
 use Rattle.tuple_codec.specs.OperationView.{outcome_of}
 use Rattle.tuple_codec.specs.Spelling.{SpellsOutcome}
-use Rattle.wire.specs.Messages.{BodyData as Body, reply as says}
+use Rattle.wire_format.specs.Messages.{BodyData as Body, reply as says}
 use Rattle.authenticator.specs.Membership.{Membership}
 use Rattle.signing.specs.Heard.{heard}
 use Rattle.protocol.specs.Client.RightClient.{vote_of}

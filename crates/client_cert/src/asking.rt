@@ -4,7 +4,7 @@ ghost use Rattle.std.specs.Prelude.{◌≡◌, ◌≤◌, IfOk, map};
 ghost use Rattle.std.specs.List.{range_with_len};
 ghost use Rattle.terms.specs.Parties.{party_number};
 ghost use Rattle.tuple_codec.specs.OperationView.{operation_of};
-ghost use Rattle.wire.specs.Views.{body_data};
+ghost use Rattle.wire_format.specs.Views.{body_data};
 ghost use Rattle.protocol.specs.Client.RightClient.{first_mode};
 ghost use Rattle.client_cert.specs.Asking.{AsksAs, IsSealableForAll, IsShort, SealsForAll};
 

@@ -3,9 +3,9 @@ use Rattle.std.proofs.Common.{◌≡◌, ◌≢◌, ℕ, zero, suc, ◌<◌, ◌
 use Rattle.std.specs.Prelude.{slice_index_or}
 use Rattle.terms.specs.declared.state.Level.{Level}
 use Rattle.terms.specs.declared.state.Level.TheVariants as levels
-use Rattle.wire.specs.Lists.{Each}
-use Rattle.wire.specs.Messages.{MessageData as Message, meta as Meta, page as Page}
-use Rattle.wire.specs.Spelling.{last_index}
+use Rattle.wire_format.specs.Lists.{Each}
+use Rattle.wire_format.specs.Messages.{MessageData as Message, meta as Meta, page as Page}
+use Rattle.wire_format.specs.Spelling.{last_index}
 use Rattle.posting.specs.Endpoint.{FitsFrame}
 use Rattle.partition_tree.specs.Levels.{children_of}
 use Rattle.execution.proofs.Measuring.{pages_are_short}

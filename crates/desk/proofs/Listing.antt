@@ -1,7 +1,7 @@
 -- The checkpoints that a view change lists.
 use Rattle.std.proofs.Common.{◌≡◌, List, [], ◌∷◌, map, drop, refl, ap}
 use mathlib.Core.List.{reverse_aux}
-use Rattle.wire.specs.Messages.{CheckpointEntryData as CheckpointEntry}
+use Rattle.wire_format.specs.Messages.{CheckpointEntryData as CheckpointEntry}
 use Rattle.replica_histories.specs.Views.{entry_of, entries_of}
 use Rattle.desk.specs.declared.snapshots.KeptState.{KeptState}
 use Rattle.desk.specs.SnapshotsView.{kept_data}

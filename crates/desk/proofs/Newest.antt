@@ -1,8 +1,8 @@
 -- The kept states are few, and in order.
 use Rattle.std.proofs.Common.{◌≡◌, ℕ, suc, ◌%◌, ◌<◌, ◌≤◌, Bool, true, false, cond, List, [], ◌∷◌, length, refl, sym, ap, ◌∙◌, subst, arith, nat_le, eqb-true, IsTrue}
 use Rattle.std.proofs.lemmas.Bool.{lt-leb, lt-ltb}
-use Rattle.wire.specs.Lists.{Each, ascends}
-use Rattle.wire.specs.Spelling.{checkpoint_entry_before}
+use Rattle.wire_format.specs.Lists.{Each, ascends}
+use Rattle.wire_format.specs.Spelling.{checkpoint_entry_before}
 use Rattle.protocol.proofs.Words.Elements.{each_filtered}
 use Rattle.replica_histories.specs.Desk.{Snapshot, snapshot_of, kept_from}
 use Rattle.replica_histories.specs.Views.{entries_of}

@@ -3,8 +3,8 @@ use Rattle.std.proofs.Common.{◌≡◌, ℕ, ◌+◌, ◌-◌, arith, inl, List
 use Rattle.terms.specs.declared.order.Mode.TheVariants as modes
 use Rattle.space.specs.Applying.{outcome}
 use Rattle.space.specs.Births.{tuples_of}
-use Rattle.wire.specs.Messages.{MessageData as Message, reply as Reply}
-use Rattle.wire.specs.declared.messages.Reply.{Reply as WireReply}
+use Rattle.wire_format.specs.Messages.{MessageData as Message, reply as Reply}
+use Rattle.wire_format.specs.declared.messages.Reply.{Reply as WireReply}
 use Rattle.read_only.specs.declared.answering.Shelf.{Shelf}
 use Rattle.read_only.specs.declared.hearing.ReadRequest.{ReadRequest}
 use Rattle.read_only.specs.Hearing.{HearsRead}

@@ -1,14 +1,14 @@
 -- Two frames of one body's bytes say the same.
 use Rattle.std.proofs.Common.{◌≡◌, ℕ, Bool, List, Some, refl, sym, ap, ◌∙◌}
-use Rattle.wire.specs.Messages.{BodyData as Body, MessageData as Message}
-use Rattle.wire.specs.Spelling.{IsCarried, IsMessage, SpellsFrame, body_spelling, authenticator_spelling}
-use Rattle.wire.specs.Reading.{message_by}
-use Rattle.wire.specs.Sealing.{IsFrontPiece}
-use Rattle.wire.specs.Words.{said}
-use Rattle.wire.proofs.Carriers.{to_message}
-use Rattle.wire.proofs.Framing.{text_bound}
-use Rattle.wire.proofs.Saying.{reads_said}
-use Rattle.wire.proofs.Telling.{one_body}
+use Rattle.wire_format.specs.Messages.{BodyData as Body, MessageData as Message}
+use Rattle.wire_format.specs.Spelling.{IsCarried, IsMessage, SpellsFrame, body_spelling, authenticator_spelling}
+use Rattle.wire_format.specs.Reading.{message_by}
+use Rattle.wire_format.specs.Sealing.{IsFrontPiece}
+use Rattle.wire_format.specs.Words.{said}
+use Rattle.wire_format.proofs.Carriers.{to_message}
+use Rattle.wire_format.proofs.Framing.{text_bound}
+use Rattle.wire_format.proofs.Saying.{reads_said}
+use Rattle.wire_format.proofs.Telling.{one_body}
 
 pub carried_frame : (sort : Message → Bool) (bytes : List ℕ) (c : IsCarried sort bytes) → SpellsFrame bytes c.frame
 carried_frame sort bytes c =

@@ -5,9 +5,9 @@ use Rattle.std.specs.List.{list_any}
 use Rattle.std.specs.declared.alloc.Global.{Global}
 use Rattle.std.proofs.lemmas.List.{length-take, length-append, map-append, append_assoc, append-nil, take_more_set, take-append-le, take_all, drop_more, drop-set-lt}
 use Rattle.std.proofs.lemmas.List.Elements.{filter_more}
-use Rattle.wire.specs.Lists.{Each}
-use Rattle.wire.specs.Spelling.{IsCarried, is_ordered_request}
-use Rattle.wire.specs.Views.{texts_of}
+use Rattle.wire_format.specs.Lists.{Each}
+use Rattle.wire_format.specs.Spelling.{IsCarried, is_ordered_request}
+use Rattle.wire_format.specs.Views.{texts_of}
 use Rattle.desk.specs.declared.waiting.WaitingRequest.{WaitingRequest}
 use Rattle.desk.specs.declared.waiting.BegunCall.{BegunCall}
 use Rattle.desk.specs.Waiting.{WaitingData, IsRequest, IsWaiting, keeping, texts, all_unnumbered, unnumbered, count_unnumbered, all_numbered, with_numbered, renumbered, with_view}

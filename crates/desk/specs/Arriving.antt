@@ -1,6 +1,6 @@
 -- How a request stands to a desk that has no reply to it (Castro and Liskov, TOCS 2002, on normal-case operation).
 use Rattle.std.specs.Prelude.{◌≡◌, ◌≢◌, ◌<◌, ◌≤◌, ◌⊎◌, ℕ, List, Some}
-use Rattle.wire.specs.Words.{said}
+use Rattle.wire_format.specs.Words.{said}
 use Rattle.terms.specs.declared.parties.ClientId.{ClientId}
 use Rattle.terms.specs.declared.order.Timestamp.{Timestamp}
 use Rattle.protocol.specs.Replica.State.{last_time}

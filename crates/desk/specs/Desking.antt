@@ -5,11 +5,11 @@ use Rattle.std.specs.Bool.{then_some}
 use Rattle.terms.specs.declared.parties.ClientId.{ClientId}
 use Rattle.terms.specs.declared.parties.Party.TheVariants as parties
 use Rattle.terms.specs.declared.order.Timestamp.{Timestamp}
-use Rattle.wire.specs.Messages.{MessageData as Message, CheckpointEntryData as CheckpointEntry}
-use Rattle.wire.specs.declared.messages.Message.TheVariants as messages
-use Rattle.wire.specs.declared.messages.Reply.{Reply}
-use Rattle.wire.specs.Lists.{Each}
-use Rattle.wire.specs.Views.{message_data}
+use Rattle.wire_format.specs.Messages.{MessageData as Message, CheckpointEntryData as CheckpointEntry}
+use Rattle.wire_format.specs.declared.messages.Message.TheVariants as messages
+use Rattle.wire_format.specs.declared.messages.Reply.{Reply}
+use Rattle.wire_format.specs.Lists.{Each}
+use Rattle.wire_format.specs.Views.{message_data}
 use Rattle.partition_tree.specs.Digests.{root_of as root_of_pages}
 use Rattle.reply_cache.specs.Replies.{Kept}
 use Rattle.posting.specs.Endpoint.{SealsForOne}

@@ -5,13 +5,13 @@ use Rattle.std.specs.Option.{ForSome}
 use Rattle.terms.specs.declared.order.Number.{Number}
 use Rattle.terms.specs.declared.parties.Party.TheVariants as parties
 use Rattle.terms.specs.declared.parties.ReplicaId.{ReplicaId}
-use Rattle.wire.specs.Lists.{Each}
-use Rattle.wire.specs.Messages.{MessageData, CheckpointEntryData as CheckpointEntry, fetch as FetchMessage}
-use Rattle.wire.specs.Views.{message_data}
-use Rattle.wire.specs.declared.messages.Message.{Message}
-use Rattle.wire.specs.declared.messages.Fetch.{Fetch}
-use Rattle.wire.specs.declared.messages.Meta.{Meta}
-use Rattle.wire.specs.declared.messages.Page.{Page}
+use Rattle.wire_format.specs.Lists.{Each}
+use Rattle.wire_format.specs.Messages.{MessageData, CheckpointEntryData as CheckpointEntry, fetch as FetchMessage}
+use Rattle.wire_format.specs.Views.{message_data}
+use Rattle.wire_format.specs.declared.messages.Message.{Message}
+use Rattle.wire_format.specs.declared.messages.Fetch.{Fetch}
+use Rattle.wire_format.specs.declared.messages.Meta.{Meta}
+use Rattle.wire_format.specs.declared.messages.Page.{Page}
 use Rattle.posting.specs.Endpoint.{SealsForOne}
 use Rattle.events.specs.declared.output.Output.{Output}
 use Rattle.partition_tree.specs.Digests.{root_of as root_of_pages}

@@ -1,8 +1,8 @@
 -- Which states a desk keeps (Castro and Liskov, TOCS 2002, on garbage collection).
 use Rattle.std.specs.Prelude.{◌≡◌, ℕ, Bool, ◌%◌, ◌<◌, ◌≤◌, List, [], ◌∷◌, length, slice_index_or, take, ⊤}
-use Rattle.wire.specs.Lists.{Each, ascends}
-use Rattle.wire.specs.Messages.{CheckpointEntryData as CheckpointEntry}
-use Rattle.wire.specs.Spelling.{checkpoint_entry_before}
+use Rattle.wire_format.specs.Lists.{Each, ascends}
+use Rattle.wire_format.specs.Messages.{CheckpointEntryData as CheckpointEntry}
+use Rattle.wire_format.specs.Spelling.{checkpoint_entry_before}
 use Rattle.replica_histories.specs.Desk.{Snapshot}
 
 -- Each number is greater than all later ones in the list.

@@ -1,10 +1,10 @@
 -- How an open transfer goes on (Castro and Liskov, TOCS 2002, on state transfer).
 use Rattle.std.specs.Prelude.{◌≡◌, ◌⊎◌, ◌<◌, ℕ, Bool, true, false, length, Option, Some, None}
 use Rattle.sha2.specs.Sha256.{sha256}
-use Rattle.wire.specs.Messages.{CheckpointEntryData as CheckpointEntry, meta as MetaMessage}
-use Rattle.wire.specs.Spelling.{IsMessage}
-use Rattle.wire.specs.declared.messages.Meta.{Meta}
-use Rattle.wire.specs.declared.messages.Page.{Page}
+use Rattle.wire_format.specs.Messages.{CheckpointEntryData as CheckpointEntry, meta as MetaMessage}
+use Rattle.wire_format.specs.Spelling.{IsMessage}
+use Rattle.wire_format.specs.declared.messages.Meta.{Meta}
+use Rattle.wire_format.specs.declared.messages.Page.{Page}
 use Rattle.partition_tree.specs.Digests.{digest_of_children}
 use Rattle.state_transfer.specs.declared.place.Place.{Place}
 use Rattle.state_transfer.specs.Places.{page_place}

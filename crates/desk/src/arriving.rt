@@ -1,6 +1,6 @@
 //! How the desk classifies a request that arrives.
 
-ghost use Rattle.wire.specs.Spelling.{IsCarried, is_ordered_request};
+ghost use Rattle.wire_format.specs.Spelling.{IsCarried, is_ordered_request};
 ghost use Rattle.desk.specs.Arriving.{IsArrival};
 
 use crate::desk::Desk;

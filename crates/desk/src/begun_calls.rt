@@ -1,7 +1,7 @@
 //! The calls that have a number in a new view from its beginning.
 
 ghost use Rattle.std.specs.Prelude.{◌≡◌, OnOk};
-ghost use Rattle.wire.specs.Words.{requests_of};
+ghost use Rattle.wire_format.specs.Words.{requests_of};
 ghost use Rattle.view_change.specs.Sets.{texts_of};
 ghost use Rattle.desk.specs.Begun.{AddsCalls, NotesBegun};
 

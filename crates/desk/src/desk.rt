@@ -3,9 +3,9 @@
 
 ghost use Rattle.std.specs.Prelude.{◌≡◌, ◌+◌, ◌*◌, ◌^◌, ◌<◌, ◌≤◌, ◌↔◌, [], true, false, length, IfOk, IsFalse, IsTrue, OnOk};
 ghost use Rattle.protocol.specs.System.Configuration.{IsConfiguration};
-ghost use Rattle.wire.specs.Lists.{Each};
-ghost use Rattle.wire.specs.Spelling.{IsCarried, is_ordered_request};
-ghost use Rattle.wire.specs.Views.{texts_of};
+ghost use Rattle.wire_format.specs.Lists.{Each};
+ghost use Rattle.wire_format.specs.Spelling.{IsCarried, is_ordered_request};
+ghost use Rattle.wire_format.specs.Views.{texts_of};
 ghost use Rattle.desk.specs.State.{IsDesk};
 ghost use Rattle.desk.specs.Waiting.{count_unnumbered, texts, unnumbered, with_numbered};
 ghost use Rattle.desk.specs.Desking.{IsNewDesk, HasReply, RepliesAgain, RepliesToAll, RunsBatch, RunsWhole, SaysTo, Waits, message_of};

@@ -1,8 +1,8 @@
 //! The desk's part in state transfer: it serves parts of the kept states, and fetches a state that is ahead.
 
 ghost use Rattle.std.specs.Prelude.{◌≡◌, ◌≤◌, false, IfOk, IfSome, OnOk, option_map};
-ghost use Rattle.wire.specs.Views.{checkpoint_entry_data, message_data};
-ghost use Rattle.wire.specs.Spelling.{IsMessage, is_signed, last_index};
+ghost use Rattle.wire_format.specs.Views.{checkpoint_entry_data, message_data};
+ghost use Rattle.wire_format.specs.Spelling.{IsMessage, is_signed, last_index};
 ghost use Rattle.posting.specs.Endpoint.{FitsFrame};
 ghost use Rattle.state_transfer.specs.Places.{IsPlace};
 ghost use Rattle.desk.specs.Fetching.{AimsAt, AsksPart, GivesBack, GivesPart, HasPart, Installs, IsAskedFor, TakesDigests, TakesPage, aimed_at, closing_reached};

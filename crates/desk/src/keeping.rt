@@ -1,8 +1,8 @@
 //! The states that the desk keeps at checkpoints.
 
 ghost use Rattle.std.specs.Prelude.{◌≡◌, ◌<◌, ◌≤◌, length, IsTrue, OnErr, OnOk, option_map, IfOk};
-ghost use Rattle.wire.specs.Lists.{Each};
-ghost use Rattle.wire.specs.Views.{checkpoint_entries_data, checkpoint_entry_data};
+ghost use Rattle.wire_format.specs.Lists.{Each};
+ghost use Rattle.wire_format.specs.Views.{checkpoint_entries_data, checkpoint_entry_data};
 ghost use Rattle.protocol.specs.Replica.State.{pages_of};
 ghost use Rattle.replica_histories.specs.Views.{entries_of};
 ghost use Rattle.desk.specs.Keeping.{HaveShortPages, is_ascending};

@@ -1,7 +1,7 @@
 //! An open state transfer: the replica fetches a checkpoint's state part by part.
 
 ghost use Rattle.std.specs.Prelude.{◌≡◌, true, false, IfNone, IfOk, IfSome, OnErr, OnOk};
-ghost use Rattle.wire.specs.Views.{checkpoint_entry_data};
+ghost use Rattle.wire_format.specs.Views.{checkpoint_entry_data};
 ghost use Rattle.partition_tree.specs.Digests.{root_of};
 ghost use Rattle.state_transfer.specs.Places.{IsPlace};
 ghost use Rattle.execution.specs.Installing.{HasPagesAt, NoneFalls, NoneReplaces};

@@ -1,8 +1,8 @@
 //! The states that the replica keeps for others to fetch.
 
 ghost use Rattle.std.specs.Prelude.{◌≡◌, ◌≢◌, ◌<◌, ◌≤◌, [], length, IfNone, IfOk, IfSome, IsTrue, OnErr, OnOk, option_map};
-ghost use Rattle.wire.specs.Lists.{Each};
-ghost use Rattle.wire.specs.Views.{checkpoint_entries_data, checkpoint_entry_data};
+ghost use Rattle.wire_format.specs.Lists.{Each};
+ghost use Rattle.wire_format.specs.Views.{checkpoint_entries_data, checkpoint_entry_data};
 ghost use Rattle.protocol.specs.System.Trace.{Has};
 ghost use Rattle.replica_histories.specs.Desk.{kept_from};
 ghost use Rattle.replica_histories.specs.Views.{entries_of};

@@ -1,9 +1,9 @@
 //! Requests that wait for execution.
 
 ghost use Rattle.std.specs.Prelude.{◌≡◌, ◌≤◌, ◌++◌, ◌∷◌, [], not, length, map, filter, ◌↔◌, IfOk, IfSome, IsFalse, IsTrue, OnErr, OnOk};
-ghost use Rattle.wire.specs.Lists.{Each};
-ghost use Rattle.wire.specs.Spelling.{IsCarried, is_ordered_request};
-ghost use Rattle.wire.specs.Views.{texts_of};
+ghost use Rattle.wire_format.specs.Lists.{Each};
+ghost use Rattle.wire_format.specs.Spelling.{IsCarried, is_ordered_request};
+ghost use Rattle.wire_format.specs.Views.{texts_of};
 ghost use Rattle.desk.specs.Waiting.{IsRequest, count_unnumbered, none_waiting, lent, request_of, texts, unnumbered, unnumbered_texts, is_of, is_new, is_begun, all_numbered, renumbered, with_request, with_numbered, with_view, without, forgotten};
 
 use events::Stop;

@@ -4,10 +4,10 @@ use Rattle.std.specs.Prelude.{◌==◌}
 use Rattle.std.specs.List.{range_with_len}
 use Rattle.std.specs.Option.{option_map_or}
 use Rattle.std.proofs.lemmas.Bool.{eq-eqb, ne_eqb}
-use Rattle.wire.specs.Messages.{MessageData as Message, FrameData as Frame, AuthenticatorData as Authenticator, macs, signature}
-use Rattle.wire.specs.Spelling.{IsAuthenticator, SpellsFrame}
-use Rattle.wire.specs.Words.{frame_of, receivers_of}
-use Rattle.wire.proofs.Saying.{reads_frames, says_what_is_spelled}
+use Rattle.wire_format.specs.Messages.{MessageData as Message, FrameData as Frame, AuthenticatorData as Authenticator, macs, signature}
+use Rattle.wire_format.specs.Spelling.{IsAuthenticator, SpellsFrame}
+use Rattle.wire_format.specs.Words.{frame_of, receivers_of}
+use Rattle.wire_format.proofs.Saying.{reads_frames, says_what_is_spelled}
 use Rattle.protocol.specs.System.Configuration.{Configuration, replicas}
 use Rattle.protocol.specs.System.Frames.{IsPosted}
 use Rattle.protocol.specs.System.Schedule.{meant_for}

@@ -2,8 +2,8 @@
 use Rattle.std.specs.Prelude.{◌≡◌, ℕ, ◌-◌, List, [], ◌∷◌, map, ⊤}
 use Rattle.std.specs.Option.{option_map_or}
 use Rattle.terms.specs.Parties.{party_number}
-use Rattle.wire.specs.Lists.{Each}
-use Rattle.wire.specs.Words.{frame_of}
+use Rattle.wire_format.specs.Lists.{Each}
+use Rattle.wire_format.specs.Words.{frame_of}
 use Rattle.events.specs.declared.output.Output.{Output}
 use Rattle.events.specs.declared.output.Output.TheVariants as outputs
 use Rattle.tuple_codec.specs.OperationView.{outcome_of}

@@ -6,7 +6,7 @@ use Rattle.tuple_codec.specs.Operations.{Operation}
 use Rattle.reply_cache.specs.Replies.{Kept, no_replies}
 use Rattle.terms.specs.declared.order.Mode.TheVariants as modes
 use Rattle.terms.specs.declared.state.Level.TheVariants as levels
-use Rattle.wire.specs.Messages.{BodyData as Body, CheckpointEntryData as CheckpointEntry, request as Request, reply as Reply, fetch as Fetch, meta as Meta, page as Page, view_change as ViewChange}
+use Rattle.wire_format.specs.Messages.{BodyData as Body, CheckpointEntryData as CheckpointEntry, request as Request, reply as Reply, fetch as Fetch, meta as Meta, page as Page, view_change as ViewChange}
 use Rattle.protocol.specs.System.Configuration.{Configuration, members}
 use Rattle.signing.specs.Heard.{heard}
 use Rattle.protocol.specs.System.Trace.{Entry}

@@ -7,9 +7,9 @@ use Rattle.space.specs.Applying.{no_tuples, outcome, is_read_only}
 use Rattle.protocol.specs.System.Configuration.{Configuration, members}
 use Rattle.terms.specs.declared.order.Mode.TheVariants as modes
 use Rattle.terms.specs.declared.state.Level.TheVariants as levels
-use Rattle.wire.specs.Messages.{BodyData as Body, MessageData as Message, AuthenticatorData as Authenticator, CheckpointEntryData as CheckpointEntry, macs, signature, request as Request, pre_prepare as PrePrepare, reply as Reply, fetch as Fetch, meta as Meta, page as Page, view_change as ViewChange}
+use Rattle.wire_format.specs.Messages.{BodyData as Body, MessageData as Message, AuthenticatorData as Authenticator, CheckpointEntryData as CheckpointEntry, macs, signature, request as Request, pre_prepare as PrePrepare, reply as Reply, fetch as Fetch, meta as Meta, page as Page, view_change as ViewChange}
 use Rattle.signing.specs.Heard.{heard}
-use Rattle.wire.specs.Words.{receivers_of}
+use Rattle.wire_format.specs.Words.{receivers_of}
 use Rattle.protocol.specs.System.Trace.{Entry, Has}
 use Rattle.protocol.specs.System.Trace.Entry.{Got, Sent}
 use Rattle.protocol.specs.Replica.Certificates.{says_checkpoint, checkpoints_of, count_checkpoints}

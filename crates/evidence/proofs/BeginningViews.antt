@@ -4,8 +4,8 @@ use Rattle.std.specs.Prelude.{◌==◌, nat_lt, option_and_then}
 use Rattle.std.specs.Option.{option_map_or}
 use Rattle.std.specs.Bool.{then_some}
 use Rattle.quorum.specs.Votes.{or_else}
-use Rattle.wire.specs.Messages.{BodyData as Body, NewViewData, CheckpointEntryData as CheckpointEntry, pre_prepare as PrePrepare, new_view as NewView}
-use Rattle.wire.specs.Words.{said}
+use Rattle.wire_format.specs.Messages.{BodyData as Body, NewViewData, CheckpointEntryData as CheckpointEntry, pre_prepare as PrePrepare, new_view as NewView}
+use Rattle.wire_format.specs.Words.{said}
 use Rattle.wire.proofs.Skipping.{none_chosen}
 use Rattle.signing.specs.Heard.{signed_body}
 use Rattle.protocol.specs.System.Configuration.{Configuration, members}

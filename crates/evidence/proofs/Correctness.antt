@@ -1,7 +1,7 @@
 -- What holds of each history of a correct party.
 use Rattle.std.proofs.Common.{◌≡◌, true, subst}
 use Rattle.std.specs.Prelude.{All}
-use Rattle.wire.specs.Messages.{FrameData as Frame, AuthenticatorData as Authenticator, macs, signature}
+use Rattle.wire_format.specs.Messages.{FrameData as Frame, AuthenticatorData as Authenticator, macs, signature}
 use Rattle.authenticator.specs.Authentic.{mac_of}
 use Rattle.signing.specs.Heard.{has_signature}
 use Rattle.protocol.specs.System.Configuration.{Configuration}

@@ -7,7 +7,7 @@ use Rattle.tuple_codec.specs.Operations.{Outcome}
 use Rattle.protocol.specs.System.Configuration.{Configuration, members}
 use Rattle.terms.specs.declared.order.Mode.{Mode}
 use Rattle.terms.specs.declared.order.Mode.TheVariants as modes
-use Rattle.wire.specs.Messages.{BodyData as Body, MessageData as Message, reply as Reply}
+use Rattle.wire_format.specs.Messages.{BodyData as Body, MessageData as Message, reply as Reply}
 use Rattle.signing.specs.Heard.{heard}
 use Rattle.protocol.specs.System.Trace.{Entry, Hears}
 use Rattle.protocol.specs.System.Trace.Entry.{Invoke, Got}

@@ -12,7 +12,7 @@ use Rattle.protocol.specs.System.Schedule.StepsLead.{ends, gives, called, delive
 use Rattle.evidence.specs.Fed.{CallsAreFed, DeliveriesAreFed, BytesAreFed, TicksAreFed, SealedAreMade, SignedAreMade}
 use Rattle.evidence.proofs.RefusingStepsAllowed.{allows_what_may_come}
 use Rattle.protocol.proofs.Words.Elements.{each_append}
-use Rattle.wire.specs.Lists.{Each}
+use Rattle.wire_format.specs.Lists.{Each}
 
 -- ---- one schedule after another
 

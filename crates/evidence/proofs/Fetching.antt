@@ -10,7 +10,7 @@ use Rattle.partition_tree.specs.Digests.{digest_of_children, page_digests, inner
 use Rattle.protocol.specs.System.Configuration.{Configuration, is_correct_client, is_correct, members}
 use Rattle.terms.specs.declared.state.Level.{Level}
 use Rattle.terms.specs.declared.state.Level.TheVariants as levels
-use Rattle.wire.specs.Messages.{BodyData as Body, CheckpointEntryData as CheckpointEntry, checkpoint as Checkpoint, fetch as Fetch, meta as Meta, page as Page}
+use Rattle.wire_format.specs.Messages.{BodyData as Body, CheckpointEntryData as CheckpointEntry, checkpoint as Checkpoint, fetch as Fetch, meta as Meta, page as Page}
 use Rattle.signing.specs.Heard.{heard}
 use Rattle.protocol.specs.System.Trace.{Entry, party_of, history_of, Once, Always, Hears}
 use Rattle.protocol.specs.System.Trace.Entry.{Got, Sent}

@@ -7,9 +7,9 @@ use Rattle.sha2.specs.Sha256.{sha256}
 use Rattle.sha2.proofs.Facts256.{length-sha256}
 use Rattle.partition_tree.specs.Digests.{page_digests, inner_digests, root_of as root_of_pages}
 use Rattle.terms.specs.declared.state.Level.TheVariants as levels
-use Rattle.wire.specs.Lists.{Each, each_spelling}
-use Rattle.wire.specs.Messages.{BodyData as Body, MessageData as Message, checkpoint as Checkpoint, fetch as Fetch, meta as Meta, page as Page}
-use Rattle.wire.specs.Spelling.{IsDigest, body_spelling}
+use Rattle.wire_format.specs.Lists.{Each, each_spelling}
+use Rattle.wire_format.specs.Messages.{BodyData as Body, MessageData as Message, checkpoint as Checkpoint, fetch as Fetch, meta as Meta, page as Page}
+use Rattle.wire_format.specs.Spelling.{IsDigest, body_spelling}
 use Rattle.protocol.specs.System.Configuration.{Configuration, replicas}
 use Rattle.protocol.specs.System.Trace.{Has}
 use Rattle.protocol.specs.Replica.State.{all_pages}

@@ -7,7 +7,7 @@ use Rattle.quorum.proofs.Counting.{count_same}
 use Rattle.partition_tree.specs.Digests.{root_of as root_of_pages}
 use Rattle.terms.specs.declared.order.Mode.TheVariants as modes
 use Rattle.terms.specs.declared.state.Level.TheVariants as levels
-use Rattle.wire.specs.Messages.{BodyData as Body, CheckpointEntryData as CheckpointEntry, request as Request, view_change as ViewChange, fetch as Fetch, meta as Meta, page as Page}
+use Rattle.wire_format.specs.Messages.{BodyData as Body, CheckpointEntryData as CheckpointEntry, request as Request, view_change as ViewChange, fetch as Fetch, meta as Meta, page as Page}
 use Rattle.signing.specs.Heard.{heard}
 use Rattle.protocol.specs.System.Configuration.{Configuration, members}
 use Rattle.protocol.specs.System.Trace.{Entry, history_of, Once, Has}

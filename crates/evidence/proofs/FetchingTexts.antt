@@ -8,8 +8,8 @@ use Rattle.std.proofs.lemmas.Bool.{eqb-false}
 use Rattle.partition_tree.specs.Digests.{page_digests, inner_digests, root_of as root_of_pages}
 use Rattle.protocol.specs.System.Configuration.{Configuration}
 use Rattle.terms.specs.declared.state.Level.TheVariants as levels
-use Rattle.wire.specs.Messages.{BodyData as Body, MessageData as Message, checkpoint as Checkpoint, fetch as Fetch, meta as Meta, page as Page}
-use Rattle.wire.specs.Words.{said}
+use Rattle.wire_format.specs.Messages.{BodyData as Body, MessageData as Message, checkpoint as Checkpoint, fetch as Fetch, meta as Meta, page as Page}
+use Rattle.wire_format.specs.Words.{said}
 use Rattle.protocol.specs.System.Trace.{Entry, Has}
 use Rattle.protocol.specs.System.Trace.Entry.{Got, Sent}
 use Rattle.protocol.specs.Replica.State.{all_pages}

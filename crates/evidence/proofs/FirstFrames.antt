@@ -12,11 +12,11 @@ use Rattle.tuple_codec.specs.Spelling.{outcome_spelling}
 use Rattle.tuple_tree.proofs.Readers.{bytes_append}
 use Rattle.space.specs.Applying.{is_read_only, is_forbidden, no_tuples, served_outcome}
 use Rattle.terms.specs.declared.order.Mode.TheVariants as modes
-use Rattle.wire.specs.Lists.{Each, ascends}
-use Rattle.wire.specs.Messages.{BodyData as Body, MessageData as Message, request as Request, pre_prepare as PrePrepare, prepare as Prepare, commit as Commit, reply as Reply}
-use Rattle.wire.specs.Spelling.{IsDigest, IsMessage, IsBatch, IsCarried, is_ordered_request, is_signed, piece, pieces_spelling, fields_spelling, body_spelling, frame_limit}
+use Rattle.wire_format.specs.Lists.{Each, ascends}
+use Rattle.wire_format.specs.Messages.{BodyData as Body, MessageData as Message, request as Request, pre_prepare as PrePrepare, prepare as Prepare, commit as Commit, reply as Reply}
+use Rattle.wire_format.specs.Spelling.{IsDigest, IsMessage, IsBatch, IsCarried, is_ordered_request, is_signed, piece, pieces_spelling, fields_spelling, body_spelling, frame_limit}
 use Rattle.tuple_codec.proofs.Lengths.{operation_short}
-use Rattle.wire.proofs.Telling.{reads_requests}
+use Rattle.wire_format.proofs.Telling.{reads_requests}
 use Rattle.authenticator.specs.Membership.{sends}
 use Rattle.authenticator.specs.Sealing.{sealed_for}
 use Rattle.protocol.specs.System.Configuration.{Configuration, IsConfiguration, replicas, members}

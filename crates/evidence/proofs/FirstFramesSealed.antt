@@ -4,9 +4,9 @@ use Rattle.std.specs.Prelude.{nat_lt, nat_le}
 use Rattle.std.proofs.lemmas.Bool.{and_parts, and_from, ltb-true, lt-ltb}
 use Rattle.std.specs.Int.{w32, to_be_bytes}
 use Rattle.std.proofs.lemmas.List.Elements.{All-map}
-use Rattle.wire.specs.Lists.{Each, each_spelling, leads, ascends}
-use Rattle.wire.specs.Messages.{BodyData as Body, MessageData as Message, MacData, FrameData as Frame, request as Request}
-use Rattle.wire.specs.Spelling.{IsMac, mac_spelling, body_spelling, frame_limit, SpellsFrame}
+use Rattle.wire_format.specs.Lists.{Each, each_spelling, leads, ascends}
+use Rattle.wire_format.specs.Messages.{BodyData as Body, MessageData as Message, MacData, FrameData as Frame, request as Request}
+use Rattle.wire_format.specs.Spelling.{IsMac, mac_spelling, body_spelling, frame_limit, SpellsFrame}
 use Rattle.authenticator.specs.Keys.{key_between}
 use Rattle.authenticator.specs.Authentic.{mac_of}
 use Rattle.authenticator.specs.Membership.{sends}
@@ -22,7 +22,7 @@ use Rattle.signing.specs.Heard.{heard}
 use Rattle.protocol.specs.System.Trace.{Has}
 use Rattle.protocol.specs.System.Schedule.{is_party, sealed_bytes}
 use Rattle.evidence.specs.FirstOperation.{IsFrom, SealedFramesAreHeard}
-use Rattle.wire.proofs.Saying.{reads_frames, reads_said}
+use Rattle.wire_format.proofs.Saying.{reads_frames, reads_said}
 
 -- ---- the entries of an authenticator
 

@@ -6,10 +6,10 @@ use Rattle.tuple_codec.specs.Operations.{Operation, Outcome}
 use Rattle.std.specs.Bool.{then_some}
 use Rattle.std.proofs.lemmas.Bool.{eq-eqb}
 use Rattle.terms.specs.declared.order.Mode.TheVariants as modes
-use Rattle.wire.specs.Messages.{BodyData as Body, FrameData as Frame, reply as Reply}
+use Rattle.wire_format.specs.Messages.{BodyData as Body, FrameData as Frame, reply as Reply}
 use Rattle.protocol.specs.System.Configuration.{Configuration, members}
 use Rattle.signing.specs.Heard.{heard}
-use Rattle.wire.specs.Words.{receivers_of}
+use Rattle.wire_format.specs.Words.{receivers_of}
 use Rattle.protocol.specs.System.Frames.{IsSealed}
 use Rattle.protocol.specs.System.Trace.{Entry}
 use Rattle.protocol.specs.System.Trace.Entry.{Invoke, Got, Sent, Accepted}

@@ -7,8 +7,8 @@ use Rattle.tuple_codec.specs.Operations.{Operation}
 use Rattle.reply_cache.specs.Replies.{no_replies}
 use Rattle.protocol.specs.System.Configuration.{Configuration, IsConfiguration, members}
 use Rattle.terms.specs.declared.order.Mode.TheVariants as modes
-use Rattle.wire.specs.Messages.{BodyData as Body, pre_prepare as PrePrepare}
-use Rattle.wire.specs.Words.{requests_of}
+use Rattle.wire_format.specs.Messages.{BodyData as Body, pre_prepare as PrePrepare}
+use Rattle.wire_format.specs.Words.{requests_of}
 use Rattle.signing.specs.Heard.{heard}
 use Rattle.protocol.specs.System.Trace.{Entry, Once, Has}
 use Rattle.protocol.specs.System.Trace.Entry.{Got, Executed, Sent}
@@ -26,7 +26,7 @@ use Rattle.evidence.proofs.FirstReplicasSteps.{Part, asks, proposes, prepares, c
 use Rattle.evidence.proofs.FirstReplicasEvents as events
 use Rattle.evidence.proofs.FirstReplicasEvents.{IsSender}
 use Rattle.protocol.proofs.Words.Plain.{taken_none}
-use Rattle.wire.specs.Lists.{Each}
+use Rattle.wire_format.specs.Lists.{Each}
 
 first_sender : IsSender 0 1
 first_sender = record { within = omega arith; gets = refl }

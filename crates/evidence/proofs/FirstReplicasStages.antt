@@ -7,9 +7,9 @@ use Rattle.sha2.specs.Sha256.{sha256}
 use Rattle.std.specs.Bool.{then_some}
 use Rattle.quorum.specs.Votes.{or_else}
 use Rattle.protocol.specs.System.Configuration.{Configuration, primary, members}
-use Rattle.wire.specs.Messages.{BodyData as Body, CheckpointEntryData as CheckpointEntry, request as Request, pre_prepare as PrePrepare, prepare as Prepare, commit as Commit, reply as Reply, fetch as Fetch, meta as Meta}
+use Rattle.wire_format.specs.Messages.{BodyData as Body, CheckpointEntryData as CheckpointEntry, request as Request, pre_prepare as PrePrepare, prepare as Prepare, commit as Commit, reply as Reply, fetch as Fetch, meta as Meta}
 use Rattle.signing.specs.Heard.{heard}
-use Rattle.wire.specs.Words.{said}
+use Rattle.wire_format.specs.Words.{said}
 use Rattle.wire.proofs.Skipping.{none_chosen}
 use Rattle.protocol.specs.System.Trace.{Entry}
 use Rattle.protocol.specs.System.Trace.Entry.{Got, Executed, Sent}

@@ -9,8 +9,8 @@ use Rattle.tuple_codec.specs.Operations.{Operation}
 use Rattle.reply_cache.specs.Replies.{no_replies}
 use Rattle.protocol.specs.System.Configuration.{Configuration, IsConfiguration, members}
 use Rattle.terms.specs.declared.order.Mode.TheVariants as modes
-use Rattle.wire.specs.Messages.{BodyData as Body, MessageData as Message, FrameData as Frame, macs, request as Request, pre_prepare as PrePrepare, prepare as Prepare, commit as Commit, reply as Reply}
-use Rattle.wire.specs.Words.{carried, requests_of, receivers_of}
+use Rattle.wire_format.specs.Messages.{BodyData as Body, MessageData as Message, FrameData as Frame, macs, request as Request, pre_prepare as PrePrepare, prepare as Prepare, commit as Commit, reply as Reply}
+use Rattle.wire_format.specs.Words.{carried, requests_of, receivers_of}
 use Rattle.signing.specs.Heard.{heard}
 use Rattle.protocol.specs.System.Frames.{IsSealed}
 use Rattle.protocol.specs.System.Trace.{Entry, Once, Has}
@@ -23,7 +23,7 @@ use Rattle.evidence.specs.FirstOperation.{FirstFrames, IsFrom, AreFirstFrames, f
 use Rattle.protocol.proofs.Points.Keeping.{executed_times}
 use Rattle.protocol.proofs.Words.Options.{some_injective}
 use Rattle.protocol.proofs.Words.Elements.{has_of_any}
-use Rattle.wire.specs.Lists.{Each}
+use Rattle.wire_format.specs.Lists.{Each}
 use Rattle.protocol.proofs.Words.Leaving.{executed_number}
 use Rattle.protocol.proofs.Words.Posting.{macs_have_no_leaf}
 

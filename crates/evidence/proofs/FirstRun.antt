@@ -8,8 +8,8 @@ use Rattle.tuple_codec.specs.Operations.{Operation}
 use Rattle.protocol.specs.System.Configuration.{Configuration, IsConfiguration, is_replica, is_client, is_correct_client, is_correct}
 use Rattle.protocol.specs.System.Trace.{Entry, party_of, is_output, history_of, Always, Once, SendsBody, IsFromSender, IsUnforgedAt, Unforged, carried_by}
 use Rattle.protocol.specs.System.Trace.Entry.{Sent}
-use Rattle.wire.specs.Messages.{BodyData as Body}
-use Rattle.wire.specs.Words.{carried, said}
+use Rattle.wire_format.specs.Messages.{BodyData as Body}
+use Rattle.wire_format.specs.Words.{carried, said}
 use Rattle.protocol.specs.Client.RightClient.{IsClient}
 use Rattle.protocol.specs.Replica.Owed.{IsReplica}
 use Rattle.protocol.specs.System.Run.{OutputFollows, IsRun}
@@ -20,7 +20,7 @@ use Rattle.protocol.proofs.Words.Linking.{heard_said, signed_said}
 use Rattle.evidence.proofs.FirstScheduleMoves.{or_cases, is_known, known_correct, Row, Move, moves, row, entry_of, moves_make, is_row}
 use Rattle.evidence.proofs.FirstScheduleMoves.Move.{asks, sends, gets, runs, accepts}
 use Rattle.evidence.proofs.FirstClient
-use Rattle.wire.specs.Lists.{Each}
+use Rattle.wire_format.specs.Lists.{Each}
 
 -- ---- parties
 

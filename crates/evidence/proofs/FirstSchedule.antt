@@ -8,9 +8,9 @@ use Rattle.std.proofs.lemmas.List.{append-nil}
 use Rattle.std.proofs.lemmas.Option.{slice_get-map, slice_get_within}
 use Rattle.tuple_codec.specs.Operations.{Operation}
 use Rattle.quorum.specs.Votes.{or_else}
-use Rattle.wire.specs.Messages.{FrameData as Frame, AuthenticatorData as Authenticator, MacData, macs, signature}
+use Rattle.wire_format.specs.Messages.{FrameData as Frame, AuthenticatorData as Authenticator, MacData, macs, signature}
 use Rattle.protocol.specs.System.Configuration.{Configuration, IsConfiguration, is_correct}
-use Rattle.wire.specs.Words.{receivers_of}
+use Rattle.wire_format.specs.Words.{receivers_of}
 use Rattle.protocol.specs.System.Trace.{Entry}
 use Rattle.protocol.specs.System.Trace.Entry.{Invoke, Got, Executed, Sent}
 use Rattle.protocol.specs.System.Schedule.{calls, flush, Made, meant_for, made_by, World, new_world, with_entry, is_delivered, next_receiver, next_pair, pending, StepsLead, Feeds}
@@ -19,7 +19,7 @@ use Rattle.evidence.specs.Examples.{four}
 use Rattle.evidence.specs.FirstOperation.{FirstFrames, AreFirstFrames, IsFrom, first_trace, FirstOperationIsFed}
 use Rattle.evidence.proofs.FirstScheduleMoves.{is_known, known_correct, Row, Move, moves, row, entry_of, is_row, are_known}
 use Rattle.evidence.proofs.FirstScheduleMoves.Move.{asks, sends, gets, runs, accepts}
-use Rattle.wire.specs.Lists.{Each}
+use Rattle.wire_format.specs.Lists.{Each}
 
 -- ---- what comes next if all receivers are correct
 

@@ -13,7 +13,7 @@ use Rattle.evidence.specs.Fed.{with_delivery, IsGot, FlushesAreFed}
 use Rattle.protocol.proofs.Words.Options.{some_injective}
 use Rattle.evidence.proofs.Feeding.{joins, each_reverse}
 use Rattle.evidence.proofs.Flushing.{left, not_left, pending_next, flush_delivers_next}
-use Rattle.wire.specs.Lists.{Each}
+use Rattle.wire_format.specs.Lists.{Each}
 
 -- ---- how many receivers a frame is left for, and all frames; the frames are numbered from k on
 

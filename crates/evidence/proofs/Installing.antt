@@ -12,7 +12,7 @@ use Rattle.terms.specs.declared.state.Level.TheVariants as levels
 use Rattle.protocol.specs.Replica.Transfers.{place_from, asked_last, took, in_place, DiffersFirst}
 use Rattle.protocol.proofs.Words.Paging.{header_at}
 use Rattle.protocol.specs.System.Configuration.{Configuration, members}
-use Rattle.wire.specs.Messages.{BodyData as Body, checkpoint as Checkpoint, meta as Meta, page as Page}
+use Rattle.wire_format.specs.Messages.{BodyData as Body, checkpoint as Checkpoint, meta as Meta, page as Page}
 use Rattle.space.specs.Pages.{header_text}
 use Rattle.signing.specs.Heard.{heard}
 use Rattle.protocol.specs.System.Trace.{Entry, Once, Hears}

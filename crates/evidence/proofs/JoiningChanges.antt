@@ -6,9 +6,9 @@ use Rattle.std.proofs.lemmas.Bool.{and_parts, le-leb, leb-true, ltb-true, ne_eqb
 use Rattle.quorum.specs.Quorum.{count_below}
 use Rattle.quorum.proofs.Counting.{count_mono, count_with}
 use Rattle.std.specs.Bool.{then_some}
-use Rattle.wire.specs.Messages.{BodyData as Body, FrameData as Frame, AuthenticatorData as Authenticator, ViewChangeData, NewViewData, macs, signature, pre_prepare as PrePrepare, view_change as ViewChange}
-use Rattle.wire.specs.Spelling.{body_spelling}
-use Rattle.wire.proofs.Saying.{reads_frames}
+use Rattle.wire_format.specs.Messages.{BodyData as Body, FrameData as Frame, AuthenticatorData as Authenticator, ViewChangeData, NewViewData, macs, signature, pre_prepare as PrePrepare, view_change as ViewChange}
+use Rattle.wire_format.specs.Spelling.{body_spelling}
+use Rattle.wire_format.proofs.Saying.{reads_frames}
 use Rattle.authenticator.specs.Keys.{signing_seed}
 use Rattle.authenticator.specs.Authentic.{mac_of}
 use Rattle.authenticator.specs.Membership.{has_sender}
@@ -16,7 +16,7 @@ use Rattle.signing.specs.Signatures.{public_key}
 use Rattle.signing.specs.Heard.{signs, has_signature, heard, signed_body}
 use Rattle.signing.proofs.Heard.{signed_is_heard, signed_was_signed}
 use Rattle.protocol.specs.System.Configuration.{Configuration, primary, members}
-use Rattle.wire.specs.Words.{frame_of, said}
+use Rattle.wire_format.specs.Words.{frame_of, said}
 use Rattle.protocol.specs.System.Frames.{IsSealed}
 use Rattle.protocol.specs.System.Trace.{Entry, Has}
 use Rattle.protocol.specs.System.Trace.Entry.{Got, Sent}

@@ -5,10 +5,10 @@ use Rattle.std.specs.Option.{option_map_or}
 use Rattle.std.proofs.lemmas.List.{length-append}
 use Rattle.std.proofs.lemmas.List.FromFn.{length-map-range_with_len}
 use Rattle.partition_tree.specs.Digests.{page_digests}
-use Rattle.wire.specs.Messages.{BodyData as Body, MessageData as Message, new_view as NewView}
-use Rattle.wire.specs.Spelling.{IsMessage}
-use Rattle.wire.specs.Words.{said}
-use Rattle.wire.proofs.Saying.{says_what_is_spelled}
+use Rattle.wire_format.specs.Messages.{BodyData as Body, MessageData as Message, new_view as NewView}
+use Rattle.wire_format.specs.Spelling.{IsMessage}
+use Rattle.wire_format.specs.Words.{said}
+use Rattle.wire_format.proofs.Saying.{says_what_is_spelled}
 use Rattle.protocol.specs.System.Configuration.{Configuration}
 use Rattle.protocol.specs.System.Trace.{Entry, history_of, Once, Has}
 use Rattle.protocol.specs.System.Trace.Entry.{Got, Executed, Installed, Sent}

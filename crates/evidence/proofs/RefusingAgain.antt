@@ -2,7 +2,7 @@
 use Rattle.std.proofs.Common.{◌≡◌, ℕ, suc, ◌≤◌, ◌<◌, inl, inr, Bool, true, false, cond, List, [], ◌∷◌, ◌++◌, length, fold, refl, sym, ap, ◌∙◌, subst, arith, Option, Some, None}
 use Rattle.std.specs.Option.{option_map_or}
 use Rattle.std.proofs.lemmas.Bool.{ltb-false, ltb-true}
-use Rattle.wire.specs.Words.{requests_of}
+use Rattle.wire_format.specs.Words.{requests_of}
 use Rattle.protocol.specs.System.Configuration.{Configuration, IsConfiguration}
 use Rattle.protocol.specs.System.Trace.{Entry, Always, Has}
 use Rattle.protocol.specs.System.Trace.Entry.{Invoke, Executed, Installed, Accepted}

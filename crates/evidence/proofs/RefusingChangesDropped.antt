@@ -10,7 +10,7 @@ use Rattle.std.specs.Bool.{then_some}
 use Rattle.protocol.specs.System.Configuration.{Configuration, primary, is_number, members}
 use Rattle.terms.specs.declared.order.Mode.TheVariants as modes
 use Rattle.terms.specs.declared.state.Level.TheVariants as levels
-use Rattle.wire.specs.Messages.{BodyData as Body, MessageData as Message, ViewChangeData, CheckpointEntryData as CheckpointEntry, request as Request, pre_prepare as PrePrepare, prepare as Prepare, commit as Commit, checkpoint as Checkpoint, view_change as ViewChange, new_view as NewView, fetch as Fetch, meta as Meta, page as Page}
+use Rattle.wire_format.specs.Messages.{BodyData as Body, MessageData as Message, ViewChangeData, CheckpointEntryData as CheckpointEntry, request as Request, pre_prepare as PrePrepare, prepare as Prepare, commit as Commit, checkpoint as Checkpoint, view_change as ViewChange, new_view as NewView, fetch as Fetch, meta as Meta, page as Page}
 use Rattle.signing.specs.Heard.{heard}
 use Rattle.protocol.specs.System.Trace.{Entry, Has}
 use Rattle.protocol.specs.System.Trace.Entry.{Invoke, Got, Sent}

@@ -6,7 +6,7 @@ use Rattle.std.specs.Option.{option_map_or}
 use Rattle.std.proofs.lemmas.Bool.{le-leb, lt-ltb, ltb-true}
 use Rattle.protocol.specs.System.Configuration.{Configuration, is_client, members}
 use Rattle.terms.specs.declared.order.Mode.TheVariants as modes
-use Rattle.wire.specs.Messages.{BodyData as Body, request as Request}
+use Rattle.wire_format.specs.Messages.{BodyData as Body, request as Request}
 use Rattle.signing.specs.Heard.{heard}
 use Rattle.protocol.specs.System.Trace.{Entry, Has}
 use Rattle.protocol.specs.System.Trace.Entry.{Invoke, Got, Tick, Executed, Installed, Sent, Accepted}
@@ -14,7 +14,7 @@ use Rattle.protocol.specs.Replica.State.{State, Call, call_in, execute, last_tim
 use Rattle.protocol.specs.Replica.RightReplica.{Point, May, Moves, is_newer, with_waiting, waiting_after, still_waiting}
 use Rattle.evidence.specs.RefusedChanges.{is_other, WaitsOnceGot, WaitsOverFrames, WaitsUntilRun, WaitsNoLonger}
 use Rattle.protocol.proofs.Words.Elements.{every_has, each_with, has_left, has_right, has_weaker}
-use Rattle.wire.specs.Lists.{Each}
+use Rattle.wire_format.specs.Lists.{Each}
 
 -- ---- lists
 

@@ -3,8 +3,8 @@ use Rattle.std.proofs.Common.{◌≡◌, ◌≢◌, ℕ, ◌⊎◌, inl, inr, tr
 use Rattle.std.specs.Prelude.{is_some, option_and_then}
 use Rattle.terms.specs.declared.state.Level.{Level}
 use Rattle.terms.specs.declared.state.Level.TheVariants as levels
-use Rattle.wire.specs.Messages.{BodyData as Body, fetch as Fetch}
-use Rattle.wire.specs.Words.{said}
+use Rattle.wire_format.specs.Messages.{BodyData as Body, fetch as Fetch}
+use Rattle.wire_format.specs.Words.{said}
 use Rattle.protocol.specs.System.Configuration.{Configuration}
 use Rattle.protocol.specs.System.Trace.{Entry}
 use Rattle.protocol.specs.System.Trace.Entry.{Got, Sent}

@@ -4,7 +4,7 @@ use Rattle.std.specs.Prelude.{◌==◌, nat_le, reverse, ⊤}
 use mathlib.Core.List.{reverse_aux}
 use Rattle.std.proofs.lemmas.Bool.{leb-true, le-leb}
 use Rattle.protocol.specs.System.Configuration.{Configuration}
-use Rattle.wire.specs.Messages.{ViewChangeData, CheckpointEntryData as CheckpointEntry, meta as Meta, page as Page}
+use Rattle.wire_format.specs.Messages.{ViewChangeData, CheckpointEntryData as CheckpointEntry, meta as Meta, page as Page}
 use Rattle.protocol.specs.System.Trace.{Entry, Has}
 use Rattle.protocol.specs.System.Trace.Entry.{Invoke, Got, Tick, Executed, Installed, Sent, Accepted}
 use Rattle.protocol.specs.Replica.Certificates.{low}
@@ -15,7 +15,7 @@ use Rattle.evidence.specs.RefusedKept.{GivesNoLowDigests, GivesNoLowPages, Insta
 use Rattle.evidence.proofs.RefusingChanges.{new_change}
 use Rattle.evidence.proofs.RefusingRuns.{says_may}
 use Rattle.protocol.proofs.Words.Elements.{has_some, each_filtered, each_has, each_mapped, each_turned, each_weaker, has_filtered, has_mapped}
-use Rattle.wire.specs.Lists.{Each}
+use Rattle.wire_format.specs.Lists.{Each}
 use Rattle.protocol.proofs.Words.Leaving.{executed_number}
 
 -- ---- lists

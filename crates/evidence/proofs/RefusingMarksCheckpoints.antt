@@ -4,7 +4,7 @@ use Rattle.std.specs.Prelude.{◌==◌, option_and_then}
 use Rattle.std.proofs.lemmas.Bool.{ltb-true, lt-ltb}
 use Rattle.std.specs.Bool.{then_some}
 use Rattle.protocol.specs.System.Configuration.{Configuration, is_number}
-use Rattle.wire.specs.Messages.{MessageData as Message, CheckpointEntryData as CheckpointEntry, checkpoint as Checkpoint}
+use Rattle.wire_format.specs.Messages.{MessageData as Message, CheckpointEntryData as CheckpointEntry, checkpoint as Checkpoint}
 use Rattle.protocol.specs.System.Trace.{Entry, Once, Has}
 use Rattle.protocol.specs.System.Trace.Entry.{Got, Sent}
 use Rattle.protocol.specs.Replica.Certificates.{brought, checkpoint_from, checkpoint_in, insert_checkpoint, with_checkpoint, checkpoints_of}
@@ -13,7 +13,7 @@ use Rattle.protocol.proofs.Words.Options.{and_then_some, then_some_gives}
 use Rattle.protocol.proofs.Agreement.Checkpoints.{IsBelow, Descends, Order, order, inserted_same, inserted_less, inserted_more, descends_inserted, checkpoints_with, no_checkpoints, descends_of, few_checkpoints, known_checkpoint}
 use Rattle.protocol.proofs.Agreement.Checkpoints.Order.{same, less, more}
 use Rattle.evidence.proofs.RefusingMarksLow.{entry_of}
-use Rattle.wire.specs.Lists.{Each}
+use Rattle.wire_format.specs.Lists.{Each}
 
 -- ---- lists that descend
 

@@ -7,7 +7,7 @@ use Rattle.std.proofs.lemmas.Slice.Eq.{bytes_eq-Decides}
 use Rattle.quorum.specs.Quorum.{count_below}
 use Rattle.quorum.proofs.Counting.{count_mono}
 use Rattle.protocol.specs.System.Configuration.{Configuration, replicas}
-use Rattle.wire.specs.Messages.{NewViewData, CheckpointEntryData as CheckpointEntry}
+use Rattle.wire_format.specs.Messages.{NewViewData, CheckpointEntryData as CheckpointEntry}
 use Rattle.protocol.specs.System.Trace.{Entry, Once, Has}
 use Rattle.protocol.specs.System.Trace.Entry.{Installed}
 use Rattle.protocol.specs.Replica.Selection.{is_quorum}

@@ -2,8 +2,8 @@
 use Rattle.std.proofs.Common.{◌≡◌, ◌≢◌, ℕ, ◌<◌, ◌⊎◌, inl, inr, true, List, [], ◌∷◌, ◌++◌, refl, sym, ap, ◌∙◌, subst, arith, Some}
 use Rattle.std.specs.Prelude.{option_and_then}
 use Rattle.std.proofs.lemmas.Slice.Eq.{bytes_eq-Decides}
-use Rattle.wire.specs.Lists.{Each}
-use Rattle.wire.specs.Messages.{ViewChangeData, NewViewData, view_change as ViewChange}
+use Rattle.wire_format.specs.Lists.{Each}
+use Rattle.wire_format.specs.Messages.{ViewChangeData, NewViewData, view_change as ViewChange}
 use Rattle.protocol.specs.System.Configuration.{Configuration}
 use Rattle.protocol.specs.System.Frames.{leaf_of}
 use Rattle.protocol.specs.System.Trace.{Entry}

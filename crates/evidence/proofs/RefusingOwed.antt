@@ -9,8 +9,8 @@ use Rattle.protocol.specs.System.Trace.Entry.{Got, Tick, Executed, Sent}
 use Rattle.protocol.specs.Replica.State.{State, root_of, Call}
 use Rattle.protocol.specs.Replica.RightReplica.{Point, HistoryReaches, Executes, IsInstalled, IsRootWanted, TimesOut, JoinsOthers}
 use Rattle.protocol.specs.Replica.Transfers.{fetch_sent, fetching}
-use Rattle.wire.specs.Words.{requests_of, said}
-use Rattle.wire.specs.Messages.{pre_prepare as PrePrepare, checkpoint as Checkpoint, reply as Reply, ViewChangeData, view_change as ViewChange}
+use Rattle.wire_format.specs.Words.{requests_of, said}
+use Rattle.wire_format.specs.Messages.{pre_prepare as PrePrepare, checkpoint as Checkpoint, reply as Reply, ViewChangeData, view_change as ViewChange}
 use Rattle.terms.specs.declared.state.Level.TheVariants as levels
 use Rattle.terms.specs.declared.order.Mode.TheVariants as modes
 use Rattle.tuple_codec.specs.Operations.{Outcome}

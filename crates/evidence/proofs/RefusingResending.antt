@@ -1,6 +1,6 @@
 -- The definitions refuse a correct replica that goes on and does not send again what it sent.
 use Rattle.std.proofs.Common.{◌≡◌, ℕ, true, List, reverse}
-use Rattle.wire.specs.Messages.{view_change as ViewChange, new_view as NewView}
+use Rattle.wire_format.specs.Messages.{view_change as ViewChange, new_view as NewView}
 use Rattle.protocol.specs.System.Configuration.{Configuration}
 use Rattle.protocol.specs.System.Trace.{Entry}
 use Rattle.protocol.specs.System.Trace.Entry.{Got}

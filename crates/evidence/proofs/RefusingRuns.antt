@@ -15,9 +15,9 @@ use Rattle.quorum.proofs.Counting.{count_mono}
 use Rattle.protocol.specs.System.Configuration.{Configuration, replicas, members}
 use Rattle.terms.specs.declared.order.Mode.{Mode}
 use Rattle.terms.specs.declared.order.Mode.TheVariants as modes
-use Rattle.wire.specs.Messages.{BodyData as Body, MessageData as Message, BatchEntryData as BatchEntry, request as Request, view_change as ViewChange, new_view as NewView, reply as Reply}
+use Rattle.wire_format.specs.Messages.{BodyData as Body, MessageData as Message, BatchEntryData as BatchEntry, request as Request, view_change as ViewChange, new_view as NewView, reply as Reply}
 use Rattle.signing.specs.Heard.{heard}
-use Rattle.wire.specs.Words.{said, receivers_of}
+use Rattle.wire_format.specs.Words.{said, receivers_of}
 use Rattle.protocol.specs.System.Frames.{same_mode}
 use Rattle.protocol.specs.System.Trace.{Entry, is_output, Once, Always, Has, AreOutputs, either}
 use Rattle.protocol.specs.System.Trace.Entry.{Invoke, Got, Tick, Sent, Accepted}

@@ -5,8 +5,8 @@ use Rattle.std.proofs.lemmas.Bool.{and_parts}
 use Rattle.tuple_codec.specs.Operations.{Operation}
 use Rattle.quorum.specs.Votes.{or_else}
 use Rattle.protocol.specs.System.Configuration.{Configuration, is_correct}
-use Rattle.wire.specs.Words.{frame_of}
-use Rattle.wire.specs.Messages.{FrameData as Frame}
+use Rattle.wire_format.specs.Words.{frame_of}
+use Rattle.wire_format.specs.Messages.{FrameData as Frame}
 use Rattle.std.specs.Option.{option_map_or}
 use Rattle.protocol.specs.System.Trace.{Entry, is_output, Has}
 use Rattle.protocol.specs.System.Trace.Entry.{Invoke, Got, Tick, Sent}
@@ -17,7 +17,7 @@ use Rattle.evidence.specs.RefusedRuns.{calls_for, invokes_for, FeedsEachCall, ti
 use Rattle.protocol.proofs.Words.Options.{some_injective}
 use Rattle.protocol.proofs.Words.Elements.{some_of_has, each_has}
 use Rattle.protocol.proofs.Words.Scheduling.{past_of}
-use Rattle.wire.specs.Lists.{Each}
+use Rattle.wire_format.specs.Lists.{Each}
 
 -- ---- no more calls and ticks than the steps have
 

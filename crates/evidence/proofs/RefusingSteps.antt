@@ -10,7 +10,7 @@ use Rattle.evidence.specs.RefusedSteps.{ReportsExist, IsAcceptance, ReportsAll, 
 use Rattle.protocol.proofs.Points.Whole.{points_are_linear}
 use Rattle.evidence.proofs.FirstPoint.{first_operation_has_its_point}
 use Rattle.protocol.proofs.Words.Elements.{has_reverse}
-use Rattle.wire.specs.Lists.{Each}
+use Rattle.wire_format.specs.Lists.{Each}
 
 pub reports_exist : ReportsExist
 reports_exist c trace = (reverse (acceptances trace), points c trace, record { accepted_are = refl; points_are = refl })

@@ -11,7 +11,7 @@ use Rattle.protocol.specs.System.Schedule.StepsLead.{ends, gives, called, delive
 use Rattle.evidence.specs.RefusedSteps.{MayBeFed, FeedsWhatMayBeFed, ArePartiesInOrder, MayMake, FeedsWhatMayBeMade, FlushDeliversSealed, FlushDeliversSigned, SealedIsNewest, SignedIsNewest, MayCome, AllowsWhatMayCome, AllowsNoOther}
 use Rattle.protocol.proofs.Words.Scheduling.{past_of}
 use Rattle.evidence.proofs.RefusingRunsSchedules.{flush_delivers_all}
-use Rattle.wire.specs.Lists.{Each}
+use Rattle.wire_format.specs.Lists.{Each}
 
 -- ---- the entries that a schedule feeds
 

@@ -6,8 +6,8 @@ use Rattle.std.proofs.lemmas.Bool.{ltb-true, eq-eqb, ne_eqb}
 use Rattle.sha2.specs.Sha256.{sha256}
 use Rattle.tuple_tree.specs.Values.{AreBytes}
 use Rattle.tuple_tree.proofs.Readers.{bytes_append}
-use Rattle.wire.specs.Messages.{BodyData as Body, MessageData as Message, FrameData as Frame, signature, request as Request}
-use Rattle.wire.specs.Spelling.{is_signed, body_spelling, SpellsFrame}
+use Rattle.wire_format.specs.Messages.{BodyData as Body, MessageData as Message, FrameData as Frame, signature, request as Request}
+use Rattle.wire_format.specs.Spelling.{is_signed, body_spelling, SpellsFrame}
 use Rattle.authenticator.specs.Keys.{signing_seed}
 use Rattle.authenticator.specs.Membership.{sends}
 use Rattle.authenticator.proofs.Digests.{hmac_of-digest}
@@ -22,7 +22,7 @@ use Rattle.protocol.specs.System.Configuration.{Configuration, replicas, is_repl
 use Rattle.protocol.specs.System.Schedule.{signed_bytes}
 use Rattle.evidence.specs.RefusedSteps.{SignedFramesAreHeard}
 use Rattle.tuple_tree.proofs.NumberBytes.{no_bytes, bytes_more}
-use Rattle.wire.proofs.Saying.{reads_frames, reads_said}
+use Rattle.wire_format.proofs.Saying.{reads_frames, reads_said}
 use Rattle.evidence.proofs.FirstFrames.{is_digest}
 
 -- ---- a signature is of bytes

@@ -7,7 +7,7 @@ use Rattle.std.proofs.lemmas.Slice.Eq.{bytes_eq-Decides}
 use Rattle.sha2.specs.Sha256.{sha256}
 use Rattle.quorum.specs.Quorum.{count_below}
 use Rattle.protocol.specs.System.Configuration.{Configuration, span}
-use Rattle.wire.specs.Messages.{NewViewData, ViewChangeData, CheckpointEntryData as CheckpointEntry, BatchEntryData as BatchEntry}
+use Rattle.wire_format.specs.Messages.{NewViewData, ViewChangeData, CheckpointEntryData as CheckpointEntry, BatchEntryData as BatchEntry}
 use Rattle.protocol.specs.System.Trace.{Has}
 use Rattle.protocol.specs.Replica.Selection.{is_quorum, is_weak_quorum, signed_change, changes_of, list_of, count_in, ascending, is_within, is_start, agrees, vouches, may_stand_at, may_be_null, null_batch, is_null, may_stand, may_all_stand, largest, largest_of, how_many, may_select}
 use Rattle.evidence.specs.Refused.{SaysNothingAgainst, SaysForIt, SaysNothing}

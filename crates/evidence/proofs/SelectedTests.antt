@@ -7,7 +7,7 @@ use Rattle.std.proofs.lemmas.Slice.Eq.{bytes_eq-Decides}
 use Rattle.std.proofs.lemmas.List.Kept.{AllPairs-cons}
 use Rattle.quorum.proofs.Counting.{count_mono}
 use Rattle.protocol.specs.System.Configuration.{Configuration, replicas}
-use Rattle.wire.specs.Messages.{ViewChangeData, CheckpointEntryData as CheckpointEntry, BatchEntryData as BatchEntry}
+use Rattle.wire_format.specs.Messages.{ViewChangeData, CheckpointEntryData as CheckpointEntry, BatchEntryData as BatchEntry}
 use Rattle.protocol.specs.System.Trace.{Has}
 use Rattle.protocol.specs.Replica.Selection.{passes_by, count_in, agrees, vouches, ascending}
 use Rattle.evidence.specs.Refused.{SoManyHave, SaysNothingAgainst, SaysForIt, SaysNothing}

@@ -9,10 +9,10 @@ use Rattle.quorum.specs.Quorum.{count_below, member}
 use Rattle.std.specs.Bool.{then_some}
 use Rattle.quorum.specs.Votes.{or_else, has_digest}
 use Rattle.quorum.proofs.Counting.{count_mono, count_members}
-use Rattle.wire.specs.Messages.{BodyData as Body, AuthenticatorData as Authenticator, NewViewData, CheckpointEntryData as CheckpointEntry, macs, signature, pre_prepare as PrePrepare, prepare as Prepare, new_view as NewView, view_change as ViewChange}
+use Rattle.wire_format.specs.Messages.{BodyData as Body, AuthenticatorData as Authenticator, NewViewData, CheckpointEntryData as CheckpointEntry, macs, signature, pre_prepare as PrePrepare, prepare as Prepare, new_view as NewView, view_change as ViewChange}
 use Rattle.protocol.specs.System.Configuration.{Configuration, primary, members}
 use Rattle.signing.specs.Heard.{heard, signed_body}
-use Rattle.wire.specs.Words.{receivers_of}
+use Rattle.wire_format.specs.Words.{receivers_of}
 use Rattle.wire.proofs.Skipping.{none_chosen}
 use Rattle.protocol.specs.System.Trace.{Entry, Has}
 use Rattle.protocol.specs.System.Trace.Entry.{Got, Sent}

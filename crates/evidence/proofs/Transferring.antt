@@ -5,7 +5,7 @@ use Rattle.partition_tree.specs.Digests.{digest_of_children, inner_digest}
 use Rattle.protocol.specs.System.Configuration.{Configuration, members}
 use Rattle.terms.specs.declared.state.Level.{Level}
 use Rattle.terms.specs.declared.state.Level.TheVariants as levels
-use Rattle.wire.specs.Messages.{BodyData as Body, MessageData as Message, checkpoint as Checkpoint, meta as Meta, page as Page}
+use Rattle.wire_format.specs.Messages.{BodyData as Body, MessageData as Message, checkpoint as Checkpoint, meta as Meta, page as Page}
 use Rattle.signing.specs.Heard.{heard}
 use Rattle.protocol.specs.System.Trace.{Entry, Once, Hears}
 use Rattle.protocol.specs.System.Trace.Entry.{Got, Sent}

@@ -7,9 +7,9 @@ use Rattle.protocol.specs.System.Configuration.{Configuration, members}
 use Rattle.terms.specs.declared.order.Mode.TheVariants as modes
 use Rattle.terms.specs.declared.state.Level.{Level}
 use Rattle.terms.specs.declared.state.Level.TheVariants as levels
-use Rattle.wire.specs.Messages.{BodyData as Body, FrameData as Frame, MessageData as Message, request as Request, pre_prepare as PrePrepare, checkpoint as Checkpoint, fetch as Fetch, meta as Meta, page as Page, view_change as ViewChange}
+use Rattle.wire_format.specs.Messages.{BodyData as Body, FrameData as Frame, MessageData as Message, request as Request, pre_prepare as PrePrepare, checkpoint as Checkpoint, fetch as Fetch, meta as Meta, page as Page, view_change as ViewChange}
 use Rattle.signing.specs.Heard.{heard}
-use Rattle.wire.specs.Words.{said, receivers_of}
+use Rattle.wire_format.specs.Words.{said, receivers_of}
 use Rattle.protocol.specs.System.Frames.{IsSealed}
 use Rattle.protocol.specs.System.Trace.{Entry, Has}
 use Rattle.protocol.specs.System.Trace.Entry.{Got, Sent}

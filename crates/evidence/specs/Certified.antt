@@ -3,7 +3,7 @@
 use Rattle.std.specs.Prelude.{◌≡◌, ℕ, ◌+◌, ◌*◌, ◌^◌, ◌≤◌, ◌<◌, true, List, ◌∷◌, ◌++◌, Some, None}
 use Rattle.sha2.specs.Sha256.{sha256}
 use Rattle.protocol.specs.System.Configuration.{Configuration, primary, is_correct_replica}
-use Rattle.wire.specs.Messages.{BodyData as Body, NewViewData, commit as Commit}
+use Rattle.wire_format.specs.Messages.{BodyData as Body, NewViewData, commit as Commit}
 use Rattle.protocol.specs.System.Trace.{Entry, history_of, Once, SendsBody, Unforged}
 use Rattle.protocol.specs.System.Trace.Entry.{Executed}
 use Rattle.protocol.specs.Replica.Certificates.{brought, view, target, taken, low, batch_begun, logged, commit_of, Prepared, Committed}

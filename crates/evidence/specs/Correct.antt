@@ -3,10 +3,10 @@ use Rattle.std.specs.Prelude.{◌≡◌, ℕ, true, List, ◌∷◌, Some, All}
 use Rattle.space.specs.Applying.{is_read_only}
 use Rattle.terms.specs.declared.order.Mode.{Mode}
 use Rattle.terms.specs.declared.order.Mode.TheVariants as modes
-use Rattle.wire.specs.Messages.{FrameData as Frame, MacData, macs, request as Request}
+use Rattle.wire_format.specs.Messages.{FrameData as Frame, MacData, macs, request as Request}
 use Rattle.authenticator.specs.Authentic.{mac_of}
 use Rattle.protocol.specs.System.Configuration.{Configuration}
-use Rattle.wire.specs.Words.{frame_of, said}
+use Rattle.wire_format.specs.Words.{frame_of, said}
 use Rattle.protocol.specs.System.Trace.{Entry, party_of, Always}
 use Rattle.protocol.specs.System.Trace.Entry.{Sent}
 use Rattle.protocol.specs.Replica.RightReplica.{SafeReplica}

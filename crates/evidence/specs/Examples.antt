@@ -4,9 +4,9 @@ use Rattle.std.specs.Prelude.{◌≡◌, ◌≢◌, ℕ, ◌+◌, true, false, L
 use Rattle.sha2.specs.Sha256.{sha256}
 use Rattle.tuple_codec.specs.Operations.{Operation, IsOperation}
 use Rattle.protocol.specs.System.Configuration.{Configuration, IsConfiguration, is_correct_client, members}
-use Rattle.wire.specs.Messages.{FrameData as Frame, ViewChangeData, pre_prepare as PrePrepare, prepare as Prepare, commit as Commit}
+use Rattle.wire_format.specs.Messages.{FrameData as Frame, ViewChangeData, pre_prepare as PrePrepare, prepare as Prepare, commit as Commit}
 use Rattle.signing.specs.Heard.{heard}
-use Rattle.wire.specs.Words.{frame_of, said, receivers_of}
+use Rattle.wire_format.specs.Words.{frame_of, said, receivers_of}
 use Rattle.protocol.specs.System.Frames.{IsSealed}
 use Rattle.protocol.specs.System.Trace.{Entry}
 use Rattle.protocol.specs.System.Trace.Entry.{Invoke, Got, Executed, Sent}

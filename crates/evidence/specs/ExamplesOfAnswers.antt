@@ -5,10 +5,10 @@ use Rattle.tuple_codec.specs.Operations.{Operation}
 use Rattle.space.specs.Applying.{no_tuples, outcome, is_read_only}
 use Rattle.terms.specs.declared.order.Mode.TheVariants as modes
 use Rattle.terms.specs.declared.state.Level.TheVariants as levels
-use Rattle.wire.specs.Messages.{FrameData as Frame, MessageData as Message, request as Request, reply as Reply, fetch as Fetch, meta as Meta}
+use Rattle.wire_format.specs.Messages.{FrameData as Frame, MessageData as Message, request as Request, reply as Reply, fetch as Fetch, meta as Meta}
 use Rattle.protocol.specs.System.Configuration.{Configuration, members}
 use Rattle.signing.specs.Heard.{heard}
-use Rattle.wire.specs.Words.{frame_of, said, receivers_of}
+use Rattle.wire_format.specs.Words.{frame_of, said, receivers_of}
 use Rattle.protocol.specs.System.Frames.{IsSealed}
 use Rattle.protocol.specs.System.Trace.Entry.{Got, Sent}
 use Rattle.protocol.specs.Replica.State.{opening}

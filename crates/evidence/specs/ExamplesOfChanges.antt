@@ -2,10 +2,10 @@
 -- that their signatures and MACs are right, is given.
 use Rattle.std.specs.Prelude.{◌≡◌, ◌≢◌, ℕ, List, [], ◌∷◌, Some}
 use Rattle.sha2.specs.Sha256.{sha256}
-use Rattle.wire.specs.Messages.{FrameData as Frame, MessageData as Message, ViewChangeData, NewViewData, prepare as Prepare, view_change as ViewChange, new_view as NewView}
+use Rattle.wire_format.specs.Messages.{FrameData as Frame, MessageData as Message, ViewChangeData, NewViewData, prepare as Prepare, view_change as ViewChange, new_view as NewView}
 use Rattle.protocol.specs.System.Configuration.{Configuration, members}
 use Rattle.signing.specs.Heard.{signed_body}
-use Rattle.wire.specs.Words.{frame_of, said, receivers_of}
+use Rattle.wire_format.specs.Words.{frame_of, said, receivers_of}
 use Rattle.protocol.specs.System.Frames.{IsSealed, leaf_of}
 use Rattle.protocol.specs.System.Trace.Entry.{Got, Sent}
 use Rattle.protocol.specs.Replica.Selection.{signed_change}

@@ -4,7 +4,7 @@ use Rattle.std.specs.List.{range_with_len}
 use Rattle.tuple_codec.specs.Operations.{Operation, Outcome, IsOperation}
 use Rattle.space.specs.Applying.{is_read_only}
 use Rattle.terms.specs.declared.order.Mode.TheVariants as modes
-use Rattle.wire.specs.Messages.{request as Request, reply as Reply}
+use Rattle.wire_format.specs.Messages.{request as Request, reply as Reply}
 use Rattle.protocol.specs.System.Configuration.{Configuration, replicas}
 use Rattle.protocol.specs.System.Trace.{Entry}
 use Rattle.protocol.specs.System.Trace.Entry.{Invoke, Got, Sent, Accepted}

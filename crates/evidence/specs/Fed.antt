@@ -8,7 +8,7 @@ use Rattle.protocol.specs.System.Trace.Entry.{Invoke, Got, Tick}
 use Rattle.protocol.specs.Client.RightClient.{open_call}
 use Rattle.protocol.specs.System.Schedule.{Step, calls, deliver, feed, seal, sign, ticks, flush, Made, World, sealed_bytes, signed_bytes, StepsLead, Feeds}
 use Rattle.evidence.specs.RefusedSteps.{MayMake}
-use Rattle.wire.specs.Lists.{Each}
+use Rattle.wire_format.specs.Lists.{Each}
 
 -- ---- inputs
 

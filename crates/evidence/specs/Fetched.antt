@@ -6,8 +6,8 @@ use Rattle.sha2.specs.Sha256.{sha256}
 use Rattle.partition_tree.specs.Digests.{page_digests, inner_digest, inner_digests, root_of as root_of_pages}
 use Rattle.terms.specs.declared.state.Level.TheVariants as levels
 use Rattle.tuple_tree.specs.Values.{AreBytes}
-use Rattle.wire.specs.Messages.{checkpoint as Checkpoint, fetch as Fetch, meta as Meta, page as Page}
-use Rattle.wire.specs.Words.{said}
+use Rattle.wire_format.specs.Messages.{checkpoint as Checkpoint, fetch as Fetch, meta as Meta, page as Page}
+use Rattle.wire_format.specs.Words.{said}
 use Rattle.protocol.specs.System.Configuration.{Configuration, replicas}
 use Rattle.protocol.specs.System.Trace.{Entry}
 use Rattle.protocol.specs.System.Trace.Entry.{Got, Installed, Sent}

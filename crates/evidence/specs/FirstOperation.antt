@@ -5,9 +5,9 @@ use Rattle.sha2.specs.Sha256.{sha256}
 use Rattle.tuple_codec.specs.Operations.{Operation, Outcome, IsOperation}
 use Rattle.space.specs.Applying.{outcome, is_read_only}
 use Rattle.terms.specs.declared.order.Mode.TheVariants as modes
-use Rattle.wire.specs.Messages.{FrameData as Frame, MessageData as Message, MacData, macs, request as Request, pre_prepare as PrePrepare, prepare as Prepare, commit as Commit, reply as Reply}
-use Rattle.wire.specs.Spelling.{IsMessage, is_signed, frame_limit, body_spelling}
-use Rattle.wire.specs.Words.{requests_of, frame_of, said, receivers_of}
+use Rattle.wire_format.specs.Messages.{FrameData as Frame, MessageData as Message, MacData, macs, request as Request, pre_prepare as PrePrepare, prepare as Prepare, commit as Commit, reply as Reply}
+use Rattle.wire_format.specs.Spelling.{IsMessage, is_signed, frame_limit, body_spelling}
+use Rattle.wire_format.specs.Words.{requests_of, frame_of, said, receivers_of}
 use Rattle.authenticator.specs.Membership.{sends}
 use Rattle.protocol.specs.System.Configuration.{Configuration, IsConfiguration, replicas, members}
 use Rattle.signing.specs.Heard.{heard}

@@ -3,7 +3,7 @@
 use Rattle.std.specs.Prelude.{◌≡◌, ℕ, ◌+◌, ◌<◌, List, [], ◌∷◌, ◌++◌, reverse, Some}
 use Rattle.tuple_codec.specs.Operations.{Operation, Outcome}
 use Rattle.terms.specs.declared.order.Mode.TheVariants as modes
-use Rattle.wire.specs.Messages.{reply as Reply}
+use Rattle.wire_format.specs.Messages.{reply as Reply}
 use Rattle.protocol.specs.System.Configuration.{Configuration, IsConfiguration, members}
 use Rattle.signing.specs.Heard.{heard}
 use Rattle.protocol.specs.System.Trace.{Entry}

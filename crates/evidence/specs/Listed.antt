@@ -3,8 +3,8 @@ use Rattle.std.specs.Prelude.{◌≡◌, ℕ, ◌+◌, ◌*◌, ◌≤◌, List,
 use Rattle.std.specs.List.{concat, range_with_len}
 use Rattle.std.specs.Option.{option_map_or}
 use Rattle.partition_tree.specs.Digests.{inner_digests, page_digests}
-use Rattle.wire.specs.Messages.{MessageData as Message}
-use Rattle.wire.specs.Words.{said}
+use Rattle.wire_format.specs.Messages.{MessageData as Message}
+use Rattle.wire_format.specs.Words.{said}
 use Rattle.protocol.specs.System.Configuration.{Configuration}
 use Rattle.protocol.specs.System.Trace.{Entry, history_of, Has}
 use Rattle.protocol.specs.System.Trace.Entry.{Got, Executed, Installed, Sent}

@@ -4,7 +4,7 @@ use Rattle.sha2.specs.Sha256.{sha256}
 use Rattle.partition_tree.specs.Digests.{inner_digest, digest_of_children, root_of as root_of_pages}
 use Rattle.tuple_codec.specs.Operations.{Operation, Outcome}
 use Rattle.space.specs.Applying.{outcome, is_read_only}
-use Rattle.wire.specs.Words.{requests_of, frame_of, said}
+use Rattle.wire_format.specs.Words.{requests_of, frame_of, said}
 use Rattle.tuple_codec.specs.Spelling.{outcome_spelling}
 use Rattle.terms.specs.declared.order.Mode.{Mode}
 use Rattle.terms.specs.declared.state.Level.{Level}
@@ -12,13 +12,13 @@ use Rattle.terms.specs.declared.state.Level.TheVariants as levels
 use Rattle.quorum.specs.Quorum.{count_below}
 use Rattle.protocol.specs.System.Configuration.{Configuration, IsConfiguration, replicas, primary, members}
 use Rattle.terms.specs.declared.order.Mode.TheVariants as modes
-use Rattle.wire.specs.Messages.{BodyData as Body, FrameData as Frame, MacData, macs, signature, ViewChangeData, NewViewData, BatchEntryData as BatchEntry, request as Request, pre_prepare as PrePrepare, prepare as Prepare, commit as Commit, checkpoint as Checkpoint, view_change as ViewChange, new_view as NewView, reply as Reply, fetch as Fetch, meta as Meta, page as Page}
+use Rattle.wire_format.specs.Messages.{BodyData as Body, FrameData as Frame, MacData, macs, signature, ViewChangeData, NewViewData, BatchEntryData as BatchEntry, request as Request, pre_prepare as PrePrepare, prepare as Prepare, commit as Commit, checkpoint as Checkpoint, view_change as ViewChange, new_view as NewView, reply as Reply, fetch as Fetch, meta as Meta, page as Page}
 use Rattle.authenticator.specs.Authentic.{mac_of}
 use Rattle.signing.specs.Heard.{has_signature, heard}
 use Rattle.protocol.specs.System.Frames.{leaf_of}
 use Rattle.protocol.specs.System.Trace.{Entry, is_output, Once, Always, Has, AreOutputs, Hears}
 use Rattle.protocol.specs.System.Trace.Entry.{Got, Tick, Executed, Installed, Sent, Accepted}
-use Rattle.wire.specs.Spelling.{has_children}
+use Rattle.wire_format.specs.Spelling.{has_children}
 use Rattle.protocol.specs.Replica.Selection.{is_quorum, is_within, changes_of, null_batch}
 use Rattle.protocol.specs.Replica.Certificates.{count_checkpoints, latest_change, low, is_in_marks, is_active_in, logged, taken, target, view, Prepared, Committed}
 use Rattle.reply_cache.specs.Replies.{Kept}

@@ -9,9 +9,9 @@ use Rattle.protocol.specs.System.Configuration.{Configuration, primary, members,
 use Rattle.terms.specs.declared.order.Mode.TheVariants as modes
 use Rattle.terms.specs.declared.state.Level.{Level}
 use Rattle.terms.specs.declared.state.Level.TheVariants as levels
-use Rattle.wire.specs.Messages.{MessageData as Message, ViewChangeData, NewViewData, CheckpointEntryData as CheckpointEntry, BatchEntryData as BatchEntry, request as Request, pre_prepare as PrePrepare, prepare as Prepare, commit as Commit, checkpoint as Checkpoint, view_change as ViewChange, new_view as NewView, fetch as Fetch, meta as Meta, page as Page}
+use Rattle.wire_format.specs.Messages.{MessageData as Message, ViewChangeData, NewViewData, CheckpointEntryData as CheckpointEntry, BatchEntryData as BatchEntry, request as Request, pre_prepare as PrePrepare, prepare as Prepare, commit as Commit, checkpoint as Checkpoint, view_change as ViewChange, new_view as NewView, fetch as Fetch, meta as Meta, page as Page}
 use Rattle.signing.specs.Heard.{heard}
-use Rattle.wire.specs.Words.{said}
+use Rattle.wire_format.specs.Words.{said}
 use Rattle.protocol.specs.System.Trace.{Entry, Once, Has, Hears}
 use Rattle.protocol.specs.System.Trace.Entry.{Invoke, Got, Tick, Sent}
 use Rattle.protocol.specs.Replica.Selection.{signed_change, is_within}
@@ -21,7 +21,7 @@ use Rattle.protocol.specs.Replica.RightReplica.{SafeReplica, SentBefore, HadQuor
 use Rattle.protocol.specs.Client.RightClient.{OpenCall, open_call, IsClient}
 use Rattle.protocol.specs.Replica.Owed.{IsSaying, IsReplica}
 use Rattle.evidence.specs.Refused.{AtEachPoint, EachKept, newest_number}
-use Rattle.wire.specs.Lists.{Each}
+use Rattle.wire_format.specs.Lists.{Each}
 
 -- ---- view changes
 

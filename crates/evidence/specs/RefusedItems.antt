@@ -5,7 +5,7 @@ use Rattle.tuple_codec.specs.Operations.{out, rdp, Outcome, done, found, absent}
 use Rattle.template_match.specs.Tests.{is_match}
 use Rattle.space.specs.Applying.{Contents, no_tuples}
 use Rattle.terms.specs.declared.order.Mode.TheVariants as modes
-use Rattle.wire.specs.Messages.{request as Request}
+use Rattle.wire_format.specs.Messages.{request as Request}
 use Rattle.protocol.specs.System.Configuration.{Configuration, is_correct_replica, is_correct_client, members}
 use Rattle.signing.specs.Heard.{heard}
 use Rattle.protocol.specs.System.Trace.{Entry, Once, Has, frames_in}

@@ -3,8 +3,8 @@
 use Rattle.std.specs.Prelude.{◌≡◌, ℕ, ◌%◌, ◌≤◌, ◌<◌, ◌⊎◌, List, ◌∷◌, slice_get, Some}
 use Rattle.protocol.specs.System.Configuration.{Configuration}
 use Rattle.terms.specs.declared.state.Level.{Level}
-use Rattle.wire.specs.Messages.{ViewChangeData, CheckpointEntryData as CheckpointEntry, meta as Meta, page as Page}
-use Rattle.wire.specs.Words.{said}
+use Rattle.wire_format.specs.Messages.{ViewChangeData, CheckpointEntryData as CheckpointEntry, meta as Meta, page as Page}
+use Rattle.wire_format.specs.Words.{said}
 use Rattle.protocol.specs.System.Trace.{Entry, Once, Has}
 use Rattle.protocol.specs.System.Trace.Entry.{Installed, Sent}
 use Rattle.protocol.specs.Replica.Certificates.{low}

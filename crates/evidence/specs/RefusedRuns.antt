@@ -6,9 +6,9 @@ use Rattle.quorum.specs.Quorum.{count_below}
 use Rattle.protocol.specs.System.Configuration.{Configuration, replicas, is_correct, members}
 use Rattle.terms.specs.declared.order.Mode.{Mode}
 use Rattle.terms.specs.declared.order.Mode.TheVariants as modes
-use Rattle.wire.specs.Messages.{FrameData as Frame, MacData, macs, ViewChangeData, NewViewData, BatchEntryData as BatchEntry, request as Request, view_change as ViewChange, new_view as NewView, reply as Reply}
+use Rattle.wire_format.specs.Messages.{FrameData as Frame, MacData, macs, ViewChangeData, NewViewData, BatchEntryData as BatchEntry, request as Request, view_change as ViewChange, new_view as NewView, reply as Reply}
 use Rattle.signing.specs.Heard.{heard}
-use Rattle.wire.specs.Words.{frame_of, said}
+use Rattle.wire_format.specs.Words.{frame_of, said}
 use Rattle.protocol.specs.System.Trace.{Entry, party_of, is_output, Once, Has, AreOutputs}
 use Rattle.protocol.specs.System.Trace.Entry.{Invoke, Got, Tick, Installed, Sent, Accepted}
 use Rattle.protocol.specs.Replica.Certificates.{low, is_in_marks, is_active_in, logged}

@@ -1,11 +1,11 @@
 -- What the definitions of reports and of a schedule's steps refuse, and the definition of a signed frame.
 use Rattle.std.specs.Prelude.{◌≡◌, ◌≢◌, ℕ, ◌+◌, ◌≤◌, ◌<◌, ◌⊎◌, true, false, List, [], ◌∷◌, ◌++◌, length, Some, None, All, AllPairs, ⊤}
 use Rattle.tuple_codec.specs.Operations.{Operation, IsOperation}
-use Rattle.wire.specs.Messages.{BodyData as Body, MessageData as Message, FrameData as Frame, signature}
-use Rattle.wire.specs.Spelling.{IsMessage, is_signed, frame_limit, body_spelling}
+use Rattle.wire_format.specs.Messages.{BodyData as Body, MessageData as Message, FrameData as Frame, signature}
+use Rattle.wire_format.specs.Spelling.{IsMessage, is_signed, frame_limit, body_spelling}
 use Rattle.protocol.specs.System.Configuration.{Configuration, IsConfiguration, is_replica, is_client, is_correct, is_correct_client, members}
 use Rattle.signing.specs.Heard.{heard, signed_body}
-use Rattle.wire.specs.Words.{frame_of, said}
+use Rattle.wire_format.specs.Words.{frame_of, said}
 use Rattle.protocol.specs.System.Frames.{IsSealed}
 use Rattle.protocol.specs.System.Trace.{Entry, history_of, Once, Always, Has, Unforged}
 use Rattle.protocol.specs.System.Trace.Entry.{Invoke, Got, Tick, Accepted}
@@ -18,7 +18,7 @@ use Rattle.protocol.specs.Replica.RightReplica.{others}
 use Rattle.evidence.specs.RefusedRuns.{Gets}
 use Rattle.evidence.specs.Examples.{four}
 use Rattle.evidence.specs.FirstOperation.{FirstFrames, AreFirstFrames, first_answer, first_item, first_trace}
-use Rattle.wire.specs.Lists.{Each}
+use Rattle.wire_format.specs.Lists.{Each}
 
 -- ---- a report
 

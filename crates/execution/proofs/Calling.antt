@@ -9,15 +9,15 @@ use Rattle.terms.specs.declared.order.Mode.TheVariants as modes
 use Rattle.terms.specs.declared.parties.ClientId.{ClientId}
 use Rattle.tuple_tree.specs.Values.{AreBytes}
 use Rattle.wire.specs.Headers.{IsFrame, HasBody}
-use Rattle.wire.specs.Lists.{Each}
+use Rattle.wire_format.specs.Lists.{Each}
 use Rattle.wire.specs.Marks.{has_type_of_requests}
-use Rattle.wire.specs.Messages.{BodyData, MessageData, request, pre_prepare}
+use Rattle.wire_format.specs.Messages.{BodyData, MessageData, request, pre_prepare}
 use Rattle.wire.specs.Requests.{HoldsRequest}
-use Rattle.wire.specs.Spelling.{message_type}
+use Rattle.wire_format.specs.Spelling.{message_type}
 use Rattle.wire.specs.declared.request_bytes.RequestBytes.{RequestBytes}
-use Rattle.wire.specs.Words.{requests_of}
-use Rattle.wire.proofs.Saying.{reads_said}
-use Rattle.wire.proofs.Telling.{carries_frames, reads_batches}
+use Rattle.wire_format.specs.Words.{requests_of}
+use Rattle.wire_format.proofs.Saying.{reads_said}
+use Rattle.wire_format.proofs.Telling.{carries_frames, reads_batches}
 use Rattle.protocol.specs.System.Configuration.{Configuration, is_client}
 use Rattle.protocol.specs.Replica.State.{Call, call_in}
 use Rattle.execution.specs.Calls.{HoldsCall, IsCallOf}

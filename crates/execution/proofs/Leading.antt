@@ -6,7 +6,7 @@ use Rattle.tuple_codec.specs.Operations.{Operation}
 use Rattle.space.specs.Births.{SpaceState, state_after}
 use Rattle.space.specs.Watching.{WatchedState}
 use Rattle.space.proofs.Batches.{next_after}
-use Rattle.wire.specs.Words.{requests_of}
+use Rattle.wire_format.specs.Words.{requests_of}
 use Rattle.protocol.specs.System.Configuration.{Configuration}
 use Rattle.protocol.specs.Replica.State.{State, run_frame, ran_in, execute}
 use Rattle.execution.specs.Executed.{ExecutedData, Executes, told_of}

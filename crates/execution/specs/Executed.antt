@@ -6,7 +6,7 @@ use Rattle.tuple_codec.specs.OperationView.{outcome_of}
 use Rattle.space.specs.Births.{SpaceState, space_code}
 use Rattle.reply_cache.specs.Replies.{Kept, Replies}
 use Rattle.reply_cache.specs.RepliesCode.{replies_code}
-use Rattle.wire.specs.Words.{requests_of}
+use Rattle.wire_format.specs.Words.{requests_of}
 use Rattle.protocol.specs.System.Configuration.{Configuration}
 use Rattle.protocol.specs.Replica.State.{State, Ran as RanData, execute, ran_in}
 use Rattle.execution.specs.declared.running.Ran.{Ran}

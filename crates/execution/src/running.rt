@@ -2,7 +2,7 @@
 
 ghost use Rattle.std.specs.Prelude.{◌+◌, ◌*◌, ◌^◌, ◌<◌, ◌≤◌, map, length, OnOk};
 ghost use Rattle.wire.specs.Headers.{IsFrame};
-ghost use Rattle.wire.specs.Lists.{Each};
+ghost use Rattle.wire_format.specs.Lists.{Each};
 ghost use Rattle.execution.specs.Running.{so_far, Runs, RunsAll};
 ghost use Rattle.execution.specs.Touching.{Changes};
 

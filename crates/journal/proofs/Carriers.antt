@@ -4,12 +4,12 @@ use Rattle.std.specs.Prelude.{reverse, slice_get, MatchOption}
 use Rattle.std.specs.Option.{option_map_or}
 use Rattle.std.proofs.lemmas.List.{reverse-reverse}
 use Rattle.tuple_tree.specs.Reading.{◌>>=◌}
-use Rattle.wire.specs.Lists.{Each}
-use Rattle.wire.specs.Messages.{FrameData}
-use Rattle.wire.specs.Spelling.{SpellsFrame}
+use Rattle.wire_format.specs.Lists.{Each}
+use Rattle.wire_format.specs.Messages.{FrameData}
+use Rattle.wire_format.specs.Spelling.{SpellsFrame}
 use Rattle.wire.specs.Headers.{HeaderData, HasHeader}
-use Rattle.wire.specs.Words.{said, frame_of}
-use Rattle.wire.proofs.Saying.{reads_frames}
+use Rattle.wire_format.specs.Words.{said, frame_of}
+use Rattle.wire_format.proofs.Saying.{reads_frames}
 use Rattle.protocol.specs.System.Configuration.{Configuration}
 use Rattle.protocol.specs.System.Trace.{Entry, is_output, Has, Always}
 use Rattle.protocol.specs.System.Trace.Entry.{Got}

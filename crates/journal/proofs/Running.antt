@@ -1,7 +1,7 @@
 -- A run and then an event of one party are a run.
 use Rattle.std.proofs.Common.{◌≡◌, ℕ, ⊎_elim, Bool, true, false, List, [], ◌∷◌, ap, sym, ◌∙◌, subst}
 use Rattle.std.proofs.lemmas.Bool.Decides.{eqb_tells}
-use Rattle.wire.specs.Lists.{Each}
+use Rattle.wire_format.specs.Lists.{Each}
 use Rattle.protocol.specs.System.Configuration.{Configuration, is_correct, is_correct_replica, is_correct_client}
 use Rattle.protocol.specs.System.Trace.{Entry, party_of, is_output, history_of, Always}
 use Rattle.protocol.specs.System.Run.{OutputFollows, IsRun}

@@ -1,7 +1,7 @@
 -- The frames that channels carry: those that were sent. The newest entry of a trace stands first.
 use Rattle.std.specs.Prelude.{◌≡◌, ◌⊎◌, ℕ, Bool, true, ◌&&◌, not, List, [], ◌∷◌, reverse, slice_get, Option, MatchOption, ⊤}
 use Rattle.std.specs.Option.{option_map_or}
-use Rattle.wire.specs.Words.{said}
+use Rattle.wire_format.specs.Words.{said}
 use Rattle.protocol.specs.System.Configuration.{Configuration, is_correct}
 use Rattle.protocol.specs.System.Schedule.{is_party}
 use Rattle.protocol.specs.System.Trace.{Entry, Has, Always}

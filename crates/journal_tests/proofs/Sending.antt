@@ -2,8 +2,8 @@
 use Rattle.std.proofs.Common.{◌≡◌, ℕ, ◌+◌, ◌*◌, List, [], ◌∷◌, sym, ap, subst}
 use Rattle.std.specs.List.{range_with_len}
 use Rattle.terms.specs.declared.order.Mode.TheVariants as modes
-use Rattle.wire.specs.Messages.{BodyData, request as Request}
-use Rattle.wire.specs.Spelling.{SpellsFrame}
+use Rattle.wire_format.specs.Messages.{BodyData, request as Request}
+use Rattle.wire_format.specs.Spelling.{SpellsFrame}
 use Rattle.authenticator.specs.Sealing.{sealed_for}
 use Rattle.protocol.specs.System.Configuration.{Configuration}
 use Rattle.protocol.proofs.Words.Posting.{sealed_is_posted}

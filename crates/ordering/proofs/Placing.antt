@@ -3,9 +3,9 @@ use Rattle.std.proofs.Common.{◌≡◌, ℕ, zero, suc, ◌≤◌, ◌<◌, Boo
 use Rattle.std.specs.List.{insert, list_any}
 use Rattle.std.proofs.lemmas.List.{take_all}
 use Rattle.std.proofs.lemmas.Bool.{leb-true, leb-false, lt-ltb, le-ltb, eqb-false}
-use Rattle.wire.specs.Messages.{CheckpointEntryData}
-use Rattle.wire.specs.declared.messages.CheckpointEntry.{CheckpointEntry}
-use Rattle.wire.specs.Views.{checkpoint_entry_data}
+use Rattle.wire_format.specs.Messages.{CheckpointEntryData}
+use Rattle.wire_format.specs.declared.messages.CheckpointEntry.{CheckpointEntry}
+use Rattle.wire_format.specs.Views.{checkpoint_entry_data}
 use Rattle.ordering.specs.Checkpoints.{insert_checkpoint, says_checkpoint, with_checkpoint}
 use Rattle.ordering.specs.Places.{place_in, stands_at}
 

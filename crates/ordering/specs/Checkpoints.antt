@@ -2,7 +2,7 @@
 -- on garbage collection).
 use Rattle.std.specs.Prelude.{ℕ, Bool, ◌&&◌, nat_lt, List, [], ◌∷◌, ◌==◌, if◌then◌else◌, take, find, bytes_eq, Option, option_map}
 use Rattle.std.specs.List.{list_any}
-use Rattle.wire.specs.Messages.{CheckpointEntryData}
+use Rattle.wire_format.specs.Messages.{CheckpointEntryData}
 
 -- with one more in its place; of one number the earlier checkpoint stays
 abbrev pub insert_checkpoint : CheckpointEntryData → List CheckpointEntryData → List CheckpointEntryData

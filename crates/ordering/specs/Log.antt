@@ -6,7 +6,7 @@ use Rattle.std.specs.Option.{option_map_or}
 use Rattle.sha2.specs.Sha256.{sha256}
 use Rattle.quorum.specs.Quorum.{count_below}
 use Rattle.quorum.specs.Votes.{has_digest}
-use Rattle.wire.specs.Messages.{CheckpointEntryData}
+use Rattle.wire_format.specs.Messages.{CheckpointEntryData}
 use Rattle.ordering.specs.declared.votes.Vote.{Vote}
 use Rattle.ordering.specs.Votes.{vote_of, voters, with_vote}
 use Rattle.ordering.specs.Checkpoints.{with_checkpoint, says_checkpoint}

@@ -1,8 +1,8 @@
 -- The model of a log's fields, and the program's checkpoints in it.
 use Rattle.std.specs.Prelude.{Bool}
 use Rattle.terms.specs.declared.parties.ReplicaId.{ReplicaId}
-use Rattle.wire.specs.declared.messages.CheckpointEntry.{CheckpointEntry}
-use Rattle.wire.specs.Views.{checkpoint_entry_data}
+use Rattle.wire_format.specs.declared.messages.CheckpointEntry.{CheckpointEntry}
+use Rattle.wire_format.specs.Views.{checkpoint_entry_data}
 use Rattle.ordering.specs.declared.log.Log.TheInside.{Inside}
 use Rattle.ordering.specs.Checkpoints.{says_checkpoint}
 use Rattle.ordering.specs.Log.{LogData, checkpoints_of}

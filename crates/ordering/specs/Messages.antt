@@ -3,10 +3,10 @@ use Rattle.std.specs.Prelude.{ℕ, List, Option, Result}
 use Rattle.terms.specs.declared.order.Number.{Number}
 use Rattle.terms.specs.declared.order.View.{View}
 use Rattle.terms.specs.declared.parties.ReplicaId.{ReplicaId}
-use Rattle.wire.specs.declared.messages.PrePrepare.{PrePrepare}
-use Rattle.wire.specs.declared.messages.Prepare.{Prepare}
-use Rattle.wire.specs.declared.messages.Commit.{Commit}
-use Rattle.wire.specs.declared.messages.Checkpoint.{Checkpoint}
+use Rattle.wire_format.specs.declared.messages.PrePrepare.{PrePrepare}
+use Rattle.wire_format.specs.declared.messages.Prepare.{Prepare}
+use Rattle.wire_format.specs.declared.messages.Commit.{Commit}
+use Rattle.wire_format.specs.declared.messages.Checkpoint.{Checkpoint}
 use Rattle.ordering.specs.declared.dropped.Dropped.{Dropped}
 use Rattle.ordering.specs.Log.{LogData, with_batch, with_prepare, with_commit, with_checkpoint_of}
 use Rattle.ordering.specs.Taking.{Takes, preprepare_fault, prepare_fault, commit_fault, checkpoint_fault}

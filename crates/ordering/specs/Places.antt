@@ -1,7 +1,7 @@
 -- Words of the private functions that change a list in one place.
 use Rattle.std.specs.Prelude.{ℕ, zero, suc, Bool, false, ◌&&◌, nat_le, bytes_eq, List, [], ◌∷◌, ◌==◌, if◌then◌else◌, Some, slice_set, slice_index_or}
-use Rattle.wire.specs.Messages.{CheckpointEntryData}
-use Rattle.wire.specs.declared.messages.CheckpointEntry.{CheckpointEntry}
+use Rattle.wire_format.specs.Messages.{CheckpointEntryData}
+use Rattle.wire_format.specs.declared.messages.CheckpointEntry.{CheckpointEntry}
 use Rattle.ordering.specs.declared.votes.Vote.{Vote}
 use Rattle.ordering.specs.Votes.{with_vote}
 use Rattle.ordering.specs.Checkpoints.{with_checkpoint}

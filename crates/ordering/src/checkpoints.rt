@@ -2,7 +2,7 @@
 
 ghost use Rattle.std.specs.Prelude.{◌≡◌, ◌≤◌, [], map, length};
 ghost use Rattle.std.specs.List.{list_any};
-ghost use Rattle.wire.specs.Views.{checkpoint_entry_data};
+ghost use Rattle.wire_format.specs.Views.{checkpoint_entry_data};
 ghost use Rattle.ordering.specs.Checkpoints.{with_checkpoint, root_at, says_checkpoint};
 ghost use Rattle.ordering.specs.Places.{place_in, stands_at, is_entry};
 
@@ -24,8 +24,8 @@ pub struct Checkpoints {
 
 impl Model for Checkpoints {
     ghost use Rattle.std.specs.Prelude.{◌≡◌, ◌≤◌, List, map, length};
-    ghost use Rattle.wire.specs.Messages.{CheckpointEntryData};
-    ghost use Rattle.wire.specs.Views.{checkpoint_entry_data};
+    ghost use Rattle.wire_format.specs.Messages.{CheckpointEntryData};
+    ghost use Rattle.wire_format.specs.Views.{checkpoint_entry_data};
 
     ghost Value = { List CheckpointEntryData };
 

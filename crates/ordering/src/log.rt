@@ -2,7 +2,7 @@
 
 ghost use Rattle.std.specs.Prelude.{◌≡◌, ◌+◌, ◌*◌, ◌^◌, ◌<◌, ◌≤◌, IfOk, true, false};
 ghost use Rattle.std.specs.Arc.{arc_value};
-ghost use Rattle.wire.specs.Views.{checkpoint_entry_data};
+ghost use Rattle.wire_format.specs.Views.{checkpoint_entry_data};
 ghost use Rattle.ordering.specs.Checkpoints.{root_at};
 ghost use Rattle.ordering.specs.Log as spec;
 ghost use Rattle.ordering.specs.Keeping.{IsRow, IsLog};

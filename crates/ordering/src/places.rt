@@ -2,7 +2,7 @@
 
 ghost use Rattle.std.specs.Prelude.{◌≡◌, ◌+◌, ◌*◌, ◌<◌, ◌≤◌, All, IfOk, Some, length, map, slice_set, slice_index_or, replicate, []};
 ghost use Rattle.std.specs.Arc.{arc_value};
-ghost use Rattle.wire.specs.Views.{checkpoint_entry_data};
+ghost use Rattle.wire_format.specs.Views.{checkpoint_entry_data};
 ghost use Rattle.ordering.specs.Keeping.{IsRow};
 ghost use Rattle.ordering.specs.Log.{cut_rows, entered_row, no_row};
 ghost use Rattle.ordering.specs.Places.{batch_put, prepare_put, commit_put, checkpoint_put};

@@ -1,8 +1,8 @@
 -- One request makes a batch.
 use Rattle.std.proofs.Common.{◌≡◌, ℕ, List, [], ◌∷◌, length, refl, arith, Result, Ok, Err}
 use Rattle.std.specs.Prelude.{IfOk}
-use Rattle.wire.specs.declared.messages.Batch.{Batch}
-use Rattle.wire.specs.Spelling.{IsBatch, IsCarried, is_ordered_request, pieces_spelling}
+use Rattle.wire_format.specs.declared.messages.Batch.{Batch}
+use Rattle.wire_format.specs.Spelling.{IsBatch, IsCarried, is_ordered_request, pieces_spelling}
 
 one : (text frame : List ℕ) → IsCarried is_ordered_request frame → text ≡ pieces_spelling (frame ∷ []) → IsBatch 1 text
 one text frame is whole =

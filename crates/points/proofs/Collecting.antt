@@ -10,7 +10,7 @@ use Rattle.std.proofs.lemmas.Bool.{cases_order, ne_eqb}
 use Rattle.space.proofs.Trees.{less, greater}
 use Rattle.space.proofs.Filing.{at_same, at_other}
 use Rattle.quorum.specs.Votes.{or_else}
-use Rattle.wire.specs.Lists.{Each}
+use Rattle.wire_format.specs.Lists.{Each}
 use Rattle.protocol.specs.System.Trace.{Entry, Has}
 use Rattle.protocol.specs.System.Trace.Entry.{Executed}
 use Rattle.protocol.specs.Replica.Selection.{null_batch}

@@ -2,7 +2,7 @@
 use Rattle.std.proofs.Common.{◌≡◌, ℕ, zero, suc, ◌+◌, ◌≤◌, ◌<◌, List, [], ◌∷◌, ◌++◌, map, drop, get_or, length, Bor, refl, sym, ap, ap₂, ◌∙◌, subst, append-nil, append_assoc, drop-cons, add-one, arith, Option, Some, None}
 use Rattle.std.specs.Prelude.{fold}
 use Rattle.std.proofs.lemmas.List.{map-append}
-use Rattle.wire.specs.Words.{requests_of}
+use Rattle.wire_format.specs.Words.{requests_of}
 use Rattle.protocol.specs.System.Configuration.{Configuration}
 use Rattle.protocol.specs.Replica.State.{State, Ran, opening, run_frame, ran_in, execute}
 use Rattle.protocol.specs.Space.Linear.{Placing, ordered_point}
@@ -15,7 +15,7 @@ use Rattle.points.specs.PointView.{placings_of}
 use Rattle.points.specs.Running.{SoFar, so_far, state_of, frame_ran, Runs, RunsAll, RunsEach}
 use Rattle.space.specs.Births.{SpaceState, empty_state}
 use Rattle.reply_cache.specs.Replies.{Replies, no_replies}
-use Rattle.wire.specs.Lists.{Each}
+use Rattle.wire_format.specs.Lists.{Each}
 use Rattle.points.proofs.Numbers.{any_number}
 
 points_append : (place : Option ℕ) (k : ℕ) (xs ys : List Ran) → points_at place k (xs ++ ys) ≡ points_at place k xs ++ points_at place k ys

@@ -4,8 +4,8 @@ use Rattle.std.specs.Option.{option_map_or}
 use Rattle.protocol.specs.System.Configuration.{Configuration}
 use Rattle.protocol.specs.System.Trace.{Entry}
 use Rattle.protocol.specs.Replica.Selection.{null_batch}
-use Rattle.wire.specs.Words.{requests_of}
-use Rattle.wire.specs.Reading.{requests_at}
+use Rattle.wire_format.specs.Words.{requests_of}
+use Rattle.wire_format.specs.Reading.{requests_at}
 use Rattle.protocol.specs.Replica.State.{State, execute, run_frame, ran_in}
 use Rattle.protocol.specs.Space.Linear.{Placing, ordered_point, ordered_points, first_position, batch_of}
 use Rattle.points.specs.Numbering.{Numbered, numbered_points}

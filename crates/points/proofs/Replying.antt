@@ -6,12 +6,12 @@ use Rattle.std.proofs.lemmas.Bool.{cases_order, ne_eqb}
 use Rattle.terms.specs.declared.order.Mode.TheVariants as modes
 use Rattle.terms.specs.declared.order.Number.{Number}
 use Rattle.tuple_codec.specs.OperationView.{outcome_of}
-use Rattle.wire.specs.declared.messages.Message.{Message}
-use Rattle.wire.specs.declared.messages.Message.TheVariants as messages
-use Rattle.wire.specs.declared.messages.Reply.{Reply}
-use Rattle.wire.specs.Messages.{AuthenticatorData, BodyData, MessageData, reply}
-use Rattle.wire.specs.Spelling.{frame_spelling}
-use Rattle.wire.specs.Views.{message_data}
+use Rattle.wire_format.specs.declared.messages.Message.{Message}
+use Rattle.wire_format.specs.declared.messages.Message.TheVariants as messages
+use Rattle.wire_format.specs.declared.messages.Reply.{Reply}
+use Rattle.wire_format.specs.Messages.{AuthenticatorData, BodyData, MessageData, reply}
+use Rattle.wire_format.specs.Spelling.{frame_spelling}
+use Rattle.wire_format.specs.Views.{message_data}
 use Rattle.protocol.specs.System.Frames.{same_mode}
 use Rattle.protocol.specs.Client.RightClient.{Vote}
 use Rattle.authenticator.specs.Membership.{Membership}

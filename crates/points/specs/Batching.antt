@@ -1,7 +1,7 @@
 -- Words of the private functions that find batches.
 use Rattle.std.specs.Prelude.{◌≡◌, ℕ, ◌≤◌, ◌⊎◌, List, ◌∷◌, map, Option, Some, None}
 use Rattle.std.specs.Borrow.{Bor}
-use Rattle.wire.specs.Lists.{Each}
+use Rattle.wire_format.specs.Lists.{Each}
 use Rattle.protocol.specs.System.Trace.{Entry, Has}
 use Rattle.protocol.specs.Replica.Certificates.{first_given}
 use Rattle.protocol.specs.Space.Linear.{batch_at, last_executed}

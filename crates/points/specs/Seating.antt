@@ -8,8 +8,8 @@ use Rattle.std.specs.BTreeMap.{is_at}
 use Rattle.terms.specs.declared.order.Mode.TheVariants as modes
 use Rattle.tuple_codec.specs.Operations.{Outcome}
 use Rattle.tuple_codec.specs.OperationView.{operation_of}
-use Rattle.wire.specs.Messages.{BodyData}
-use Rattle.wire.specs.declared.messages.Reply.{Reply}
+use Rattle.wire_format.specs.Messages.{BodyData}
+use Rattle.wire_format.specs.declared.messages.Reply.{Reply}
 use Rattle.authenticator.specs.Membership.{Membership}
 use Rattle.signing.specs.Heard.{heard}
 use Rattle.protocol.specs.System.Frames.{same_mode}

@@ -2,7 +2,7 @@
 
 ghost use Rattle.std.specs.Prelude.{◌≡◌, ◌+◌, ◌^◌, ◌==◌, IfOk, IsFalse, OnOk, option_map, reverse, slice_index};
 ghost use Rattle.tuple_codec.specs.OperationView.{outcome_of};
-ghost use Rattle.wire.specs.Views.{body_data};
+ghost use Rattle.wire_format.specs.Views.{body_data};
 ghost use Rattle.signing.specs.Heard.{heard};
 ghost use Rattle.protocol.specs.System.Configuration.{members};
 ghost use Rattle.points.specs.Places.{position_in};

@@ -2,8 +2,8 @@
 
 ghost use Rattle.std.specs.Prelude.{◌≡◌, ◌≤◌, IfOk, OnOk, map, reverse};
 ghost use Rattle.wire.specs.Headers.{IsFrame};
-ghost use Rattle.wire.specs.Lists.{Each};
-ghost use Rattle.wire.specs.Words.{requests_of};
+ghost use Rattle.wire_format.specs.Lists.{Each};
+ghost use Rattle.wire_format.specs.Words.{requests_of};
 ghost use Rattle.protocol.specs.Replica.State.{opening};
 ghost use Rattle.points.specs.Batching.{numbered_of};
 ghost use Rattle.points.specs.Numbering.{AscendsFrom};

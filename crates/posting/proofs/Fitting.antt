@@ -4,9 +4,9 @@ use Rattle.std.specs.Prelude.{IsTrue}
 use Rattle.std.specs.Int.{w16, w32, w64, to_be_bytes}
 use Rattle.terms.specs.declared.order.Mode.TheVariants as modes
 use Rattle.tuple_codec.specs.Spelling.{operation_spelling, outcome_spelling}
-use Rattle.wire.specs.Lists.{Each, each_spelling}
-use Rattle.wire.specs.Messages.{MacData, NewViewData, AuthenticatorData as Authenticator, macs, signature, BodyData, MessageData as Message, request, pre_prepare, prepare, commit, checkpoint, view_change, new_view, reply, fetch, meta, page}
-use Rattle.wire.specs.Spelling.{IsAuthenticator, IsBatch, IsCarried, IsDigest, IsMac, IsMessage, IsNewView, IsPlain, batches_spelling, is_view_change, pieces_spelling, authenticator_is_signed, authenticator_spelling, body_spelling, fields_spelling, frame_limit, is_ordered_request, is_signed, mac_spelling, mode_byte, level_byte, piece}
+use Rattle.wire_format.specs.Lists.{Each, each_spelling}
+use Rattle.wire_format.specs.Messages.{MacData, NewViewData, AuthenticatorData as Authenticator, macs, signature, BodyData, MessageData as Message, request, pre_prepare, prepare, commit, checkpoint, view_change, new_view, reply, fetch, meta, page}
+use Rattle.wire_format.specs.Spelling.{IsAuthenticator, IsBatch, IsCarried, IsDigest, IsMac, IsMessage, IsNewView, IsPlain, batches_spelling, is_view_change, pieces_spelling, authenticator_is_signed, authenticator_spelling, body_spelling, fields_spelling, frame_limit, is_ordered_request, is_signed, mac_spelling, mode_byte, level_byte, piece}
 use Rattle.tuple_codec.proofs.Lengths.{operation_short, outcome_short}
 use Rattle.authenticator.specs.Sealing.{IsSealable, IsTooLong, sealed_for}
 use Rattle.authenticator.proofs.Sealing.{sealed-short}

@@ -4,7 +4,7 @@ use Rattle.std.specs.Prelude.{◌==◌, nat_lt}
 use Rattle.std.specs.List.{range_with_len}
 use Rattle.std.proofs.lemmas.Bool.{and_from, lt-ltb, not-false}
 use Rattle.std.proofs.lemmas.List.FromFn.{filter_of_map_range_with_len_more}
-use Rattle.wire.specs.Lists.{ascends, leads}
+use Rattle.wire_format.specs.Lists.{ascends, leads}
 use Rattle.posting.specs.Endpoint.{others_below}
 
 -- ---- one after another

@@ -3,13 +3,13 @@ use Rattle.std.proofs.Common.{◌≡◌, ℕ, zero, suc, ◌+◌, ◌*◌, ◌<�
 use Rattle.std.specs.Prelude.{IfOk, Vec, option_and_then}
 use Rattle.std.specs.declared.alloc.Global.{Global}
 use Rattle.tuple_tree.specs.Values.{AreBytes}
-use Rattle.wire.specs.Messages.{BodyData, FrameData, MessageData as Message, signature}
-use Rattle.wire.specs.Spelling.{IsBody, IsMessage, authenticator_spelling, body_spelling, frame_limit, frame_spelling, is_signed, piece}
+use Rattle.wire_format.specs.Messages.{BodyData, FrameData, MessageData as Message, signature}
+use Rattle.wire_format.specs.Spelling.{IsBody, IsMessage, authenticator_spelling, body_spelling, frame_limit, frame_spelling, is_signed, piece}
 use Rattle.authenticator.specs.Keys.{signing_seed}
 use Rattle.authenticator.specs.Membership.{Membership}
 use Rattle.authenticator.specs.Sealing.{IsSealable}
 use Rattle.signing.specs.Signatures.{Verifies, public_key, signature_of}
-use Rattle.wire.proofs.Saying.{reads_frames}
+use Rattle.wire_format.proofs.Saying.{reads_frames}
 use Rattle.signing.proofs.Heard.{verifies-Decides}
 use Rattle.protocol.specs.System.Configuration.{Configuration, members}
 use Rattle.protocol.specs.System.Frames.{IsPosted, leaf_in, leaf_of}

@@ -5,12 +5,12 @@ use Rattle.std.specs.List.{list_all, range_with_len}
 use Rattle.std.specs.declared.alloc.Global.{Global}
 use Rattle.terms.specs.Parties.{party_number}
 use Rattle.terms.specs.declared.parties.Party.{Party}
-use Rattle.wire.specs.declared.messages.Batch.{Batch}
-use Rattle.wire.specs.declared.messages.Body.{Body}
-use Rattle.wire.specs.Messages.{BodyData, MessageData as Message, page}
-use Rattle.wire.specs.Spelling.{body_spelling, frame_limit, piece}
-use Rattle.wire.specs.Views.{body_data}
-use Rattle.wire.specs.Words.{requests_of}
+use Rattle.wire_format.specs.declared.messages.Batch.{Batch}
+use Rattle.wire_format.specs.declared.messages.Body.{Body}
+use Rattle.wire_format.specs.Messages.{BodyData, MessageData as Message, page}
+use Rattle.wire_format.specs.Spelling.{body_spelling, frame_limit, piece}
+use Rattle.wire_format.specs.Views.{body_data}
+use Rattle.wire_format.specs.Words.{requests_of}
 use Rattle.authenticator.specs.Keys.{signing_seed}
 use Rattle.authenticator.specs.Membership.{Membership, replicas}
 use Rattle.signing.specs.Heard.{heard}

@@ -4,10 +4,10 @@ use Rattle.std.specs.Borrow.{Bor}
 use Rattle.std.specs.declared.alloc.Global.{Global}
 use Rattle.terms.specs.declared.parties.Party.{Party}
 use Rattle.terms.specs.declared.parties.ReplicaId.{ReplicaId}
-use Rattle.wire.specs.declared.messages.Body.{Body}
-use Rattle.wire.specs.Messages.{BodyData, FrameData, MessageData as Message, signature}
-use Rattle.wire.specs.Spelling.{SpellsFrame, body_spelling, frame_limit, piece}
-use Rattle.wire.specs.Views.{body_data}
+use Rattle.wire_format.specs.declared.messages.Body.{Body}
+use Rattle.wire_format.specs.Messages.{BodyData, FrameData, MessageData as Message, signature}
+use Rattle.wire_format.specs.Spelling.{SpellsFrame, body_spelling, frame_limit, piece}
+use Rattle.wire_format.specs.Views.{body_data}
 use Rattle.authenticator.specs.Membership.{Membership}
 use Rattle.authenticator.specs.Sealing.{sealed_for}
 use Rattle.signing.specs.Signatures.{Verifies, public_key}

@@ -5,7 +5,7 @@ use Rattle.terms.specs.declared.order.Number.{Number}
 use Rattle.terms.specs.declared.order.Timestamp.{Timestamp}
 use Rattle.terms.specs.declared.parties.ClientId.{ClientId}
 use Rattle.tuple_codec.specs.Operations.{Outcome}
-use Rattle.wire.specs.Messages.{MessageData as Message, reply}
+use Rattle.wire_format.specs.Messages.{MessageData as Message, reply}
 
 -- the message is the reply to this client's request
 abbrev pub IsReply : ClientId → Timestamp → Mode → Number → Outcome → Message → Type 0

@@ -1,8 +1,8 @@
 //! Proof hints on bytes.
 
 ghost use Rattle.tuple_tree.specs.Values.{AreBytes};
-ghost use Rattle.wire.specs.Lists.{Each};
-ghost use Rattle.wire.specs.Spelling.{IsDigest};
+ghost use Rattle.wire_format.specs.Lists.{Each};
+ghost use Rattle.wire_format.specs.Spelling.{IsDigest};
 
 use terms::Digest;
 

@@ -2,8 +2,8 @@
 
 ghost use Rattle.std.specs.Prelude.{◌≡◌, ◌≢◌, ◌↔◌, ◌+◌, ◌*◌, ◌<◌, ◌≤◌, true, false, Some, IfOk, IfErr, IfSome, IsNone, OnOk};
 ghost use Rattle.wire.specs.Marks.{has_type_of_requests};
-ghost use Rattle.wire.specs.Spelling.{IsBatch, IsMessage, is_signed};
-ghost use Rattle.wire.specs.Views.{message_data};
+ghost use Rattle.wire_format.specs.Spelling.{IsBatch, IsMessage, is_signed};
+ghost use Rattle.wire_format.specs.Views.{message_data};
 ghost use Rattle.authenticator.specs.Keys.{signing_seed};
 ghost use Rattle.authenticator.specs.declared.sealed.SealFault.TheVariants as SealFault;
 ghost use Rattle.signing.specs.Heard.{heard};

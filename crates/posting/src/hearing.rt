@@ -1,7 +1,7 @@
 //! What a replica hears.
 
 ghost use Rattle.std.specs.Prelude.{◌≡◌, IfOk, option_map};
-ghost use Rattle.wire.specs.Views.{body_data};
+ghost use Rattle.wire_format.specs.Views.{body_data};
 ghost use Rattle.signing.specs.Heard.{heard};
 ghost use Rattle.posting.specs.Endpoint.{are_heard};
 ghost use Rattle.posting.specs.Frames.{texts};

@@ -2,9 +2,9 @@
 
 ghost use Rattle.std.specs.Prelude.{◌≡◌, ◌≤◌, true, false, IfOk, IsTrue};
 ghost use Rattle.tuple_codec.specs.OperationView.{outcome_of};
-ghost use Rattle.wire.specs.Messages.{checkpoint, commit, fetch, meta, new_view, page, pre_prepare, prepare, view_change};
-ghost use Rattle.wire.specs.Spelling.{IsBatch, IsMessage, IsNewView, IsViewChange, has_children, is_signed, last_index};
-ghost use Rattle.wire.specs.Views.{message_data, new_view_data, view_change_data};
+ghost use Rattle.wire_format.specs.Messages.{checkpoint, commit, fetch, meta, new_view, page, pre_prepare, prepare, view_change};
+ghost use Rattle.wire_format.specs.Spelling.{IsBatch, IsMessage, IsNewView, IsViewChange, has_children, is_signed, last_index};
+ghost use Rattle.wire_format.specs.Views.{message_data, new_view_data, view_change_data};
 ghost use Rattle.posting.specs.Endpoint.{FitsFrame};
 ghost use Rattle.posting.specs.Replies.{IsReply};
 

@@ -1,8 +1,8 @@
 //! Frames with MACs.
 
 ghost use Rattle.std.specs.Prelude.{◌≡◌, ◌≢◌, ◌+◌, ◌*◌, ◌<◌, ◌≤◌, false, IfOk};
-ghost use Rattle.wire.specs.Spelling.{IsMessage, is_signed};
-ghost use Rattle.wire.specs.Views.{body_data, message_data};
+ghost use Rattle.wire_format.specs.Spelling.{IsMessage, is_signed};
+ghost use Rattle.wire_format.specs.Views.{body_data, message_data};
 ghost use Rattle.authenticator.specs.declared.sealed.SealFault.TheVariants as SealFault;
 ghost use Rattle.authenticator.specs.Giving.{Seals};
 ghost use Rattle.authenticator.specs.Sealing.{IsSealable};

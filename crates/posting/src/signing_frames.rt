@@ -1,8 +1,8 @@
 //! Frames with a signature.
 
 ghost use Rattle.std.specs.Prelude.{◌≡◌, ◌≢◌, ◌↔◌, ◌+◌, ◌<◌, ◌≤◌, true, IfOk, IfErr, OnOk};
-ghost use Rattle.wire.specs.Spelling.{IsBody, body_spelling, is_signed, piece};
-ghost use Rattle.wire.specs.Views.{body_data, message_data};
+ghost use Rattle.wire_format.specs.Spelling.{IsBody, body_spelling, is_signed, piece};
+ghost use Rattle.wire_format.specs.Views.{body_data, message_data};
 ghost use Rattle.posting.specs.Endpoint.{SignedExceeds, says};
 ghost use Rattle.posting.specs.Frames.{SignedFits, SignsBody, SignsMessage};
 

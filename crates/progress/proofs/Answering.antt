@@ -11,9 +11,9 @@ use Rattle.tuple_codec.specs.Operations.{Outcome}
 use Rattle.tuple_codec.specs.Spelling.{outcome_spelling}
 use Rattle.terms.specs.declared.order.Mode.{Mode}
 use Rattle.terms.specs.declared.order.Mode.TheVariants as modes
-use Rattle.wire.specs.Messages.{BodyData as Body, FrameData as Frame, AuthenticatorData as Authenticator, macs, signature, request as Request, reply as Reply}
-use Rattle.wire.specs.Spelling.{authenticator_is_signed}
-use Rattle.wire.specs.Words.{receivers_of, frame_of}
+use Rattle.wire_format.specs.Messages.{BodyData as Body, FrameData as Frame, AuthenticatorData as Authenticator, macs, signature, request as Request, reply as Reply}
+use Rattle.wire_format.specs.Spelling.{authenticator_is_signed}
+use Rattle.wire_format.specs.Words.{receivers_of, frame_of}
 use Rattle.reply_cache.specs.Replies.{Kept}
 use Rattle.protocol.specs.System.Configuration.{Configuration, IsConfiguration, replicas, is_replica, is_client, is_correct_replica, is_correct_client}
 use Rattle.protocol.specs.System.Frames.{IsPosted, IsSealed}

@@ -8,9 +8,9 @@ use Rattle.sha2.specs.Sha256.{sha256}
 use Rattle.quorum.specs.Quorum.{count_below}
 use Rattle.quorum.specs.Votes.{has_digest}
 use Rattle.quorum.proofs.Counting.{two_meet, count_mono, count_with}
-use Rattle.wire.specs.Lists.{Each}
-use Rattle.wire.specs.Messages.{BodyData as Body, MessageData as Message, ViewChangeData, NewViewData, CheckpointEntryData as CheckpointEntry, BatchEntryData as BatchEntry, pre_prepare as PrePrepare, view_change as ViewChange, new_view as NewView}
-use Rattle.wire.specs.Words.{said}
+use Rattle.wire_format.specs.Lists.{Each}
+use Rattle.wire_format.specs.Messages.{BodyData as Body, MessageData as Message, ViewChangeData, NewViewData, CheckpointEntryData as CheckpointEntry, BatchEntryData as BatchEntry, pre_prepare as PrePrepare, view_change as ViewChange, new_view as NewView}
+use Rattle.wire_format.specs.Words.{said}
 use Rattle.protocol.specs.System.Configuration.{Configuration, IsConfiguration, replicas, primary, span, is_number, is_replica, is_correct_replica}
 use Rattle.protocol.specs.System.Trace.{Entry, history_of, Once, Always, Has, Unforged}
 use Rattle.protocol.specs.System.Trace.Entry.{Invoke, Got, Sent}

@@ -8,9 +8,9 @@ use Rattle.sha2.specs.Sha256.{sha256}
 use Rattle.quorum.specs.Quorum.{count_below}
 use Rattle.quorum.specs.Votes.{or_else, has_digest}
 use Rattle.quorum.proofs.Counting.{count_mono}
-use Rattle.wire.specs.Messages.{BodyData as Body, MessageData as Message, pre_prepare as PrePrepare, prepare as Prepare, commit as Commit}
-use Rattle.wire.specs.Spelling.{is_signed}
-use Rattle.wire.specs.Words.{said}
+use Rattle.wire_format.specs.Messages.{BodyData as Body, MessageData as Message, pre_prepare as PrePrepare, prepare as Prepare, commit as Commit}
+use Rattle.wire_format.specs.Spelling.{is_signed}
+use Rattle.wire_format.specs.Words.{said}
 use Rattle.authenticator.specs.Membership.{sends}
 use Rattle.protocol.specs.System.Configuration.{Configuration, IsConfiguration, replicas, primary, is_replica, is_correct_replica, members}
 use Rattle.protocol.specs.System.Trace.{Entry, party_of, history_of, Once, Unforged}

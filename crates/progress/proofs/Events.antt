@@ -1,7 +1,7 @@
 -- Events of a history's later part: an input there, with all outputs of its party.
 use Rattle.std.proofs.Common.{◌≡◌, ℕ, ◌⊎◌, inl, inr, false, List, [], ◌∷◌, ◌++◌, reverse, Some, ap, subst}
-use Rattle.wire.specs.Messages.{MessageData as Message}
-use Rattle.wire.specs.Words.{said}
+use Rattle.wire_format.specs.Messages.{MessageData as Message}
+use Rattle.wire_format.specs.Words.{said}
 use Rattle.protocol.specs.System.Configuration.{Configuration}
 use Rattle.protocol.specs.System.Trace.{Entry, is_output}
 use Rattle.protocol.specs.System.Trace.Entry.{Sent}

@@ -4,8 +4,8 @@ use Rattle.std.specs.Prelude.{◌==◌, nat_lt, ⊤}
 use Rattle.std.proofs.lemmas.Bool.{and_parts, and_from, lt-ltb, ltb-true, eqb-false}
 use Rattle.quorum.specs.Quorum.{count_below}
 use Rattle.quorum.proofs.Counting.{count_mono}
-use Rattle.wire.specs.Lists.{Each}
-use Rattle.wire.specs.Messages.{ViewChangeData, NewViewData, CheckpointEntryData as CheckpointEntry}
+use Rattle.wire_format.specs.Lists.{Each}
+use Rattle.wire_format.specs.Messages.{ViewChangeData, NewViewData, CheckpointEntryData as CheckpointEntry}
 use Rattle.protocol.specs.System.Configuration.{Configuration, replicas}
 use Rattle.protocol.specs.System.Trace.{Has}
 use Rattle.protocol.specs.Replica.Selection.{is_within, changes_of, ascending, may_select}

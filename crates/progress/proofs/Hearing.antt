@@ -7,10 +7,10 @@ use Rattle.std.proofs.lemmas.Bool.{and_from, eq-eqb, or_left, or_right}
 use Rattle.std.proofs.lemmas.Slice.Eq.{bytes_eq-Decides}
 use Rattle.std.proofs.lemmas.List.Elements.{All-head, All-tail}
 use Rattle.std.proofs.Math.Bool.{or-true}
-use Rattle.wire.specs.Messages.{BodyData as Body, MessageData as Message, FrameData as Frame, MacData, AuthenticatorData as Authenticator, macs, signature}
-use Rattle.wire.specs.Spelling.{SpellsFrame, is_signed, authenticator_is_signed}
-use Rattle.wire.specs.Words.{frame_of, said, receivers_of}
-use Rattle.wire.proofs.Saying.{reads_frames, says_what_is_spelled}
+use Rattle.wire_format.specs.Messages.{BodyData as Body, MessageData as Message, FrameData as Frame, MacData, AuthenticatorData as Authenticator, macs, signature}
+use Rattle.wire_format.specs.Spelling.{SpellsFrame, is_signed, authenticator_is_signed}
+use Rattle.wire_format.specs.Words.{frame_of, said, receivers_of}
+use Rattle.wire_format.proofs.Saying.{reads_frames, says_what_is_spelled}
 use Rattle.authenticator.specs.Authentic.{mac_of, is_mac_for, is_authentic}
 use Rattle.authenticator.specs.Membership.{sends}
 use Rattle.signing.specs.Heard.{heard}

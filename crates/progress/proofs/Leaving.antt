@@ -2,10 +2,10 @@
 use Rattle.std.proofs.Common.{◌≡◌, ℕ, suc, ◌+◌, ◌≤◌, ◌<◌, ◌⊎◌, inl, inr, Bool, true, false, cond, ◌&&◌, List, [], ◌∷◌, ◌++◌, reverse, Some, None, refl, sym, ap, ◌∙◌, subst, arith, append_assoc, eq-eqb}
 use Rattle.std.specs.Prelude.{nat_le, option_and_then}
 use Rattle.std.proofs.lemmas.Bool.{and_parts, and_from, leb-true, leb-false}
-use Rattle.wire.specs.Lists.{Each}
-use Rattle.wire.specs.Messages.{BodyData as Body, MessageData as Message, FrameData as Frame, AuthenticatorData as Authenticator, macs, signature, ViewChangeData, NewViewData, view_change as ViewChange}
-use Rattle.wire.specs.Spelling.{is_signed, authenticator_is_signed}
-use Rattle.wire.specs.Words.{said}
+use Rattle.wire_format.specs.Lists.{Each}
+use Rattle.wire_format.specs.Messages.{BodyData as Body, MessageData as Message, FrameData as Frame, AuthenticatorData as Authenticator, macs, signature, ViewChangeData, NewViewData, view_change as ViewChange}
+use Rattle.wire_format.specs.Spelling.{is_signed, authenticator_is_signed}
+use Rattle.wire_format.specs.Words.{said}
 use Rattle.authenticator.specs.Membership.{has_sender}
 use Rattle.signing.specs.Heard.{has_signature, is_signed_frame, signed_body}
 use Rattle.protocol.specs.System.Configuration.{Configuration, replicas, primary, is_replica, members}

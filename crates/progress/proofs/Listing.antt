@@ -4,8 +4,8 @@ use Rattle.std.specs.Prelude.{◌==◌, nat_lt, nat_le}
 use Rattle.std.proofs.lemmas.Bool.{and_from, lt-ltb, le-leb, eqb-false}
 use Rattle.std.proofs.lemmas.Slice.Eq.{bytes_eq-Decides}
 use Rattle.sha2.specs.Sha256.{sha256}
-use Rattle.wire.specs.Lists.{Each}
-use Rattle.wire.specs.Messages.{BatchEntryData as BatchEntry}
+use Rattle.wire_format.specs.Lists.{Each}
+use Rattle.wire_format.specs.Messages.{BatchEntryData as BatchEntry}
 use Rattle.protocol.specs.System.Configuration.{Configuration, span, is_number}
 use Rattle.protocol.specs.System.Trace.{Entry, Always, Has}
 use Rattle.protocol.specs.Replica.Certificates.{view, low, is_in_marks, logged, Prepared}

@@ -3,7 +3,7 @@ use Rattle.std.proofs.Common.{◌≡◌, ℕ, zero, suc, ◌+◌, ◌≤◌, ◌
 use Rattle.std.specs.Option.{option_map_or}
 use Rattle.std.proofs.lemmas.Bool.{ltb-false}
 use Rattle.tuple_codec.specs.Operations.{Outcome}
-use Rattle.wire.specs.Words.{requests_of}
+use Rattle.wire_format.specs.Words.{requests_of}
 use Rattle.protocol.specs.System.Configuration.{Configuration, IsConfiguration, primary, is_correct_replica, is_correct_client}
 use Rattle.protocol.specs.System.Trace.{Entry, history_of, Once, Has, Unforged}
 use Rattle.protocol.specs.System.Trace.Entry.{Tick, Accepted}

@@ -2,8 +2,8 @@
 use Rattle.std.proofs.Common.{◌≡◌, ℕ, zero, suc, inl, inr, List, [], ◌∷◌, map, true, refl, sym, ap, ◌∙◌, subst, arith}
 use Rattle.tuple_codec.specs.Operations.{Outcome}
 use Rattle.terms.specs.declared.order.Mode.TheVariants as modes
-use Rattle.wire.specs.Messages.{BodyData as Body, reply as Reply}
-use Rattle.wire.specs.Words.{requests_of}
+use Rattle.wire_format.specs.Messages.{BodyData as Body, reply as Reply}
+use Rattle.wire_format.specs.Words.{requests_of}
 use Rattle.protocol.specs.System.Configuration.{Configuration, IsConfiguration, is_correct_replica, is_correct_client}
 use Rattle.protocol.specs.System.Trace.{Entry, party_of, history_of, Once, Has, SendsBody, Unforged}
 use Rattle.protocol.specs.System.Texts.{NoCollision}

@@ -9,7 +9,7 @@ use Rattle.quorum.specs.Votes.{or_else}
 use Rattle.tuple_codec.specs.Operations.{Outcome}
 use Rattle.terms.specs.declared.order.Mode.TheVariants as modes
 use Rattle.reply_cache.specs.Replies.{Kept}
-use Rattle.wire.specs.Messages.{BodyData as Body, ViewChangeData, NewViewData, CheckpointEntryData as CheckpointEntry, pre_prepare as PrePrepare}
+use Rattle.wire_format.specs.Messages.{BodyData as Body, ViewChangeData, NewViewData, CheckpointEntryData as CheckpointEntry, pre_prepare as PrePrepare}
 use Rattle.signing.proofs.Heard.{heard_was_opened}
 use Rattle.protocol.specs.System.Configuration.{Configuration, IsConfiguration, primary, span, is_number, is_correct_replica, is_correct_client, members}
 use Rattle.protocol.specs.System.Trace.{Entry, party_of, history_of, Once, SendsBody, Has, Unforged}

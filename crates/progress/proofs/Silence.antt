@@ -6,7 +6,7 @@ use Rattle.std.specs.Option.{option_map_or}
 use Rattle.std.proofs.Math.Nat.{zero-mod}
 use Rattle.std.proofs.lemmas.Bool.{and_parts, and_from, leb-true, leb-false, ltb-true, lt-ltb}
 use Rattle.quorum.specs.Quorum.{count_below}
-use Rattle.wire.specs.Messages.{BodyData as Body, MessageData as Message, ViewChangeData, NewViewData, BatchEntryData as BatchEntry, CheckpointEntryData as CheckpointEntry, view_change as ViewChange, new_view as NewView}
+use Rattle.wire_format.specs.Messages.{BodyData as Body, MessageData as Message, ViewChangeData, NewViewData, BatchEntryData as BatchEntry, CheckpointEntryData as CheckpointEntry, view_change as ViewChange, new_view as NewView}
 use Rattle.signing.specs.Heard.{heard}
 use Rattle.protocol.specs.System.Configuration.{Configuration, IsConfiguration, primary, is_correct_replica, members}
 use Rattle.protocol.specs.System.Trace.{Entry, history_of, Once, Always, Has, Unforged}

@@ -3,9 +3,9 @@ use Rattle.std.proofs.Common.{◌≡◌, ◌≢◌, ℕ, suc, ◌≤◌, ◌<◌
 use Rattle.std.specs.Prelude.{◌==◌, nat_le, option_and_then}
 use Rattle.std.proofs.lemmas.List.{append-nil}
 use Rattle.std.proofs.lemmas.Bool.{and_parts, and_from, ltb-true, leb-true, leb-false, le-leb, eqb-false}
-use Rattle.wire.specs.Messages.{BodyData as Body, MessageData as Message, ViewChangeData, view_change as ViewChange}
-use Rattle.wire.specs.Spelling.{IsDigest, IsMessage, body_spelling}
-use Rattle.wire.specs.Words.{said}
+use Rattle.wire_format.specs.Messages.{BodyData as Body, MessageData as Message, ViewChangeData, view_change as ViewChange}
+use Rattle.wire_format.specs.Spelling.{IsDigest, IsMessage, body_spelling}
+use Rattle.wire_format.specs.Words.{said}
 use Rattle.signing.specs.Heard.{signed_body}
 use Rattle.signing.specs.Signatures.{signature_of}
 use Rattle.signing.proofs.Signed.{signature_of-verifies}

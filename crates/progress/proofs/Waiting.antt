@@ -6,7 +6,7 @@ use Rattle.std.specs.Option.{option_map_or}
 use Rattle.std.proofs.lemmas.Bool.{and_parts, ltb-true, ltb-false, or_parts, not-false}
 use Rattle.tuple_codec.specs.Operations.{Operation}
 use Rattle.terms.specs.declared.order.Mode.TheVariants as modes
-use Rattle.wire.specs.Messages.{BodyData as Body}
+use Rattle.wire_format.specs.Messages.{BodyData as Body}
 use Rattle.signing.specs.Heard.{heard}
 use Rattle.protocol.specs.System.Configuration.{Configuration, primary, is_client, is_correct_replica, is_correct_client, members}
 use Rattle.protocol.specs.System.Trace.{Entry, is_output, history_of, Once, Has, Hears}

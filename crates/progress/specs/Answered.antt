@@ -4,7 +4,7 @@ use Rattle.std.specs.Prelude.{◌≡◌, ℕ, ◌+◌, ◌*◌, ◌≤◌, Bool,
 use Rattle.quorum.specs.Quorum.{count_below}
 use Rattle.tuple_codec.specs.Operations.{Outcome}
 use Rattle.terms.specs.declared.order.Mode.TheVariants as modes
-use Rattle.wire.specs.Messages.{reply as Reply}
+use Rattle.wire_format.specs.Messages.{reply as Reply}
 use Rattle.protocol.specs.System.Configuration.{Configuration, IsConfiguration, replicas, is_correct_replica, is_correct_client}
 use Rattle.protocol.specs.System.Trace.{Entry, history_of, Once, SendsBody, Unforged}
 use Rattle.protocol.specs.System.Trace.Entry.{Tick, Accepted}

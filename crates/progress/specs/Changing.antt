@@ -1,6 +1,6 @@
 -- A view change as a whole, from any view and over whatever was prepared before (Castro and Liskov, TOCS 2002, 4.5.2).
 use Rattle.std.specs.Prelude.{◌≡◌, ℕ, ◌≤◌, ◌<◌, ◌⊎◌, true, List, []}
-use Rattle.wire.specs.Messages.{ViewChangeData, CheckpointEntryData as CheckpointEntry, view_change as ViewChange}
+use Rattle.wire_format.specs.Messages.{ViewChangeData, CheckpointEntryData as CheckpointEntry, view_change as ViewChange}
 use Rattle.protocol.specs.System.Configuration.{Configuration, IsConfiguration, primary, is_correct_replica}
 use Rattle.protocol.specs.System.Trace.{Entry, history_of, Once, SendsBody, Has, Unforged}
 use Rattle.protocol.specs.System.Run.{IsRun, OnlyTheseStopped}

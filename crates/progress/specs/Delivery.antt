@@ -2,7 +2,7 @@
 -- free, and frames of faulty parties may be lost.
 use Rattle.std.specs.Prelude.{◌≡◌, ℕ, true, List, []}
 use Rattle.std.specs.Option.{option_map_or}
-use Rattle.wire.specs.Words.{frame_of}
+use Rattle.wire_format.specs.Words.{frame_of}
 use Rattle.protocol.specs.System.Configuration.{Configuration, is_correct}
 use Rattle.protocol.specs.System.Trace.{Entry, Has}
 use Rattle.protocol.specs.System.Trace.Entry.{Got, Sent}

@@ -2,7 +2,7 @@
 -- executes all numbers that the primary assigned.
 use Rattle.std.specs.Prelude.{◌≡◌, ℕ, ◌+◌, ◌≤◌, ◌<◌, true, List, [], ◌++◌, Some}
 use Rattle.tuple_codec.specs.Operations.{Outcome}
-use Rattle.wire.specs.Messages.{pre_prepare as PrePrepare}
+use Rattle.wire_format.specs.Messages.{pre_prepare as PrePrepare}
 use Rattle.protocol.specs.System.Configuration.{Configuration, IsConfiguration, primary, span, is_number, is_correct_replica, is_correct_client}
 use Rattle.protocol.specs.System.Trace.{Entry, history_of, Once, SendsBody, Unforged}
 use Rattle.protocol.specs.System.Trace.Entry.{Installed, Tick, Accepted}

@@ -2,9 +2,9 @@
 -- (Castro and Liskov, TOCS 2002, 4.5.2).
 use Rattle.std.specs.Prelude.{◌≡◌, ◌≢◌, ℕ, suc, ◌+◌, ◌*◌, ◌≤◌, ◌<◌, ◌⊎◌, Bool, true, List, [], ◌∷◌, ◌++◌, Some}
 use Rattle.quorum.specs.Quorum.{count_below}
-use Rattle.wire.specs.Lists.{Each}
-use Rattle.wire.specs.Messages.{ViewChangeData, NewViewData, CheckpointEntryData as CheckpointEntry, view_change as ViewChange}
-use Rattle.wire.specs.Words.{said}
+use Rattle.wire_format.specs.Lists.{Each}
+use Rattle.wire_format.specs.Messages.{ViewChangeData, NewViewData, CheckpointEntryData as CheckpointEntry, view_change as ViewChange}
+use Rattle.wire_format.specs.Words.{said}
 use Rattle.protocol.specs.System.Configuration.{Configuration, IsConfiguration, replicas, primary, is_number, is_correct_replica}
 use Rattle.protocol.specs.System.Trace.{Entry, history_of, Has, Unforged}
 use Rattle.protocol.specs.System.Trace.Entry.{Tick}

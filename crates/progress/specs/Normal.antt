@@ -10,8 +10,8 @@ use Rattle.protocol.specs.System.Run.{IsRun, OnlyTheseStopped}
 use Rattle.protocol.specs.Replica.Certificates.{is_active_in, low, is_in_marks, are_genuine, logged}
 use Rattle.protocol.specs.Replica.Owed.{HasRequest}
 use Rattle.terms.specs.declared.order.Mode.TheVariants as modes
-use Rattle.wire.specs.Words.{requests_of}
-use Rattle.wire.specs.Lists.{Each}
+use Rattle.wire_format.specs.Words.{requests_of}
+use Rattle.wire_format.specs.Lists.{Each}
 use Rattle.protocol.specs.Client.RightClient.{OpenCall, open_call, IsRequest}
 use Rattle.protocol.specs.Space.Linear.{reached}
 use Rattle.progress.specs.Delivery.{HasEntry, AllDelivered}

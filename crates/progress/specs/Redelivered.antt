@@ -2,7 +2,7 @@
 -- executes all numbers that the primary assigned, whatever it missed.
 use Rattle.std.specs.Prelude.{◌≡◌, ℕ, suc, ◌+◌, ◌≤◌, ◌<◌, true, List, [], ◌∷◌, ◌++◌, reverse, filter, map, Some}
 use Rattle.tuple_codec.specs.Operations.{Outcome}
-use Rattle.wire.specs.Messages.{pre_prepare as PrePrepare}
+use Rattle.wire_format.specs.Messages.{pre_prepare as PrePrepare}
 use Rattle.protocol.specs.System.Configuration.{Configuration, IsConfiguration, primary, is_correct, is_correct_replica, is_correct_client}
 use Rattle.protocol.specs.System.Trace.{Entry, history_of, Once, Has, SendsBody, Unforged}
 use Rattle.protocol.specs.System.Trace.Entry.{Got, Sent, Tick, Accepted}

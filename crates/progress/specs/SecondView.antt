@@ -1,7 +1,7 @@
 -- The second view as a whole: if it goes on after a silent first one, every open call of a correct client is accepted.
 use Rattle.std.specs.Prelude.{◌≡◌, ℕ, suc, ◌+◌, ◌≤◌, true, List, [], ◌++◌, Some}
 use Rattle.tuple_codec.specs.Operations.{Outcome}
-use Rattle.wire.specs.Messages.{NewViewData, pre_prepare as PrePrepare}
+use Rattle.wire_format.specs.Messages.{NewViewData, pre_prepare as PrePrepare}
 use Rattle.protocol.specs.System.Configuration.{Configuration, IsConfiguration, primary, span, is_faulty_replica, is_correct_replica, is_correct_client}
 use Rattle.protocol.specs.System.Trace.{Entry, history_of, Once, SendsBody, Unforged}
 use Rattle.protocol.specs.System.Trace.Entry.{Tick, Accepted}

@@ -1,8 +1,8 @@
 -- One view change: if the first view's primary is silent, each correct replica comes into the second view (Castro and
 -- Liskov, TOCS 2002, 4.5.2).
 use Rattle.std.specs.Prelude.{◌≡◌, ◌≢◌, ℕ, ◌≤◌, ◌⊎◌, true, false, List, [], ◌++◌, Some, None}
-use Rattle.wire.specs.Lists.{Each}
-use Rattle.wire.specs.Messages.{BodyData as Body}
+use Rattle.wire_format.specs.Lists.{Each}
+use Rattle.wire_format.specs.Messages.{BodyData as Body}
 use Rattle.signing.specs.Heard.{heard, signed_body}
 use Rattle.protocol.specs.System.Configuration.{Configuration, IsConfiguration, primary, is_faulty_replica, is_correct_replica, members}
 use Rattle.protocol.specs.System.Trace.{Entry, history_of, Unforged, frames_in}

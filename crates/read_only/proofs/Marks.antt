@@ -5,8 +5,8 @@ use lib.Dec.{eqb}
 use Rattle.terms.specs.declared.order.Mode.{Mode}
 use Rattle.terms.specs.declared.order.Mode.TheVariants as modes
 use Rattle.tuple_codec.specs.Operations.{Operation}
-use Rattle.wire.specs.Messages.{MessageData, request, BodyData}
-use Rattle.wire.specs.Spelling.{authenticator_spelling, fields_spelling, message_type}
+use Rattle.wire_format.specs.Messages.{MessageData, request, BodyData}
+use Rattle.wire_format.specs.Spelling.{authenticator_spelling, fields_spelling, message_type}
 use Rattle.authenticator.specs.Membership.{Membership}
 use Rattle.signing.specs.Heard.{heard}
 use Rattle.signing.proofs.Heard.{heard_was_opened}

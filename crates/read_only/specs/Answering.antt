@@ -9,10 +9,10 @@ use Rattle.tuple_codec.specs.Spelling.{SpellsOperation}
 use Rattle.tuple_codec.specs.declared.operations.Answer.{Answer}
 use Rattle.space.specs.Applying.{outcome, is_read_only}
 use Rattle.space.specs.Births.{SpaceState, tuples_of}
-use Rattle.wire.specs.Messages.{MessageData, reply}
-use Rattle.wire.specs.Views.{message_data}
-use Rattle.wire.specs.declared.messages.Message.TheVariants as messages
-use Rattle.wire.specs.declared.messages.Reply.{Reply}
+use Rattle.wire_format.specs.Messages.{MessageData, reply}
+use Rattle.wire_format.specs.Views.{message_data}
+use Rattle.wire_format.specs.declared.messages.Message.TheVariants as messages
+use Rattle.wire_format.specs.declared.messages.Reply.{Reply}
 use Rattle.read_only.specs.declared.answering.Shelf.{Shelf}
 use Rattle.read_only.specs.declared.hearing.ReadRequest.{ReadRequest}
 

@@ -4,7 +4,7 @@ use Rattle.std.specs.Prelude.{◌≡◌, ◌≢◌, ℕ, ◌+◌, List, Some}
 use Rattle.terms.specs.declared.order.Mode.TheVariants as modes
 use Rattle.tuple_codec.specs.Operations.{Operation}
 use Rattle.tuple_codec.specs.Spelling.{SpellsOperation}
-use Rattle.wire.specs.Messages.{BodyData, request}
+use Rattle.wire_format.specs.Messages.{BodyData, request}
 use Rattle.authenticator.specs.Membership.{Membership}
 use Rattle.signing.specs.Heard.{heard}
 

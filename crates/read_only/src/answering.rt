@@ -3,7 +3,7 @@
 ghost use Rattle.std.specs.Prelude.{◌≡◌, ◌↔◌, IfOk, MatchResult};
 ghost use Rattle.tuple_codec.specs.OperationView.{outcome_of};
 ghost use Rattle.tuple_codec.specs.Spelling.{SpellsSomeOperation};
-ghost use Rattle.wire.specs.Spelling.{IsMessage};
+ghost use Rattle.wire_format.specs.Spelling.{IsMessage};
 ghost use Rattle.read_only.specs.Answering.{AnswersRead, AnswersText, SpellsNoRead, SpellsRead, begins_as_read, read_reply, reply_data};
 
 use crate::hearing::ReadRequest;

@@ -3,8 +3,8 @@ use Rattle.std.proofs.Common.{◌≡◌, ℕ, ◌+◌, ◌≤◌, ◌<◌, inl, 
 use Rattle.std.specs.Prelude.{is_some, ◌==◌}
 use Rattle.std.proofs.lemmas.Bool.{eqb-true, eqb-false}
 use Rattle.std.proofs.lemmas.List.{append-nil, append_assoc}
-use Rattle.wire.specs.Messages.{MessageData as Message, CheckpointEntryData as CheckpointEntry, pre_prepare as PrePrepare, prepare as Prepare, commit as Commit, checkpoint as Checkpoint, new_view as NewView}
-use Rattle.wire.specs.Words.{requests_of, said}
+use Rattle.wire_format.specs.Messages.{MessageData as Message, CheckpointEntryData as CheckpointEntry, pre_prepare as PrePrepare, prepare as Prepare, commit as Commit, checkpoint as Checkpoint, new_view as NewView}
+use Rattle.wire_format.specs.Words.{requests_of, said}
 use Rattle.signing.specs.Heard.{heard}
 use Rattle.ordering.specs.Log as logs
 use Rattle.ordering.specs.Log.{LogData, with_batch}

@@ -4,13 +4,13 @@ use Rattle.terms.specs.declared.parties.Party.TheVariants as parties
 use Rattle.terms.specs.declared.parties.ReplicaId.{ReplicaId}
 use Rattle.terms.specs.declared.state.Level.{Level}
 use Rattle.terms.specs.declared.state.Level.TheVariants as levels
-use Rattle.wire.specs.Lists.{Each}
-use Rattle.wire.specs.Messages.{BodyData as Body, MessageData as Message, fetch as FetchMessage}
-use Rattle.wire.specs.Spelling.{IsMessage, last_index}
-use Rattle.wire.specs.Views.{message_data}
-use Rattle.wire.specs.declared.messages.Fetch.{Fetch}
-use Rattle.wire.specs.declared.messages.Message.{Message as WireMessage}
-use Rattle.wire.specs.declared.messages.Message.TheVariants as messages
+use Rattle.wire_format.specs.Lists.{Each}
+use Rattle.wire_format.specs.Messages.{BodyData as Body, MessageData as Message, fetch as FetchMessage}
+use Rattle.wire_format.specs.Spelling.{IsMessage, last_index}
+use Rattle.wire_format.specs.Views.{message_data}
+use Rattle.wire_format.specs.declared.messages.Fetch.{Fetch}
+use Rattle.wire_format.specs.declared.messages.Message.{Message as WireMessage}
+use Rattle.wire_format.specs.declared.messages.Message.TheVariants as messages
 use Rattle.authenticator.specs.Membership.{Membership}
 use Rattle.signing.specs.Heard.{heard}
 use Rattle.signing.proofs.Heard.{heard_was_opened}
@@ -30,7 +30,7 @@ use Rattle.replica_histories.specs.TransfersAnswers.{answer_by}
 use Rattle.replica_histories.proofs.Answering.{parts_fit, kept_fetches_count, parts_suffice, other_numbers_owe_none}
 use Rattle.replica_histories.proofs.TransfersAnswering.{posted_to_one}
 use Rattle.replica.specs.declared.taking.Touched.TheVariants as touched
-use Rattle.wire.specs.Spelling.{is_signed}
+use Rattle.wire_format.specs.Spelling.{is_signed}
 use Rattle.replica.specs.State.{JoinedData, AreOne}
 use Rattle.replica.specs.Desks.{given, FitsEvent}
 use Rattle.replica.specs.Entering.{event_of, TakesBytes}

@@ -1,6 +1,6 @@
 -- The fetch of the place that an open transfer asks for.
 use Rattle.std.proofs.Common.{◌≡◌, ℕ, List, ◌∷◌, Some, refl, sym, subst}
-use Rattle.wire.specs.Messages.{MessageData as Message}
+use Rattle.wire_format.specs.Messages.{MessageData as Message}
 use Rattle.events.specs.declared.output.Output.{Output}
 use Rattle.state_transfer.specs.Transfer.{TransferData}
 use Rattle.protocol.specs.System.Configuration.{Configuration, members}

@@ -5,18 +5,18 @@ use Rattle.std.specs.Bool.{then_some}
 use Rattle.std.specs.List.{list_all}
 use Rattle.terms.specs.declared.order.View.{View}
 use Rattle.terms.specs.declared.parties.ReplicaId.{ReplicaId}
-use Rattle.wire.specs.Lists.{Each}
-use Rattle.wire.specs.Messages.{BodyData as Body, CheckpointEntryData as CheckpointEntry, ViewChangeData, new_view as NewView, pre_prepare as PrePrepare}
-use Rattle.wire.specs.Spelling.{IsBatch, IsMessage}
-use Rattle.wire.specs.Views.{message_data, new_view_data}
-use Rattle.wire.specs.declared.messages.Checkpoint.{Checkpoint}
-use Rattle.wire.specs.declared.messages.Commit.{Commit}
-use Rattle.wire.specs.declared.messages.Prepare.{Prepare}
-use Rattle.wire.specs.declared.messages.Message.{Message as WireMessage}
-use Rattle.wire.specs.declared.messages.Message.TheVariants as messages
-use Rattle.wire.specs.declared.messages.Meta.{Meta as WireMeta}
-use Rattle.wire.specs.declared.messages.NewView.{NewView as WireNewView}
-use Rattle.wire.specs.declared.messages.PrePrepare.{PrePrepare as WirePrePrepare}
+use Rattle.wire_format.specs.Lists.{Each}
+use Rattle.wire_format.specs.Messages.{BodyData as Body, CheckpointEntryData as CheckpointEntry, ViewChangeData, new_view as NewView, pre_prepare as PrePrepare}
+use Rattle.wire_format.specs.Spelling.{IsBatch, IsMessage}
+use Rattle.wire_format.specs.Views.{message_data, new_view_data}
+use Rattle.wire_format.specs.declared.messages.Checkpoint.{Checkpoint}
+use Rattle.wire_format.specs.declared.messages.Commit.{Commit}
+use Rattle.wire_format.specs.declared.messages.Prepare.{Prepare}
+use Rattle.wire_format.specs.declared.messages.Message.{Message as WireMessage}
+use Rattle.wire_format.specs.declared.messages.Message.TheVariants as messages
+use Rattle.wire_format.specs.declared.messages.Meta.{Meta as WireMeta}
+use Rattle.wire_format.specs.declared.messages.NewView.{NewView as WireNewView}
+use Rattle.wire_format.specs.declared.messages.PrePrepare.{PrePrepare as WirePrePrepare}
 use Rattle.authenticator.specs.Membership.{Membership}
 use Rattle.signing.specs.Heard.{heard}
 use Rattle.signing.proofs.Heard.{heard_was_opened}

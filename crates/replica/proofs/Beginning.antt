@@ -8,23 +8,23 @@ use lib.Dec.{eqb}
 use Rattle.quorum.specs.Votes.{or_else}
 use Rattle.terms.specs.declared.order.Number.{Number}
 use Rattle.terms.specs.declared.parties.ReplicaId.{ReplicaId}
-use Rattle.wire.specs.declared.messages.PrePrepare.{PrePrepare as WirePrePrepare}
-use Rattle.wire.specs.declared.messages.Prepare.{Prepare as WirePrepare}
-use Rattle.wire.specs.declared.messages.Commit.{Commit as WireCommit}
-use Rattle.wire.specs.declared.messages.Checkpoint.{Checkpoint as WireCheckpoint}
-use Rattle.wire.specs.declared.messages.Fetch.{Fetch as WireFetch}
-use Rattle.wire.specs.declared.messages.ViewChange.{ViewChange as WireViewChange}
-use Rattle.wire.specs.declared.messages.NewView.{NewView as WireNewView}
-use Rattle.wire.specs.declared.messages.Meta.{Meta as WireMeta}
-use Rattle.wire.specs.declared.messages.Page.{Page as WirePage}
-use Rattle.wire.specs.Words.{requests_of}
-use Rattle.wire.specs.declared.messages.Request.{Request as WireRequest}
-use Rattle.wire.specs.declared.messages.Message.{Message as WireMessage}
-use Rattle.wire.specs.declared.messages.Message.TheVariants as messages
+use Rattle.wire_format.specs.declared.messages.PrePrepare.{PrePrepare as WirePrePrepare}
+use Rattle.wire_format.specs.declared.messages.Prepare.{Prepare as WirePrepare}
+use Rattle.wire_format.specs.declared.messages.Commit.{Commit as WireCommit}
+use Rattle.wire_format.specs.declared.messages.Checkpoint.{Checkpoint as WireCheckpoint}
+use Rattle.wire_format.specs.declared.messages.Fetch.{Fetch as WireFetch}
+use Rattle.wire_format.specs.declared.messages.ViewChange.{ViewChange as WireViewChange}
+use Rattle.wire_format.specs.declared.messages.NewView.{NewView as WireNewView}
+use Rattle.wire_format.specs.declared.messages.Meta.{Meta as WireMeta}
+use Rattle.wire_format.specs.declared.messages.Page.{Page as WirePage}
+use Rattle.wire_format.specs.Words.{requests_of}
+use Rattle.wire_format.specs.declared.messages.Request.{Request as WireRequest}
+use Rattle.wire_format.specs.declared.messages.Message.{Message as WireMessage}
+use Rattle.wire_format.specs.declared.messages.Message.TheVariants as messages
 use Rattle.wire.specs.Marks.{has_type_of_requests}
-use Rattle.wire.specs.Spelling.{message_type}
-use Rattle.wire.specs.Views.{message_data}
-use Rattle.wire.specs.Messages.{BodyData as Body, NewViewData, pre_prepare as PrePrepare, prepare as Prepare, commit as Commit}
+use Rattle.wire_format.specs.Spelling.{message_type}
+use Rattle.wire_format.specs.Views.{message_data}
+use Rattle.wire_format.specs.Messages.{BodyData as Body, NewViewData, pre_prepare as PrePrepare, prepare as Prepare, commit as Commit}
 use Rattle.signing.specs.Heard.{heard}
 use Rattle.signing.proofs.Heard.{heard_was_opened}
 use Rattle.signing.proofs.Requests.{heard_is_marked}

@@ -1,7 +1,7 @@
 -- An event that begins with a message that orders nothing and is no request.
 use Rattle.std.proofs.Common.{◌≡◌, ◌∷◌, ℕ, inl, List, [], Some, None, refl, sym, ap, ◌∙◌, subst}
 use Rattle.std.specs.Option.{option_and_then}
-use Rattle.wire.specs.Messages.{BodyData as Body, MessageData as Message}
+use Rattle.wire_format.specs.Messages.{BodyData as Body, MessageData as Message}
 use Rattle.signing.specs.Heard.{heard}
 use Rattle.protocol.specs.System.Configuration.{Configuration, members}
 use Rattle.protocol.specs.System.Trace.{Entry}

@@ -1,8 +1,8 @@
 -- A received ordered request is in the frame of one.
 use Rattle.std.proofs.Common.{◌≡◌, ℕ, true, List, Some, ap, ◌∙◌}
 use Rattle.terms.specs.declared.order.Mode.TheVariants as modes
-use Rattle.wire.specs.Messages.{BodyData as Body, MessageData as Message, request as Request, pre_prepare, new_view}
-use Rattle.wire.specs.Spelling.{IsMessage, IsPlain, IsCarried, is_ordered_request}
+use Rattle.wire_format.specs.Messages.{BodyData as Body, MessageData as Message, request as Request, pre_prepare, new_view}
+use Rattle.wire_format.specs.Spelling.{IsMessage, IsPlain, IsCarried, is_ordered_request}
 use Rattle.authenticator.specs.Membership.{Membership}
 use Rattle.signing.specs.Heard.{heard}
 use Rattle.signing.proofs.Heard.{heard_was_opened}

@@ -2,9 +2,9 @@
 use Rattle.std.proofs.Common.{◌≡◌, ◌≢◌, ℕ, ◌<◌, ◌⊎◌, inl, inr, max, Bool, true, false, List, [], ◌∷◌, map, Option, Some, None, refl, sym, ap, ◌∙◌, subst, ap₂, arith}
 use Rattle.std.specs.Prelude.{is_some, option_and_then}
 use Rattle.std.specs.Option.{option_map_or}
-use Rattle.wire.specs.Messages.{BodyData as Body, FrameData as Frame, MessageData as Message, ViewChangeData, view_change as ViewChange}
-use Rattle.wire.specs.Views.{view_change_data}
-use Rattle.wire.proofs.Saying.{reads_frames}
+use Rattle.wire_format.specs.Messages.{BodyData as Body, FrameData as Frame, MessageData as Message, ViewChangeData, view_change as ViewChange}
+use Rattle.wire_format.specs.Views.{view_change_data}
+use Rattle.wire_format.proofs.Saying.{reads_frames}
 use Rattle.signing.specs.Heard.{heard}
 use Rattle.signing.proofs.Heard.{heard_was_opened}
 use Rattle.events.specs.declared.output.Output.{Output}

@@ -3,8 +3,8 @@ use Rattle.std.proofs.Common.{◌≡◌, ◌≢◌, ℕ, ◌<◌, ◌+◌, ◌�
 use Rattle.std.specs.declared.alloc.Global.{Global}
 use Rattle.std.proofs.lemmas.Bool.{leb-false}
 use Rattle.std.proofs.lemmas.List.{append-nil}
-use Rattle.wire.specs.Messages.{MessageData as Message, ViewChangeData, CheckpointEntryData as CheckpointEntry, view_change as ViewChange}
-use Rattle.wire.specs.Views.{view_change_data}
+use Rattle.wire_format.specs.Messages.{MessageData as Message, ViewChangeData, CheckpointEntryData as CheckpointEntry, view_change as ViewChange}
+use Rattle.wire_format.specs.Views.{view_change_data}
 use Rattle.ordering.specs.Log.{left}
 use Rattle.ordering.specs.Keeping.{IsLog}
 use Rattle.events.specs.declared.output.Output.{Output}

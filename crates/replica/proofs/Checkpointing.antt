@@ -2,7 +2,7 @@
 use Rattle.std.proofs.Common.{◌≡◌, Bool, true, false, Option, None, Result, Ok, Err, inr, sym}
 use Rattle.std.specs.Prelude.{is_err}
 use Rattle.terms.specs.declared.parties.ReplicaId.{ReplicaId}
-use Rattle.wire.specs.declared.messages.Checkpoint.{Checkpoint as CheckpointMessage}
+use Rattle.wire_format.specs.declared.messages.Checkpoint.{Checkpoint as CheckpointMessage}
 use Rattle.ordering.specs.declared.dropped.Dropped.{Dropped}
 use Rattle.ordering.specs.Log as logs
 use Rattle.ordering.specs.Log.{LogData}

@@ -2,7 +2,7 @@
 use Rattle.std.proofs.Common.{◌≡◌, ℕ, ◌+◌, ◌*◌, ◌%◌, ◌⊎◌, inl, inr, Bool, true, false, List, [], Vec, Option, None, IfNone, refl, sym, ap, ap₂, ◌∙◌, subst}
 use Rattle.std.specs.Prelude.{nat_lt}
 use Rattle.std.specs.declared.alloc.Global.{Global}
-use Rattle.wire.specs.Messages.{ViewChangeData, NewViewData, BatchEntryData as Claim, CheckpointEntryData as CheckpointEntry}
+use Rattle.wire_format.specs.Messages.{ViewChangeData, NewViewData, BatchEntryData as Claim, CheckpointEntryData as CheckpointEntry}
 use Rattle.authenticator.specs.Membership.{Membership}
 use Rattle.ordering.specs.Log as logs
 use Rattle.ordering.specs.Log.{LogData}

@@ -4,8 +4,8 @@ use Rattle.std.specs.Arc.{arc_value}
 use Rattle.std.specs.declared.sync.Arc.{Arc}
 use Rattle.std.specs.declared.alloc.Global.{Global}
 use Rattle.std.proofs.lemmas.Bool.{eqb-false}
-use Rattle.wire.specs.Lists.{Each}
-use Rattle.wire.specs.Messages.{BatchEntryData as Claim, CheckpointEntryData as CheckpointEntry}
+use Rattle.wire_format.specs.Lists.{Each}
+use Rattle.wire_format.specs.Messages.{BatchEntryData as Claim, CheckpointEntryData as CheckpointEntry}
 use Rattle.ordering.specs.Log.{Row, LogData, is_in_marks, with_batch}
 use Rattle.events.specs.declared.output.Output.{Output}
 use Rattle.claims.specs.ClaimsView.{ClaimsData, claim_of, IsAmong}

@@ -6,8 +6,8 @@ use Rattle.std.specs.List.{list_all, list_any}
 use Rattle.std.specs.declared.alloc.Global.{Global}
 use Rattle.terms.specs.declared.parties.ClientId.{ClientId}
 use Rattle.terms.specs.declared.order.Timestamp.{Timestamp}
-use Rattle.wire.specs.Messages.{NewViewData, pre_prepare as PrePrepare}
-use Rattle.wire.specs.Words.{requests_of, said}
+use Rattle.wire_format.specs.Messages.{NewViewData, pre_prepare as PrePrepare}
+use Rattle.wire_format.specs.Words.{requests_of, said}
 use Rattle.protocol.specs.System.Configuration.{Configuration, primary}
 use Rattle.protocol.specs.System.Trace.{Entry, Has}
 use Rattle.protocol.specs.System.Trace.Entry.{Sent}

@@ -1,6 +1,6 @@
 -- What the replica keeps for later view changes.
 use Rattle.std.proofs.Common.{◌≡◌, ℕ, List, ◌∷◌, ap, ◌∙◌, subst}
-use Rattle.wire.specs.Lists.{Each}
+use Rattle.wire_format.specs.Lists.{Each}
 use Rattle.ordering.specs.Log.{with_batch}
 use Rattle.claims.specs.ClaimsView.{ClaimsData, claim_of, IsAmong}
 use Rattle.claims.specs.Recording.{with_logged}

@@ -5,10 +5,10 @@ use Rattle.std.specs.declared.alloc.Global.{Global}
 use Rattle.std.specs.declared.sync.Arc.{Arc}
 use Rattle.std.proofs.lemmas.List.{append-nil}
 use Rattle.sha2.specs.Sha256.{sha256}
-use Rattle.wire.specs.Spelling.{IsNewView}
-use Rattle.wire.specs.Views.{batch_text}
-use Rattle.wire.specs.declared.messages.Batch.{Batch}
-use Rattle.wire.specs.Messages.{BodyData as Body, MessageData as Message, NewViewData, ViewChangeData, new_view as NewView}
+use Rattle.wire_format.specs.Spelling.{IsNewView}
+use Rattle.wire_format.specs.Views.{batch_text}
+use Rattle.wire_format.specs.declared.messages.Batch.{Batch}
+use Rattle.wire_format.specs.Messages.{BodyData as Body, MessageData as Message, NewViewData, ViewChangeData, new_view as NewView}
 use Rattle.events.specs.declared.output.Output.{Output}
 use Rattle.posting.specs.Endpoint.{IsOwnSigned, SignedExceeds, says as of_party}
 use Rattle.posting.proofs.Fitting.{new_views_fit}

@@ -5,7 +5,7 @@ use Rattle.std.specs.Bool.{then_some}
 use Rattle.std.specs.Option.{option_map_or}
 use Rattle.std.proofs.lemmas.Bool.{and_parts}
 use Rattle.terms.specs.declared.parties.ReplicaId.{ReplicaId}
-use Rattle.wire.specs.Messages.{BodyData as Body, NewViewData, new_view as NewView}
+use Rattle.wire_format.specs.Messages.{BodyData as Body, NewViewData, new_view as NewView}
 use Rattle.signing.specs.Heard.{heard}
 use Rattle.events.specs.declared.output.Output.{Output}
 use Rattle.authenticator.specs.Membership.{Membership}

@@ -1,10 +1,10 @@
 -- The primary assigns the next number to the oldest requests without one.
 use Rattle.std.proofs.Common.{◌≡◌, ◌≢◌, ℕ, zero, suc, ◌+◌, ◌≤◌, ◌<◌, inl, inr, Bool, true, false, cond, not, List, [], ◌∷◌, length, map, take, drop, max, refl, sym, ap, ◌∙◌, subst, arith, AllPairs}
 use Rattle.std.proofs.lemmas.List.{take-append-drop, length-take, length-map}
-use Rattle.wire.specs.Lists.{Each}
-use Rattle.wire.specs.Spelling.{pieces_spelling}
-use Rattle.wire.specs.Words.{requests_of}
-use Rattle.wire.proofs.Telling.{reads_requests}
+use Rattle.wire_format.specs.Lists.{Each}
+use Rattle.wire_format.specs.Spelling.{pieces_spelling}
+use Rattle.wire_format.specs.Words.{requests_of}
+use Rattle.wire_format.proofs.Telling.{reads_requests}
 use Rattle.events.specs.declared.output.Output.{Output}
 use Rattle.ordering.specs.Log as logs
 use Rattle.ordering.specs.Log.{LogData}

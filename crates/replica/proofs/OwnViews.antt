@@ -7,10 +7,10 @@ use Rattle.std.specs.declared.alloc.Global.{Global}
 use Rattle.std.specs.declared.sync.Arc.{Arc}
 use Rattle.std.proofs.lemmas.Bool.{and_from, and_parts, lt-ltb, le-leb, leb-false}
 use Rattle.std.proofs.lemmas.List.{length-map}
-use Rattle.wire.specs.Lists.{Each}
-use Rattle.wire.specs.Messages.{NewViewData, ViewChangeData, new_view as NewView}
-use Rattle.wire.specs.Words.{requests_of, requests_of_all, carried}
-use Rattle.wire.proofs.Telling.{reads_requests}
+use Rattle.wire_format.specs.Lists.{Each}
+use Rattle.wire_format.specs.Messages.{NewViewData, ViewChangeData, new_view as NewView}
+use Rattle.wire_format.specs.Words.{requests_of, requests_of_all, carried}
+use Rattle.wire_format.proofs.Telling.{reads_requests}
 use Rattle.ordering.specs.Log as logs
 use Rattle.ordering.specs.Keeping.{IsLog}
 use Rattle.events.specs.declared.output.Output.{Output}

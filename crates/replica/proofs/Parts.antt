@@ -1,9 +1,9 @@
 -- A part arrives and is taken: the open transfer has it, and the event goes on.
 use Rattle.std.proofs.Common.{◌≡◌, ◌≢◌, ℕ, ◌/◌, ◌%◌, slice_get, slice_index_or, inl, inr, true, false, List, [], ◌∷◌, Option, Some, None, refl, sym, ap, ◌∙◌, subst, option_map}
-use Rattle.wire.specs.Messages.{BodyData as Body, MessageData, MessageData as Message, fetch as FetchMessage, meta as MetaMessage, page as PageMessage}
+use Rattle.wire_format.specs.Messages.{BodyData as Body, MessageData, MessageData as Message, fetch as FetchMessage, meta as MetaMessage, page as PageMessage}
 use Rattle.std.specs.Option.{option_map_or}
-use Rattle.wire.specs.declared.messages.Meta.{Meta}
-use Rattle.wire.specs.declared.messages.Page.{Page}
+use Rattle.wire_format.specs.declared.messages.Meta.{Meta}
+use Rattle.wire_format.specs.declared.messages.Page.{Page}
 use Rattle.sha2.specs.Sha256.{sha256}
 use Rattle.terms.specs.declared.state.Level.{Level}
 use Rattle.terms.specs.declared.state.Level.TheVariants as levels

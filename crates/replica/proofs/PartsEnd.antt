@@ -1,8 +1,8 @@
 -- The last part of a state arrived: the replica installs the state, or it is none.
 use Rattle.std.proofs.Common.{◌≡◌, ℕ, inl, inr, true, false, List, [], Option, Some, None, refl, sym, ap, ◌∙◌, subst, arith}
-use Rattle.wire.specs.Messages.{meta as MetaMessage, page as PageMessage}
-use Rattle.wire.specs.declared.messages.Meta.{Meta}
-use Rattle.wire.specs.declared.messages.Page.{Page}
+use Rattle.wire_format.specs.Messages.{meta as MetaMessage, page as PageMessage}
+use Rattle.wire_format.specs.declared.messages.Meta.{Meta}
+use Rattle.wire_format.specs.declared.messages.Page.{Page}
 use Rattle.terms.specs.declared.parties.ReplicaId.{ReplicaId}
 use Rattle.events.specs.declared.output.Output.{Output}
 use Rattle.partition_tree.specs.Digests.{root_of as root_of_pages}

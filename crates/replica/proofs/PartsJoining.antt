@@ -7,9 +7,9 @@ use Rattle.quorum.specs.Votes.{has_digest}
 use Rattle.quorum.proofs.Counting.{count_same}
 use Rattle.std.specs.Prelude.{option_and_then}
 use Rattle.std.specs.Bool.{then_some}
-use Rattle.wire.specs.Words.{frame_of, said}
-use Rattle.wire.specs.Lists.{Each}
-use Rattle.wire.specs.Messages.{FrameData, MessageData as Message, ViewChangeData, NewViewData, CheckpointEntryData as CheckpointEntry, checkpoint as Checkpoint, view_change as ViewChange, new_view as NewView, request as Request, reply as Reply}
+use Rattle.wire_format.specs.Words.{frame_of, said}
+use Rattle.wire_format.specs.Lists.{Each}
+use Rattle.wire_format.specs.Messages.{FrameData, MessageData as Message, ViewChangeData, NewViewData, CheckpointEntryData as CheckpointEntry, checkpoint as Checkpoint, view_change as ViewChange, new_view as NewView, request as Request, reply as Reply}
 use Rattle.ordering.specs.Log.{LogData}
 use Rattle.protocol.specs.System.Configuration.{Configuration, primary, replicas, span}
 use Rattle.protocol.specs.System.Trace.{Entry, Once, Has, either}
@@ -28,8 +28,8 @@ use Rattle.replica_histories.specs.Events as histories
 use Rattle.replica_histories.specs.Numbers as numbers
 use Rattle.replica.specs.Idle.{IsIdle, IsQuiet, LeavesOut, CertifySame}
 use Rattle.replica.proofs.IdleEntries.{once_over, once_back, parted}
-use Rattle.wire.proofs.Saying.{reads_frames, reads_said}
-use Rattle.wire.specs.Spelling.{is_signed}
+use Rattle.wire_format.proofs.Saying.{reads_frames, reads_said}
+use Rattle.wire_format.specs.Spelling.{is_signed}
 use Rattle.protocol.specs.System.Frames.{leaf_in, leaf_of}
 use Rattle.protocol.proofs.Words.Posting.{unsigned_no_leaf}
 use Rattle.protocol.specs.Replica.Selection.{changes_of as changes_in}

@@ -5,9 +5,9 @@ use Rattle.std.specs.Prelude.{is_none, IsTrue, option_map}
 use Rattle.authenticator.specs.Membership.{Membership}
 use Rattle.events.specs.declared.output.Output.{Output}
 use Rattle.events.specs.Outputs.{after_event, AreSentAsMeant}
-use Rattle.wire.specs.Messages.{view_change as ViewChange}
-use Rattle.wire.specs.Words.{said}
-use Rattle.wire.proofs.Saying.{reads_said}
+use Rattle.wire_format.specs.Messages.{view_change as ViewChange}
+use Rattle.wire_format.specs.Words.{said}
+use Rattle.wire_format.proofs.Saying.{reads_said}
 use Rattle.protocol.specs.System.Configuration.{Configuration, IsConfiguration, members}
 use Rattle.protocol.specs.System.Reads.{without_reads}
 use Rattle.protocol.specs.System.Trace.{Entry}

@@ -1,6 +1,6 @@
 -- What the replica sends again, among the outputs and as entries.
 use Rattle.std.proofs.Common.{◌≡◌, ℕ, inl, true, false, List, [], ◌∷◌, ◌++◌, map, Some, sym, ◌∙◌, subst}
-use Rattle.wire.specs.Messages.{MessageData as Message, pre_prepare as PrePrepare, prepare as Prepare, commit as Commit, checkpoint as Checkpoint}
+use Rattle.wire_format.specs.Messages.{MessageData as Message, pre_prepare as PrePrepare, prepare as Prepare, commit as Commit, checkpoint as Checkpoint}
 use Rattle.posting.specs.Endpoint.{PostsToOthers}
 use Rattle.ordering.specs.Log as logs
 use Rattle.events.specs.declared.output.Output.{Output}

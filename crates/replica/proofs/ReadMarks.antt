@@ -1,9 +1,9 @@
 -- Bytes with the marks of a read-only request, or of a reply to one, say that, if anything.
 use Rattle.std.proofs.Common.{◌≡◌, ℕ, true, List, refl, sym, subst}
 use Rattle.terms.specs.declared.order.Mode.TheVariants as modes
-use Rattle.wire.specs.Messages.{BodyData as Body, MessageData as Message, AuthenticatorData, request as Request, reply as Reply}
-use Rattle.wire.specs.Spelling.{frame_spelling}
-use Rattle.wire.proofs.Saying.{says_what_is_spelled}
+use Rattle.wire_format.specs.Messages.{BodyData as Body, MessageData as Message, AuthenticatorData, request as Request, reply as Reply}
+use Rattle.wire_format.specs.Spelling.{frame_spelling}
+use Rattle.wire_format.proofs.Saying.{says_what_is_spelled}
 use Rattle.wire.specs.Marks.{asks_read, answers_read}
 use Rattle.replica.specs.Reads.{is_read_request, is_read_reply, MarkedAreRequests, MarkedAreReplies, RepliesAreMarked}
 

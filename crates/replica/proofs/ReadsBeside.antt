@@ -7,8 +7,8 @@ use Rattle.tuple_codec.specs.Operations.{Operation, Outcome}
 use Rattle.space.specs.Applying.{outcome, is_read_only}
 use Rattle.terms.specs.declared.order.Mode.TheVariants as modes
 use Rattle.terms.specs.declared.state.Level.TheVariants as levels
-use Rattle.wire.specs.Messages.{BodyData as Body, AuthenticatorData, macs, signature, request as Request, pre_prepare as PrePrepare, reply as Reply, fetch as Fetch, meta as Meta, page as Page, view_change as ViewChange}
-use Rattle.wire.specs.Words.{said, receivers_of}
+use Rattle.wire_format.specs.Messages.{BodyData as Body, AuthenticatorData, macs, signature, request as Request, pre_prepare as PrePrepare, reply as Reply, fetch as Fetch, meta as Meta, page as Page, view_change as ViewChange}
+use Rattle.wire_format.specs.Words.{said, receivers_of}
 use Rattle.signing.specs.Heard.{heard}
 use Rattle.protocol.specs.System.Configuration.{Configuration, members, primary}
 use Rattle.protocol.specs.System.Frames.{IsPosted}

@@ -2,7 +2,7 @@
 use Rattle.std.proofs.Common.{◌≡◌, ℕ, ◌+◌, ◌⊎◌, inl, inr, true, false, List, [], ◌∷◌, Some, refl, sym, subst}
 use Rattle.tuple_codec.specs.Operations.{Operation}
 use Rattle.space.specs.Applying.{is_read_only}
-use Rattle.wire.specs.Messages.{MessageData as Message}
+use Rattle.wire_format.specs.Messages.{MessageData as Message}
 use Rattle.signing.specs.Heard.{heard}
 use Rattle.events.specs.declared.output.Output.{Output}
 use Rattle.events.specs.Outputs.{entry_of, IsSentAsMeant}

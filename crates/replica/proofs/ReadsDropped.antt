@@ -6,8 +6,8 @@ use Rattle.tuple_codec.specs.Operations.{Operation}
 use Rattle.space.specs.Applying.{is_read_only}
 use Rattle.terms.specs.declared.order.Mode.TheVariants as modes
 use Rattle.terms.specs.declared.state.Level.TheVariants as levels
-use Rattle.wire.specs.Messages.{BodyData as Body, MessageData as Message, request as Request, fetch as Fetch, meta as Meta, page as Page, view_change as ViewChange}
-use Rattle.wire.specs.Words.{said}
+use Rattle.wire_format.specs.Messages.{BodyData as Body, MessageData as Message, request as Request, fetch as Fetch, meta as Meta, page as Page, view_change as ViewChange}
+use Rattle.wire_format.specs.Words.{said}
 use Rattle.signing.specs.Heard.{heard}
 use Rattle.protocol.specs.System.Configuration.{Configuration, members}
 use Rattle.protocol.specs.System.Trace.{Entry, Once, Has}

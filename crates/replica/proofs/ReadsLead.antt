@@ -4,8 +4,8 @@ use Rattle.std.specs.Prelude.{not}
 use Rattle.tuple_codec.specs.Operations.{Operation}
 use Rattle.space.specs.Applying.{is_read_only}
 use Rattle.wire.specs.Marks.{asks_read}
-use Rattle.wire.specs.Messages.{BodyData as Body, request as Request}
-use Rattle.wire.specs.Words.{said}
+use Rattle.wire_format.specs.Messages.{BodyData as Body, request as Request}
+use Rattle.wire_format.specs.Words.{said}
 use Rattle.signing.specs.Heard.{heard}
 use Rattle.events.specs.declared.output.Output.{Output}
 use Rattle.events.specs.Outputs.{entry_of, after_event, AreSentAsMeant}

@@ -7,8 +7,8 @@ use Rattle.tuple_codec.specs.Operations.{Operation}
 use Rattle.terms.specs.declared.parties.ClientId.{ClientId}
 use Rattle.terms.specs.declared.order.Mode.TheVariants as modes
 use Rattle.terms.specs.declared.order.Timestamp.{Timestamp}
-use Rattle.wire.specs.Messages.{BodyData as Body, MessageData as Message, request as Request}
-use Rattle.wire.proofs.Saying.{reads_said}
+use Rattle.wire_format.specs.Messages.{BodyData as Body, MessageData as Message, request as Request}
+use Rattle.wire_format.proofs.Saying.{reads_said}
 use Rattle.authenticator.specs.Membership.{has_sender}
 use Rattle.signing.specs.Heard.{heard}
 use Rattle.signing.proofs.Heard.{heard_was_opened}

@@ -1,7 +1,7 @@
 -- The replica fetches the state at the start of a new view.
 use Rattle.std.proofs.Common.{◌≡◌, ◌<◌, ℕ, List, ◌∷◌, Option, Some, sym, ap, ◌∙◌, subst}
 use Rattle.terms.specs.declared.state.Level.TheVariants as levels
-use Rattle.wire.specs.Messages.{MessageData as Message, CheckpointEntryData as CheckpointEntry, NewViewData, fetch as Fetch}
+use Rattle.wire_format.specs.Messages.{MessageData as Message, CheckpointEntryData as CheckpointEntry, NewViewData, fetch as Fetch}
 use Rattle.events.specs.declared.output.Output.{Output}
 use Rattle.state_transfer.specs.Transfer.{TransferData}
 use Rattle.protocol.specs.System.Configuration.{Configuration, members}

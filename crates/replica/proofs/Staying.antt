@@ -4,7 +4,7 @@ use Rattle.std.proofs.Common.{◌≡◌, ℕ, false, List, ◌∷◌, Option, No
 use Rattle.std.specs.Prelude.{option_and_then, ⊤}
 use Rattle.std.specs.Option.{option_map_or}
 use Rattle.std.specs.Bool.{then_some}
-use Rattle.wire.specs.Messages.{BodyData as Body, MessageData as Message, CheckpointEntryData as CheckpointEntry, NewViewData, pre_prepare as PrePrepare, new_view as NewView}
+use Rattle.wire_format.specs.Messages.{BodyData as Body, MessageData as Message, CheckpointEntryData as CheckpointEntry, NewViewData, pre_prepare as PrePrepare, new_view as NewView}
 use Rattle.ordering.specs.Log as logs
 use Rattle.ordering.specs.Log.{Row, LogData}
 use Rattle.events.specs.declared.output.Output.{Output}

@@ -1,12 +1,12 @@
 -- A view change that can't be sent: no frame spells it, or the keys are spent.
 use Rattle.std.proofs.Common.{◌≡◌, ℕ, ◌+◌, ◌^◌, ◌<◌, ◌≤◌, ◌⊎◌, inl, inr, true, false, List, ◌++◌, length, length-append, map, Option, Some, None, Vec, refl, sym, ap, ap₂, ◌∙◌, subst, arith, IfNone}
-use Rattle.wire.specs.Messages.{AuthenticatorData as Authenticator, BodyData as Body, CheckpointEntryData as CheckpointEntry, MessageData as Message, ViewChangeData, macs, signature, view_change as ViewChange}
-use Rattle.wire.specs.Spelling.{IsAuthenticator, authenticator_is_signed, authenticator_spelling, body_spelling, frame_limit, is_signed, piece}
+use Rattle.wire_format.specs.Messages.{AuthenticatorData as Authenticator, BodyData as Body, CheckpointEntryData as CheckpointEntry, MessageData as Message, ViewChangeData, macs, signature, view_change as ViewChange}
+use Rattle.wire_format.specs.Spelling.{IsAuthenticator, authenticator_is_signed, authenticator_spelling, body_spelling, frame_limit, is_signed, piece}
 use Rattle.std.specs.declared.alloc.Global.{Global}
 use Rattle.events.specs.declared.output.Output.{Output}
-use Rattle.wire.specs.Views.{view_change_data}
-use Rattle.wire.specs.Words.{said}
-use Rattle.wire.proofs.Saying.{says_what_is_spelled}
+use Rattle.wire_format.specs.Views.{view_change_data}
+use Rattle.wire_format.specs.Words.{said}
+use Rattle.wire_format.proofs.Saying.{says_what_is_spelled}
 use Rattle.posting.specs.Endpoint.{SignedExceeds, says}
 use Rattle.protocol.specs.System.Configuration.{Configuration}
 use Rattle.protocol.specs.System.Trace.{Entry}

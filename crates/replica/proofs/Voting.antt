@@ -1,7 +1,7 @@
 -- The votes that the replica sends fit.
 use Rattle.std.proofs.Common.{◌≡◌, ℕ, Bool, true, false, cond, ◌&&◌, is_none, List, ◌∷◌, Option, Some, None, option_map, refl, sym, ap, ◌∙◌, subst}
 use Rattle.sha2.specs.Sha256.{sha256}
-use Rattle.wire.specs.Messages.{MessageData as Message, prepare as Prepare, commit as Commit}
+use Rattle.wire_format.specs.Messages.{MessageData as Message, prepare as Prepare, commit as Commit}
 use Rattle.ordering.specs.Log.{LogData, is_in_marks, row_of, digest_of, is_prepared, commit_of, logged_batch, logged_digest, with_prepare, with_commit, due_prepare, due_commit}
 use Rattle.ordering.specs.declared.votes.Vote.{Vote}
 use Rattle.ordering.specs.Keeping.{IsLog}

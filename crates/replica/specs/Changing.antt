@@ -1,8 +1,8 @@
 -- The replica's own view changes (Castro and Liskov, TOCS 2002, on view changes).
 use Rattle.std.specs.Prelude.{◌≡◌, ◌≢◌, ℕ, suc, ◌+◌, ◌^◌, ◌≤◌, ◌<◌, ◌⊎◌, length, Bool, true, false, List, [], Option, Some, None, Vec, max}
 use Rattle.std.specs.declared.alloc.Global.{Global}
-use Rattle.wire.specs.Messages.{CheckpointEntryData as CheckpointEntry, ViewChangeData, view_change as ViewChange}
-use Rattle.wire.specs.Words.{said}
+use Rattle.wire_format.specs.Messages.{CheckpointEntryData as CheckpointEntry, ViewChangeData, view_change as ViewChange}
+use Rattle.wire_format.specs.Words.{said}
 use Rattle.events.specs.declared.output.Output.{Output}
 use Rattle.posting.specs.Endpoint.{IsOwnSigned}
 use Rattle.protocol.specs.System.Configuration.{Configuration, is_number, members}

@@ -3,8 +3,8 @@
 use Rattle.std.specs.Prelude.{◌≡◌, ◌⊎◌, ℕ, ◌+◌, ◌*◌, ◌<◌, ◌≤◌, Bool, true, false, List, [], Some, None, is_none, nat_le}
 use Rattle.terms.specs.declared.parties.ReplicaId.{ReplicaId}
 use Rattle.terms.specs.declared.state.Level.TheVariants as levels
-use Rattle.wire.specs.Messages.{CheckpointEntryData as CheckpointEntry, checkpoint as Checkpoint, fetch as FetchMessage}
-use Rattle.wire.specs.declared.messages.Checkpoint.{Checkpoint as CheckpointMessage}
+use Rattle.wire_format.specs.Messages.{CheckpointEntryData as CheckpointEntry, checkpoint as Checkpoint, fetch as FetchMessage}
+use Rattle.wire_format.specs.declared.messages.Checkpoint.{Checkpoint as CheckpointMessage}
 use Rattle.events.specs.declared.output.Output.{Output}
 use Rattle.ordering.specs.Log as logs
 use Rattle.ordering.specs.Checkpoints.{says_checkpoint}

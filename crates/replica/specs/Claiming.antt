@@ -2,7 +2,7 @@
 -- view changes).
 use Rattle.std.specs.Prelude.{◌≡◌, ℕ, ◌+◌, ◌⊎◌, List, [], ◌∷◌, ◌++◌, Option, Some, None, Vec}
 use Rattle.std.specs.declared.alloc.Global.{Global}
-use Rattle.wire.specs.Messages.{MessageData as Message}
+use Rattle.wire_format.specs.Messages.{MessageData as Message}
 use Rattle.events.specs.declared.output.Output.{Output}
 use Rattle.posting.specs.Endpoint.{IsOwnSigned, SendsToOthers, SignedExceeds, says}
 use Rattle.protocol.specs.System.Frames.{leaf_of}

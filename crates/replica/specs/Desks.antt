@@ -1,7 +1,7 @@
 -- How a replica's parts fit a history and the outputs of a running event.
 use Rattle.std.specs.Prelude.{◌≡◌, ◌≢◌, ℕ, ◌≤◌, List, [], ◌∷◌, map, reverse, Option, Some, option_map, ⊤, AllPairs}
 use Rattle.std.specs.Option.{ForSome}
-use Rattle.wire.specs.Messages.{MessageData as Message, CheckpointEntryData as CheckpointEntry, checkpoint as Checkpoint}
+use Rattle.wire_format.specs.Messages.{MessageData as Message, CheckpointEntryData as CheckpointEntry, checkpoint as Checkpoint}
 use Rattle.events.specs.declared.output.Output.{Output}
 use Rattle.events.specs.Outputs.{entry_of, AreSentAsMeant}
 use Rattle.ordering.specs.Log as logs

@@ -5,7 +5,7 @@ use Rattle.terms.specs.declared.parties.ClientId.{ClientId}
 use Rattle.terms.specs.declared.parties.ReplicaId.{ReplicaId}
 use Rattle.terms.specs.declared.order.Mode.TheVariants as modes
 use Rattle.terms.specs.declared.order.Timestamp.{Timestamp}
-use Rattle.wire.specs.Messages.{MessageData as Message, request as Request}
+use Rattle.wire_format.specs.Messages.{MessageData as Message, request as Request}
 use Rattle.signing.specs.Heard.{heard}
 use Rattle.events.specs.declared.output.Output.{Output}
 use Rattle.protocol.specs.System.Configuration.{Configuration, members}

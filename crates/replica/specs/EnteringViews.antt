@@ -2,7 +2,7 @@
 use Rattle.std.specs.Prelude.{◌≡◌, ◌⊎◌, true, false, ℕ, suc, ◌+◌, ◌≤◌, ◌<◌, Option, Some, None, Vec}
 use Rattle.std.specs.Prelude.{List, length}
 use Rattle.std.specs.declared.alloc.Global.{Global}
-use Rattle.wire.specs.Messages.{CheckpointEntryData as CheckpointEntry, NewViewData, new_view as NewView}
+use Rattle.wire_format.specs.Messages.{CheckpointEntryData as CheckpointEntry, NewViewData, new_view as NewView}
 use Rattle.events.specs.declared.output.Output.{Output}
 use Rattle.posting.specs.Endpoint.{IsOwnSigned}
 use Rattle.ordering.specs.Log as logs

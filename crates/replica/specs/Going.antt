@@ -1,6 +1,6 @@
 -- How a replica goes on within an event.
 use Rattle.std.specs.Prelude.{◌≡◌, ◌≢◌, ℕ, suc, ◌≤◌, Bool, true, false, List, [], Some, None}
-use Rattle.wire.specs.Messages.{MessageData as Message, BatchEntryData as Claim}
+use Rattle.wire_format.specs.Messages.{MessageData as Message, BatchEntryData as Claim}
 use Rattle.events.specs.declared.output.Output.{Output}
 use Rattle.ordering.specs.Log as logs
 use Rattle.ordering.specs.Log.{LogData}

@@ -1,8 +1,8 @@
 -- Entries beside ordering: they bring nothing that counts.
 use Rattle.std.specs.Prelude.{◌≡◌, ℕ, List, [], ◌∷◌, Some, None, option_and_then, ⊤}
-use Rattle.wire.specs.Words.{said}
+use Rattle.wire_format.specs.Words.{said}
 use Rattle.protocol.specs.Replica.RightReplica.{HasSeen}
-use Rattle.wire.specs.Messages.{BodyData as Body, MessageData as Message, request as Request, reply as Reply}
+use Rattle.wire_format.specs.Messages.{BodyData as Body, MessageData as Message, request as Request, reply as Reply}
 use Rattle.protocol.specs.System.Configuration.{Configuration}
 use Rattle.protocol.specs.System.Trace.{Entry}
 use Rattle.protocol.specs.Replica.Certificates.{view, target, low, logged, prepare_of, commit_of, checkpoints_of, brought, new_view_in, change_sent, checkpoint_in, installed_at, batch_from, prepare_from, commit_from, change_at, latest_change}

@@ -1,7 +1,7 @@
 -- How a primary assigns numbers.
 use Rattle.std.specs.Prelude.{◌≡◌, ℕ, ◌<◌, ◌≤◌, Bool, true, false, List, length}
-use Rattle.wire.specs.Lists.{Each}
-use Rattle.wire.specs.Spelling.{IsCarried, is_ordered_request, pieces_spelling}
+use Rattle.wire_format.specs.Lists.{Each}
+use Rattle.wire_format.specs.Spelling.{IsCarried, is_ordered_request, pieces_spelling}
 use Rattle.events.specs.declared.output.Output.{Output}
 use Rattle.replica.specs.State.{JoinedData}
 use Rattle.desk.specs.Waiting.{texts, unnumbered, with_numbered, count_unnumbered}

@@ -1,6 +1,6 @@
 -- The model of an orderer's fields.
 use Rattle.std.specs.Prelude.{option_map}
-use Rattle.wire.specs.Views.{checkpoint_entry_data}
+use Rattle.wire_format.specs.Views.{checkpoint_entry_data}
 use Rattle.replica.specs.declared.orderer.Orderer.TheInside.{Inside}
 use Rattle.replica.specs.State.{OrdererData}
 

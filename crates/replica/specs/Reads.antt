@@ -3,8 +3,8 @@
 use Rattle.std.specs.Prelude.{◌≡◌, Bool, true, false, List, ℕ, Some}
 use Rattle.terms.specs.declared.order.Mode.TheVariants as modes
 use Rattle.wire.specs.Marks.{asks_read, answers_read}
-use Rattle.wire.specs.Messages.{BodyData as Body, request as Request, reply as Reply}
-use Rattle.wire.specs.Words.{said}
+use Rattle.wire_format.specs.Messages.{BodyData as Body, request as Request, reply as Reply}
+use Rattle.wire_format.specs.Words.{said}
 use Rattle.protocol.specs.System.Frames.{same_mode}
 
 -- a body is a read-only request, or a reply to one

@@ -1,8 +1,8 @@
 -- What an orderer multicasts to the other replicas.
 use Rattle.std.specs.Prelude.{◌≡◌, ◌≢◌, ℕ, ◌+◌, ◌*◌, ◌≤◌, ◌<◌, Bool, true, false, List, [], ◌∷◌, ◌++◌, length, Some, None}
-use Rattle.wire.specs.Messages.{MessageData as Message, CheckpointEntryData as CheckpointEntry, pre_prepare as PrePrepare, prepare as Prepare, commit as Commit, checkpoint as Checkpoint, new_view as NewView}
-use Rattle.wire.specs.Lists.{Each}
-use Rattle.wire.specs.Words.{requests_of}
+use Rattle.wire_format.specs.Messages.{MessageData as Message, CheckpointEntryData as CheckpointEntry, pre_prepare as PrePrepare, prepare as Prepare, commit as Commit, checkpoint as Checkpoint, new_view as NewView}
+use Rattle.wire_format.specs.Lists.{Each}
+use Rattle.wire_format.specs.Words.{requests_of}
 use Rattle.events.specs.declared.output.Output.{Output}
 use Rattle.events.specs.Outputs.{entry_of}
 use Rattle.posting.specs.Endpoint.{PostsToOthers}

@@ -2,9 +2,9 @@
 use Rattle.std.specs.Prelude.{◌≡◌, ℕ, ◌<◌, Bool, ◌||◌, List, Option, Some, is_none}
 use Rattle.std.specs.Option.{ForSome}
 use Rattle.authenticator.specs.Membership.{Membership}
-use Rattle.wire.specs.Lists.{Each}
-use Rattle.wire.specs.Messages.{CheckpointEntryData as CheckpointEntry}
-use Rattle.wire.specs.Spelling.{IsBatch}
+use Rattle.wire_format.specs.Lists.{Each}
+use Rattle.wire_format.specs.Messages.{CheckpointEntryData as CheckpointEntry}
+use Rattle.wire_format.specs.Spelling.{IsBatch}
 use Rattle.posting.specs.Endpoint.{EndpointState}
 use Rattle.ordering.specs.Log.{LogData, logged_batch}
 use Rattle.claims.specs.ClaimsView.{ClaimsData}

@@ -1,10 +1,10 @@
 -- What an orderer takes of what it receives.
 use Rattle.std.specs.Prelude.{◌≡◌, ◌⊎◌, ℕ, Bool, true, false, None, is_none, replicate}
 use Rattle.terms.specs.declared.parties.ReplicaId.{ReplicaId}
-use Rattle.wire.specs.declared.messages.PrePrepare.{PrePrepare}
-use Rattle.wire.specs.declared.messages.Prepare.{Prepare}
-use Rattle.wire.specs.declared.messages.Commit.{Commit}
-use Rattle.wire.specs.Words.{requests_of}
+use Rattle.wire_format.specs.declared.messages.PrePrepare.{PrePrepare}
+use Rattle.wire_format.specs.declared.messages.Prepare.{Prepare}
+use Rattle.wire_format.specs.declared.messages.Commit.{Commit}
+use Rattle.wire_format.specs.Words.{requests_of}
 use Rattle.ordering.specs.Log.{new_log, with_prepare, with_commit}
 use Rattle.ordering.specs.Messages.{preprepare_fault_of, prepare_fault_of, commit_fault_of}
 use Rattle.posting.specs.Endpoint.{are_heard}

@@ -1,7 +1,7 @@
 //! The replica's own view changes.
 
 ghost use Rattle.std.specs.Prelude.{◌≡◌, ◌+◌, ◌^◌, ◌≤◌, [], false, length, map, IfNone, IfOk, IfSome, IsTrue, OnOk};
-ghost use Rattle.wire.specs.Views.{checkpoint_entries_data, checkpoint_entry_data};
+ghost use Rattle.wire_format.specs.Views.{checkpoint_entries_data, checkpoint_entry_data};
 ghost use Rattle.ordering.specs.Log.{left};
 ghost use Rattle.replica_histories.specs.Views.{entries_of};
 ghost use Rattle.replica.specs.Changing.{ChangesView, IsDue, IsNotDue, IsNextView, MaySignChange, aimed_view};

@@ -1,8 +1,8 @@
 //! Checkpoints: the replica's own after each period, those of others, and what a quorum of them starts.
 
 ghost use Rattle.std.specs.Prelude.{◌≡◌, ◌^◌, ◌<◌, [], IfOk, OnOk};
-ghost use Rattle.wire.specs.Messages.{checkpoint};
-ghost use Rattle.wire.specs.Views.{checkpoint_entry_data};
+ghost use Rattle.wire_format.specs.Messages.{checkpoint};
+ghost use Rattle.wire_format.specs.Views.{checkpoint_entry_data};
 ghost use Rattle.replica.specs.Checkpoints.{StartsTransferIfBehind, IsDueKept, SaysDueCheckpoint, Settles};
 ghost use Rattle.replica.specs.Marking.{MovesMarks};
 ghost use Rattle.replica.specs.Entering.{TakesMessage};

@@ -2,7 +2,7 @@
 
 ghost use Rattle.std.specs.Prelude.{◌≡◌, ◌<◌, true, OnOk};
 ghost use Rattle.std.specs.Arc.{arc_value};
-ghost use Rattle.wire.specs.Spelling.{IsBatch};
+ghost use Rattle.wire_format.specs.Spelling.{IsBatch};
 ghost use Rattle.ordering.specs.Log.{is_in_marks};
 ghost use Rattle.replica.specs.Claiming.{ClaimsLogged, LogsBatch};
 

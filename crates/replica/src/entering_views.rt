@@ -1,9 +1,9 @@
 //! How the replica enters a new view.
 
 ghost use Rattle.std.specs.Prelude.{◌≡◌, ◌+◌, ◌^◌, ◌<◌, ◌≤◌, suc, length, map, option_map, OnOk};
-ghost use Rattle.wire.specs.Lists.{Each};
-ghost use Rattle.wire.specs.Spelling.{IsBatch};
-ghost use Rattle.wire.specs.Views.{checkpoint_entry_data};
+ghost use Rattle.wire_format.specs.Lists.{Each};
+ghost use Rattle.wire_format.specs.Spelling.{IsBatch};
+ghost use Rattle.wire_format.specs.Views.{checkpoint_entry_data};
 ghost use Rattle.view_change.specs.Sets.{texts_of};
 ghost use Rattle.replica.specs.EnteringViews.{Enters, FetchesStart, LogsBatches};
 ghost use Rattle.replica.specs.EnteringViews.{SaysVotesOf, entering};

@@ -1,8 +1,8 @@
 //! View changes of other replicas.
 
 ghost use Rattle.std.specs.Prelude.{◌≡◌, ◌<◌, [], Some, IfNone, IfOk, IfSome};
-ghost use Rattle.wire.specs.Messages.{view_change};
-ghost use Rattle.wire.specs.Views.{view_change_data};
+ghost use Rattle.wire_format.specs.Messages.{view_change};
+ghost use Rattle.wire_format.specs.Views.{view_change_data};
 ghost use Rattle.protocol.specs.Replica.Selection.{signed_change};
 ghost use Rattle.view_change.specs.Laws.{ChangesAreJudged};
 ghost use Rattle.view_change.specs.ReceivedView.{configuration_of, held_as};

@@ -1,8 +1,8 @@
 //! The orderer's checkpoints and its marks.
 
 ghost use Rattle.std.specs.Prelude.{◌≡◌, ℕ, ◌*◌, ◌+◌, ◌^◌, ◌<◌, Some, OnOk, nat_le, option_map, true};
-ghost use Rattle.wire.specs.Messages.{checkpoint};
-ghost use Rattle.wire.specs.Views.{checkpoint_entry_data};
+ghost use Rattle.wire_format.specs.Messages.{checkpoint};
+ghost use Rattle.wire_format.specs.Views.{checkpoint_entry_data};
 ghost use Rattle.ordering.specs.Log.{count_checkpoints};
 ghost use Rattle.replica.specs.Claiming.{CutsLog};
 ghost use Rattle.replica.specs.Checkpoints.{SaysCheckpoint, TakesCheckpoint, said_entry};

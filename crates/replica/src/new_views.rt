@@ -1,10 +1,10 @@
 //! New views: the replica's own, and those of others.
 
 ghost use Rattle.std.specs.Prelude.{◌≡◌, ◌↔◌, [], None, true, IfNone, IfOk, IfSome, IsTrue, OnOk};
-ghost use Rattle.wire.specs.Lists.{Each};
-ghost use Rattle.wire.specs.Spelling.{IsBatch};
-ghost use Rattle.wire.specs.Messages.{new_view};
-ghost use Rattle.wire.specs.Views.{new_view_data};
+ghost use Rattle.wire_format.specs.Lists.{Each};
+ghost use Rattle.wire_format.specs.Spelling.{IsBatch};
+ghost use Rattle.wire_format.specs.Messages.{new_view};
+ghost use Rattle.wire_format.specs.Views.{new_view_data};
 ghost use Rattle.view_change.specs.Checking.{refusal};
 ghost use Rattle.view_change.specs.ReceivedView.{configuration_of};
 ghost use Rattle.view_change.specs.Sets.{texts_of};

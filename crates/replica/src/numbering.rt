@@ -1,7 +1,7 @@
 //! Requests that arrive, and the numbers that a primary assigns to them.
 
 ghost use Rattle.std.specs.Prelude.{◌≡◌, ◌≤◌, suc, true, [], length, IfNone, IfOk, IfSome, OnOk};
-ghost use Rattle.wire.specs.Spelling.{IsCarried, is_ordered_request};
+ghost use Rattle.wire_format.specs.Spelling.{IsCarried, is_ordered_request};
 ghost use Rattle.ordering.specs.Log.{is_in_marks};
 ghost use Rattle.desk.specs.Waiting.{unnumbered};
 ghost use Rattle.replica.specs.Entering.{TakesRequest};

@@ -3,7 +3,7 @@
 
 ghost use Rattle.std.specs.Prelude.{◌≡◌, ◌+◌, ◌*◌, ◌<◌, true, IfOk, IfSome, IsNone};
 ghost use Rattle.wire.specs.Marks.{has_type_of_requests};
-ghost use Rattle.wire.specs.Spelling.{IsBatch};
+ghost use Rattle.wire_format.specs.Spelling.{IsBatch};
 ghost use Rattle.signing.specs.Heard.{heard};
 ghost use Rattle.signing.specs.Requests.{HearsRequest};
 ghost use Rattle.posting.specs.Endpoint.{HearsBody};

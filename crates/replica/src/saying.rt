@@ -1,11 +1,11 @@
 //! What the replica multicasts to the others, and what it multicasts again when a client asks again.
 
 ghost use Rattle.std.specs.Prelude.{◌≡◌, ◌+◌, ◌≤◌, ◌<◌, ◌^◌, true, false, length, OnOk};
-ghost use Rattle.wire.specs.Lists.{Each};
-ghost use Rattle.wire.specs.Messages.{fetch, pre_prepare};
-ghost use Rattle.wire.specs.Spelling.{IsBatch, IsCarried, IsMessage, is_ordered_request, is_signed, pieces_spelling};
+ghost use Rattle.wire_format.specs.Lists.{Each};
+ghost use Rattle.wire_format.specs.Messages.{fetch, pre_prepare};
+ghost use Rattle.wire_format.specs.Spelling.{IsBatch, IsCarried, IsMessage, is_ordered_request, is_signed, pieces_spelling};
 ghost use Rattle.ordering.specs.Log.{is_in_marks};
-ghost use Rattle.wire.specs.Views.{message_data, texts_of};
+ghost use Rattle.wire_format.specs.Views.{message_data, texts_of};
 ghost use Rattle.posting.specs.Endpoint.{FitsFrame};
 ghost use Rattle.state_transfer.specs.Places.{IsPlace};
 ghost use Rattle.replica.specs.Saying.{PostsAll, PostsBatch, PostsCommit, PostsPrepare, PostsRow, Says, SaysAlso, SaysBatch, SaysLastAlso, row_place};

@@ -1,8 +1,8 @@
 //! Signed frames.
 
 ghost use Rattle.std.specs.Prelude.{◌≡◌, true, IfOk, OnOk};
-ghost use Rattle.wire.specs.Spelling.{IsMessage, is_signed};
-ghost use Rattle.wire.specs.Views.{message_data};
+ghost use Rattle.wire_format.specs.Spelling.{IsMessage, is_signed};
+ghost use Rattle.wire_format.specs.Views.{message_data};
 ghost use Rattle.replica.specs.Claiming.{MaySign, SaysFrame};
 
 use crate::orderer::Orderer;

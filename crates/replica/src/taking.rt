@@ -2,9 +2,9 @@
 
 ghost use Rattle.std.specs.Prelude.{◌≡◌, ◌+◌, ◌<◌, true, false, [], Some, IfOk};
 ghost use Rattle.wire.specs.Marks.{has_type_of_requests};
-ghost use Rattle.wire.specs.Messages.{pre_prepare, prepare, commit};
-ghost use Rattle.wire.specs.Spelling.{IsBatch};
-ghost use Rattle.wire.specs.Views.{message_data};
+ghost use Rattle.wire_format.specs.Messages.{pre_prepare, prepare, commit};
+ghost use Rattle.wire_format.specs.Spelling.{IsBatch};
+ghost use Rattle.wire_format.specs.Views.{message_data};
 ghost use Rattle.signing.specs.Heard.{heard};
 ghost use Rattle.read_only.specs.Hearing.{HearsNoRead};
 ghost use Rattle.replica.specs.Entering.{TakesBytes, TakesMessage};

@@ -1,8 +1,8 @@
 //! State transfer: the parts that the replica asks for, and the parts that arrive.
 
 ghost use Rattle.std.specs.Prelude.{◌≡◌, ◌≤◌, [], IfOk, OnOk};
-ghost use Rattle.wire.specs.Messages.{fetch, meta, page};
-ghost use Rattle.wire.specs.Spelling.{last_index};
+ghost use Rattle.wire_format.specs.Messages.{fetch, meta, page};
+ghost use Rattle.wire_format.specs.Spelling.{last_index};
 ghost use Rattle.replica.specs.Entering.{TakesMessage};
 ghost use Rattle.replica.specs.Fetching.{AsksOn, InstallsFetched, SaysFetch};
 ghost use Rattle.desk.specs.Transferring.{MayBeSaid};

@@ -1,7 +1,7 @@
 //! The replica's own prepares and commits, for which its log asks.
 
 ghost use Rattle.std.specs.Prelude.{◌≡◌, ◌==◌, true, false, OnOk};
-ghost use Rattle.wire.specs.Messages.{commit, prepare};
+ghost use Rattle.wire_format.specs.Messages.{commit, prepare};
 ghost use Rattle.ordering.specs.Keeping.{IsLog};
 ghost use Rattle.ordering.specs.Log.{is_in_marks, primary};
 ghost use Rattle.replica.specs.Saying.{AddsCommit, AddsPrepare, Says, SaysCommit, SaysPrepare, SaysVotes};

@@ -5,7 +5,7 @@ use Rattle.tuple_codec.specs.Operations.{Operation}
 use Rattle.space.specs.Applying.{is_read_only}
 use Rattle.terms.specs.declared.state.Level.{Level}
 use Rattle.terms.specs.declared.state.Level.TheVariants as levels
-use Rattle.wire.specs.Messages.{BodyData as Body, MessageData as Message, request as Request, meta as Meta, page as Page, fetch as Fetch}
+use Rattle.wire_format.specs.Messages.{BodyData as Body, MessageData as Message, request as Request, meta as Meta, page as Page, fetch as Fetch}
 use Rattle.ordering.specs.Log.{LogData}
 use Rattle.protocol.specs.System.Configuration.{Configuration}
 use Rattle.protocol.specs.System.Frames.{IsPosted}

@@ -3,7 +3,7 @@ use Rattle.std.proofs.Common.{◌≡◌, ℕ, suc, ◌-◌, ◌≤◌, ◌<◌, 
 use Rattle.std.specs.Prelude.{◌==◌, nat_lt}
 use Rattle.std.proofs.lemmas.Bool.{eqb-false, eq-eqb, ne_eqb, ltb-true, ltb-false}
 use Rattle.quorum.specs.Votes.{or_else}
-use Rattle.wire.specs.Messages.{NewViewData}
+use Rattle.wire_format.specs.Messages.{NewViewData}
 use Rattle.wire.proofs.Skipping.{none_chosen}
 use Rattle.ordering.specs.Log as logs
 use Rattle.ordering.specs.Log.{LogData}

@@ -8,7 +8,7 @@ use Rattle.std.proofs.lemmas.Bool.{and_parts, leb-true, le-leb, lt-ltb, ltb-true
 use Rattle.sha2.specs.Sha256.{sha256}
 use Rattle.quorum.specs.Votes.{has_digest}
 use Rattle.quorum.proofs.Counting.{count_same}
-use Rattle.wire.specs.Messages.{BodyData as Body, MessageData as Message, ViewChangeData, NewViewData, CheckpointEntryData as CheckpointEntry, view_change as ViewChange, new_view as NewView}
+use Rattle.wire_format.specs.Messages.{BodyData as Body, MessageData as Message, ViewChangeData, NewViewData, CheckpointEntryData as CheckpointEntry, view_change as ViewChange, new_view as NewView}
 use Rattle.wire.proofs.Skipping.{none_chosen}
 use Rattle.ordering.specs.Log as logs
 use Rattle.ordering.specs.Log.{LogData}

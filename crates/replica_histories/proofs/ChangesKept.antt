@@ -4,10 +4,10 @@ use Rattle.std.specs.Prelude.{◌==◌, option_and_then, ⊤}
 use Rattle.std.specs.Bool.{then_some}
 use Rattle.std.specs.Option.{option_map_or}
 use Rattle.std.proofs.lemmas.Bool.{and_parts, ne_eqb, le-ltb, lt-ltb}
-use Rattle.wire.specs.Messages.{BodyData as Body, MessageData as Message, AuthenticatorData as Authenticator, macs, signature, NewViewData, ViewChangeData, commit as Commit, checkpoint as Checkpoint, view_change as ViewChange, new_view as NewView}
-use Rattle.wire.specs.Spelling.{authenticator_is_signed, is_signed}
-use Rattle.wire.specs.Words.{said}
-use Rattle.wire.proofs.Saying.{reads_frames, says_what_is_spelled}
+use Rattle.wire_format.specs.Messages.{BodyData as Body, MessageData as Message, AuthenticatorData as Authenticator, macs, signature, NewViewData, ViewChangeData, commit as Commit, checkpoint as Checkpoint, view_change as ViewChange, new_view as NewView}
+use Rattle.wire_format.specs.Spelling.{authenticator_is_signed, is_signed}
+use Rattle.wire_format.specs.Words.{said}
+use Rattle.wire_format.proofs.Saying.{reads_frames, says_what_is_spelled}
 use Rattle.signing.specs.Heard.{heard, has_signature, signed_body}
 use Rattle.signing.proofs.Heard.{heard_was_signed, signed_is_heard}
 use Rattle.ordering.specs.Log as logs

@@ -4,8 +4,8 @@ use Rattle.std.specs.Prelude.{◌==◌, option_and_then}
 use Rattle.std.specs.Option.{option_map_or}
 use Rattle.std.proofs.lemmas.Bool.{eqb-false}
 use Rattle.std.proofs.lemmas.List.{length-set}
-use Rattle.wire.specs.Messages.{BodyData as Body, BatchEntryData as Claim, NewViewData, view_change as ViewChange, new_view as NewView}
-use Rattle.wire.specs.Lists.{Each}
+use Rattle.wire_format.specs.Messages.{BodyData as Body, BatchEntryData as Claim, NewViewData, view_change as ViewChange, new_view as NewView}
+use Rattle.wire_format.specs.Lists.{Each}
 use Rattle.signing.specs.Heard.{heard}
 use Rattle.ordering.specs.Log as logs
 use Rattle.ordering.specs.Log.{LogData}

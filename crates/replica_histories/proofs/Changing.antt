@@ -5,9 +5,9 @@ use Rattle.std.specs.Prelude.{◌==◌, suc, nat_le, nat_lt, option_and_then, �
 use Rattle.std.specs.Bool.{then_some}
 use Rattle.std.specs.Option.{option_map_or}
 use Rattle.std.proofs.lemmas.Bool.{leb-true, ltb-true, ltb-false, le-ltb}
-use Rattle.wire.specs.Messages.{BodyData as Body, MessageData as Message, NewViewData, CheckpointEntryData as CheckpointEntry, view_change as ViewChange, new_view as NewView}
-use Rattle.wire.specs.Words.{said, carried}
-use Rattle.wire.specs.Lists.{Each}
+use Rattle.wire_format.specs.Messages.{BodyData as Body, MessageData as Message, NewViewData, CheckpointEntryData as CheckpointEntry, view_change as ViewChange, new_view as NewView}
+use Rattle.wire_format.specs.Words.{said, carried}
+use Rattle.wire_format.specs.Lists.{Each}
 use Rattle.ordering.specs.Log as logs
 use Rattle.ordering.specs.Log.{LogData}
 use Rattle.ordering.proofs.Reading.{above_low}

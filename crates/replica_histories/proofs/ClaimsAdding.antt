@@ -9,7 +9,7 @@ use Rattle.protocol.specs.Replica.Certificates.{logged, commit_of}
 use Rattle.protocol.proofs.Words.Options.{some_injective}
 use Rattle.protocol.proofs.Agreement.Voting.{logged_stays}
 use Rattle.protocol.proofs.Agreement.Executing.{commit_stays}
-use Rattle.wire.specs.Messages.{BatchEntryData as Claim}
+use Rattle.wire_format.specs.Messages.{BatchEntryData as Claim}
 use Rattle.claims.specs.ClaimsView.{claim_of}
 use Rattle.claims.specs.Recording.{IsLoggedAs}
 use Rattle.replica_histories.specs.Claims.{SaidCommit, NoBatchAdds, NoCommitAdds, BatchAdds, CommitAdds}

@@ -7,7 +7,7 @@ use Rattle.std.proofs.lemmas.Bool.{and_parts, ltb-true, leb-true, leb-false, le-
 use Rattle.std.proofs.lemmas.List.{set-get_or}
 use Rattle.sha2.specs.Sha256.{sha256}
 use Rattle.quorum.specs.Votes.{or_else}
-use Rattle.wire.specs.Messages.{BodyData as Body, MessageData as Message, CheckpointEntryData as CheckpointEntry, pre_prepare as PrePrepare, prepare as Prepare, commit as Commit, checkpoint as Checkpoint}
+use Rattle.wire_format.specs.Messages.{BodyData as Body, MessageData as Message, CheckpointEntryData as CheckpointEntry, pre_prepare as PrePrepare, prepare as Prepare, commit as Commit, checkpoint as Checkpoint}
 use Rattle.authenticator.specs.Membership.{has_sender}
 use Rattle.signing.specs.Heard.{heard}
 use Rattle.signing.proofs.Heard.{heard_was_opened}

@@ -6,7 +6,7 @@ use Rattle.std.specs.Option.{option_map_or}
 use Rattle.std.proofs.lemmas.Bool.{and_parts, and_from, eqb-false, ltb-true, ltb-false, leb-true, le-leb}
 use Rattle.std.proofs.lemmas.List.{length-append, length-drop, length-replicate, length-set, get_or-set_same, get_or-set_other}
 use Rattle.std.proofs.lemmas.List.Elements.{All-append, All-drop, All-replicate}
-use Rattle.wire.specs.Messages.{BodyData as Body, MessageData as Message, NewViewData, CheckpointEntryData as CheckpointEntry}
+use Rattle.wire_format.specs.Messages.{BodyData as Body, MessageData as Message, NewViewData, CheckpointEntryData as CheckpointEntry}
 use Rattle.wire.proofs.Skipping.{none_chosen}
 use Rattle.ordering.specs.Log as logs
 use Rattle.ordering.specs.Log.{Row, no_row, LogData}

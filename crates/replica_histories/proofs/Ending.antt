@@ -5,8 +5,8 @@ use Rattle.std.proofs.lemmas.List.{reverse-reverse}
 use Rattle.sha2.specs.Sha256.{sha256}
 use Rattle.terms.specs.declared.state.Level.{Level}
 use Rattle.terms.specs.declared.state.Level.TheVariants as levels
-use Rattle.wire.specs.Messages.{MessageData as Message, prepare as Prepare, commit as Commit, checkpoint as Checkpoint, fetch as Fetch, meta as Meta, page as Page}
-use Rattle.wire.specs.Spelling.{has_children}
+use Rattle.wire_format.specs.Messages.{MessageData as Message, prepare as Prepare, commit as Commit, checkpoint as Checkpoint, fetch as Fetch, meta as Meta, page as Page}
+use Rattle.wire_format.specs.Spelling.{has_children}
 use Rattle.ordering.specs.Log as logs
 use Rattle.ordering.specs.Log.{LogData}
 use Rattle.protocol.specs.System.Configuration.{Configuration, primary}

@@ -6,11 +6,11 @@ use Rattle.std.proofs.lemmas.Bool.{and_parts, eqb-false, ne_eqb, not-true, leb-t
 use Rattle.sha2.specs.Sha256.{sha256}
 use Rattle.quorum.specs.Votes.{or_else}
 use Rattle.terms.specs.declared.order.Mode.TheVariants as modes
-use Rattle.wire.specs.Messages.{BodyData as Body, MessageData as Message, AuthenticatorData as Authenticator, macs, signature, pre_prepare as PrePrepare, prepare as Prepare, commit as Commit, checkpoint as Checkpoint, view_change as ViewChange, new_view as NewView, reply as Reply, fetch as Fetch}
-use Rattle.wire.specs.Spelling.{is_signed, authenticator_is_signed}
-use Rattle.wire.specs.Words.{carried, requests_of, said}
-use Rattle.wire.specs.Lists.{Each}
-use Rattle.wire.proofs.Saying.{reads_frames, reads_said}
+use Rattle.wire_format.specs.Messages.{BodyData as Body, MessageData as Message, AuthenticatorData as Authenticator, macs, signature, pre_prepare as PrePrepare, prepare as Prepare, commit as Commit, checkpoint as Checkpoint, view_change as ViewChange, new_view as NewView, reply as Reply, fetch as Fetch}
+use Rattle.wire_format.specs.Spelling.{is_signed, authenticator_is_signed}
+use Rattle.wire_format.specs.Words.{carried, requests_of, said}
+use Rattle.wire_format.specs.Lists.{Each}
+use Rattle.wire_format.proofs.Saying.{reads_frames, reads_said}
 use Rattle.signing.specs.Heard.{heard}
 use Rattle.ordering.specs.Log as logs
 use Rattle.ordering.specs.Log.{LogData}

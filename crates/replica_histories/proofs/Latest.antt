@@ -4,8 +4,8 @@ use Rattle.std.specs.Prelude.{◌==◌, nat_lt, bytes_eq, ⊤}
 use Rattle.std.proofs.lemmas.Bool.{and_parts, eqb-false, ne_eqb, ltb-true, ltb-false, le-ltb}
 use Rattle.std.proofs.lemmas.List.{take_all, length-take}
 use Rattle.std.proofs.lemmas.Slice.Eq.{bytes_eq-Decides}
-use Rattle.wire.specs.Messages.{CheckpointEntryData as CheckpointEntry}
-use Rattle.wire.specs.Lists.{Each}
+use Rattle.wire_format.specs.Messages.{CheckpointEntryData as CheckpointEntry}
+use Rattle.wire_format.specs.Lists.{Each}
 use Rattle.ordering.specs.Checkpoints as held
 use Rattle.protocol.specs.Replica.Certificates.{insert_checkpoint, with_checkpoint, says_checkpoint}
 use Rattle.protocol.specs.Replica.Owed.{has_number}

@@ -2,8 +2,8 @@
 use Rattle.std.proofs.Common.{◌≡◌, ℕ, ◌+◌, ◌<◌, ◌⊎◌, inl, inr, Bool, true, false, List, ◌∷◌, Some, None, refl, sym, ap, ◌∙◌, arith}
 use Rattle.std.specs.Prelude.{nat_lt}
 use Rattle.std.proofs.lemmas.Bool.{ltb-true, ltb-false}
-use Rattle.wire.specs.Messages.{BodyData as Body}
-use Rattle.wire.specs.Spelling.{is_signed}
+use Rattle.wire_format.specs.Messages.{BodyData as Body}
+use Rattle.wire_format.specs.Spelling.{is_signed}
 use Rattle.protocol.specs.System.Configuration.{Configuration}
 use Rattle.protocol.specs.System.Frames.{leaf_of}
 use Rattle.protocol.specs.System.Trace.{Entry}

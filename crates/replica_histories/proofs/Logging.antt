@@ -5,8 +5,8 @@ use Rattle.std.specs.Bool.{then_some}
 use Rattle.std.specs.Option.{option_map_or}
 use Rattle.std.proofs.lemmas.Bool.{and_parts, eqb-false, leb-true, ltb-true, ltb-false}
 use Rattle.quorum.specs.Votes.{or_else}
-use Rattle.wire.specs.Messages.{BodyData as Body, MessageData as Message, NewViewData, CheckpointEntryData as CheckpointEntry, pre_prepare as PrePrepare, prepare as Prepare, commit as Commit, view_change as ViewChange, new_view as NewView}
-use Rattle.wire.specs.Words.{said}
+use Rattle.wire_format.specs.Messages.{BodyData as Body, MessageData as Message, NewViewData, CheckpointEntryData as CheckpointEntry, pre_prepare as PrePrepare, prepare as Prepare, commit as Commit, view_change as ViewChange, new_view as NewView}
+use Rattle.wire_format.specs.Words.{said}
 use Rattle.wire.proofs.Skipping.{none_chosen}
 use Rattle.signing.specs.Heard.{heard}
 use Rattle.ordering.specs.Log as logs

@@ -6,7 +6,7 @@ use Rattle.std.specs.Option.{option_map_or}
 use Rattle.std.proofs.lemmas.Bool.{and_parts, leb-true, leb-false, ltb-true, ltb-false}
 use Rattle.terms.specs.declared.order.Mode.TheVariants as modes
 use Rattle.terms.specs.declared.state.Level.TheVariants as levels
-use Rattle.wire.specs.Messages.{BodyData as Body, MessageData as Message, NewViewData, request as Request, checkpoint as Checkpoint, new_view as NewView, fetch as Fetch}
+use Rattle.wire_format.specs.Messages.{BodyData as Body, MessageData as Message, NewViewData, request as Request, checkpoint as Checkpoint, new_view as NewView, fetch as Fetch}
 use Rattle.signing.specs.Heard.{heard}
 use Rattle.reply_cache.specs.Replies.{Kept}
 use Rattle.ordering.specs.Log as logs

@@ -3,9 +3,9 @@ use Rattle.std.proofs.Common.{◌≡◌, ℕ, zero, suc, ◌+◌, ◌-◌, ◌^�
 use Rattle.std.specs.Prelude.{◌==◌, nat_lt, nat_le, option_and_then}
 use Rattle.std.specs.List.{filter_map, flat_map, cons_option}
 use Rattle.std.proofs.lemmas.Bool.{and_from, lt-ltb, le-leb}
-use Rattle.wire.specs.Messages.{MessageData as Message, NewViewData}
-use Rattle.wire.specs.Words.{requests_of}
-use Rattle.wire.specs.Lists.{Each}
+use Rattle.wire_format.specs.Messages.{MessageData as Message, NewViewData}
+use Rattle.wire_format.specs.Words.{requests_of}
+use Rattle.wire_format.specs.Lists.{Each}
 use Rattle.wire.proofs.Skipping.{none_chosen}
 use Rattle.protocol.specs.System.Configuration.{Configuration, span}
 use Rattle.protocol.specs.System.Trace.{Entry, Has, either}

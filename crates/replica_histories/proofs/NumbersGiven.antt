@@ -3,9 +3,9 @@ use Rattle.std.proofs.Common.{◌≡◌, ◌≢◌, ℕ, ◌≤◌, ◌<◌, ◌
 use Rattle.std.specs.Prelude.{◌==◌, option_and_then}
 use Rattle.std.proofs.lemmas.Bool.{eqb-false}
 use Rattle.std.proofs.lemmas.List.{take-append-drop}
-use Rattle.wire.specs.Messages.{pre_prepare as PrePrepare}
-use Rattle.wire.specs.Words.{requests_of, said}
-use Rattle.wire.specs.Lists.{Each}
+use Rattle.wire_format.specs.Messages.{pre_prepare as PrePrepare}
+use Rattle.wire_format.specs.Words.{requests_of, said}
+use Rattle.wire_format.specs.Lists.{Each}
 use Rattle.wire.proofs.Skipping.{none_chosen}
 use Rattle.protocol.specs.System.Configuration.{Configuration, primary}
 use Rattle.protocol.specs.System.Trace.{Entry, Has}

@@ -3,8 +3,8 @@ use Rattle.std.proofs.Common.{◌≡◌, ◌≢◌, ℕ, inl, inr, true, false, 
 use Rattle.std.specs.Prelude.{option_and_then}
 use Rattle.std.specs.Option.{option_map_or}
 use Rattle.quorum.specs.Votes.{or_else}
-use Rattle.wire.specs.Messages.{BodyData as Body, MessageData as Message, pre_prepare as PrePrepare}
-use Rattle.wire.specs.Words.{said}
+use Rattle.wire_format.specs.Messages.{BodyData as Body, MessageData as Message, pre_prepare as PrePrepare}
+use Rattle.wire_format.specs.Words.{said}
 use Rattle.wire.proofs.Skipping.{none_chosen}
 use Rattle.protocol.specs.System.Configuration.{Configuration, primary}
 use Rattle.protocol.specs.System.Trace.{Entry, party_of}

@@ -6,7 +6,7 @@ use Rattle.std.specs.Option.{option_map_or}
 use Rattle.std.proofs.lemmas.Bool.{and_parts, eqb-false, not-true, ltb-true, ltb-false}
 use Rattle.std.proofs.lemmas.List.{map-append}
 use Rattle.std.proofs.lemmas.List.Kept.{AllPairs-filter}
-use Rattle.wire.specs.Words.{requests_of}
+use Rattle.wire_format.specs.Words.{requests_of}
 use Rattle.signing.specs.Heard.{heard}
 use Rattle.reply_cache.specs.Replies.{Kept, last_of, with_reply}
 use Rattle.protocol.specs.System.Configuration.{Configuration, members}

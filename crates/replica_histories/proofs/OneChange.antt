@@ -3,11 +3,11 @@ use Rattle.std.proofs.Common.{◌≡◌, ℕ, ◌≤◌, ◌<◌, ◌⊎◌, inl
 use Rattle.std.specs.Prelude.{◌==◌, nat_lt}
 use Rattle.std.proofs.lemmas.Bool.{and_from, and_parts, or_cases, or_left, or_right, ltb-true, ltb-false, lt-ltb}
 use Rattle.sha2.specs.Sha256.{sha256}
-use Rattle.wire.specs.Lists.{Each, ascends, leads}
-use Rattle.wire.specs.Messages.{BodyData as Body, BatchEntryData as Claim, CheckpointEntryData as CheckpointEntry, ViewChangeData, view_change as ViewChange}
-use Rattle.wire.specs.Spelling.{IsMessage, IsViewChange, batch_entry_before, bytes_before, named_before}
-use Rattle.wire.specs.Words.{said}
-use Rattle.wire.proofs.Saying.{says_what_is_spelled}
+use Rattle.wire_format.specs.Lists.{Each, ascends, leads}
+use Rattle.wire_format.specs.Messages.{BodyData as Body, BatchEntryData as Claim, CheckpointEntryData as CheckpointEntry, ViewChangeData, view_change as ViewChange}
+use Rattle.wire_format.specs.Spelling.{IsMessage, IsViewChange, batch_entry_before, bytes_before, named_before}
+use Rattle.wire_format.specs.Words.{said}
+use Rattle.wire_format.proofs.Saying.{says_what_is_spelled}
 use Rattle.protocol.specs.System.Configuration.{Configuration}
 use Rattle.protocol.specs.System.Trace.{Entry, Has}
 use Rattle.protocol.specs.Replica.Certificates.{low, logged, is_in_marks, Prepared}

@@ -5,8 +5,8 @@ use Rattle.std.specs.Option.{option_map_or}
 use Rattle.std.proofs.lemmas.Bool.{and_parts, and_from, or_cases, or_left, leb-true}
 use Rattle.std.proofs.lemmas.Slice.Eq.{bytes_eq-Decides}
 use Rattle.sha2.specs.Sha256.{sha256}
-use Rattle.wire.specs.Lists.{Each}
-use Rattle.wire.specs.Messages.{BodyData as Body, MessageData as Message, ViewChangeData, NewViewData, BatchEntryData as Claim, view_change as ViewChange}
+use Rattle.wire_format.specs.Lists.{Each}
+use Rattle.wire_format.specs.Messages.{BodyData as Body, MessageData as Message, ViewChangeData, NewViewData, BatchEntryData as Claim, view_change as ViewChange}
 use Rattle.ordering.specs.Log as logs
 use Rattle.ordering.specs.Log.{LogData}
 use Rattle.protocol.specs.System.Configuration.{Configuration, primary}

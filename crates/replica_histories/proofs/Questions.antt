@@ -3,7 +3,7 @@ use Rattle.std.proofs.Common.{◌≡◌, ℕ, ◌+◌, ◌-◌, inl, inr, Bool, 
 use Rattle.tuple_codec.specs.Operations.{Operation}
 use Rattle.terms.specs.declared.order.Mode.TheVariants as modes
 use Rattle.terms.specs.declared.state.Level.{Level}
-use Rattle.wire.specs.Messages.{BodyData as Body, fetch as Fetch, meta as Meta, page as Page, MessageData as Message, request as Request, view_change as ViewChange}
+use Rattle.wire_format.specs.Messages.{BodyData as Body, fetch as Fetch, meta as Meta, page as Page, MessageData as Message, request as Request, view_change as ViewChange}
 use Rattle.signing.specs.Heard.{heard}
 use Rattle.protocol.specs.System.Configuration.{Configuration, members}
 use Rattle.protocol.specs.System.Frames.{same_mode}

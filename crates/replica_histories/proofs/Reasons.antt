@@ -4,7 +4,7 @@ use Rattle.std.specs.Prelude.{◌==◌, nat_lt}
 use Rattle.std.specs.Option.{option_map_or}
 use Rattle.std.proofs.lemmas.Bool.{and_parts, le-leb, leb-true, lt-ltb, ltb-true, ne_eqb, eqb-false}
 use Rattle.quorum.specs.Quorum.{count_below}
-use Rattle.wire.specs.Lists.{Each}
+use Rattle.wire_format.specs.Lists.{Each}
 use Rattle.protocol.specs.System.Configuration.{Configuration, replicas}
 use Rattle.protocol.specs.System.Trace.{Entry, Has, is_output}
 use Rattle.protocol.specs.Replica.Certificates.{latest_change}

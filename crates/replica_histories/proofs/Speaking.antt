@@ -2,7 +2,7 @@
 use Rattle.std.proofs.Common.{◌≡◌, ◌≢◌, ℕ, ◌⊎◌, inl, inr, true, false, not, List, [], ◌∷◌, Some, refl, sym, ap, ◌∙◌}
 use Rattle.std.specs.Prelude.{◌==◌}
 use Rattle.sha2.specs.Sha256.{sha256}
-use Rattle.wire.specs.Messages.{BodyData as Body, MessageData as Message}
+use Rattle.wire_format.specs.Messages.{BodyData as Body, MessageData as Message}
 use Rattle.signing.specs.Heard.{heard}
 use Rattle.signing.proofs.Heard.{heard_was_opened}
 use Rattle.protocol.specs.System.Configuration.{Configuration, primary, members}

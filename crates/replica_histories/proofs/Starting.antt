@@ -2,7 +2,7 @@
 use Rattle.std.proofs.Common.{◌≡◌, ℕ, zero, suc, ◌+◌, ◌*◌, ◌<◌, ◌≤◌, inl, cond, List, [], ◌∷◌, refl, sym, ap, ◌∙◌, subst, arith, Option, Some, None, replicate, slice_index_or}
 use Rattle.std.proofs.lemmas.List.{length-replicate}
 use Rattle.std.proofs.lemmas.List.Elements.{All-replicate}
-use Rattle.wire.specs.Messages.{CheckpointEntryData as CheckpointEntry}
+use Rattle.wire_format.specs.Messages.{CheckpointEntryData as CheckpointEntry}
 use Rattle.wire.proofs.Skipping.{none_chosen}
 use Rattle.ordering.specs.Votes.{vote_of}
 use Rattle.ordering.specs.Log as logs

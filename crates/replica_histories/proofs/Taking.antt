@@ -3,7 +3,7 @@ use Rattle.std.proofs.Common.{◌≡◌, ℕ, ◌<◌, Bool, true, false, cond, 
 use Rattle.std.specs.Prelude.{◌==◌, option_and_then}
 use Rattle.std.specs.Bool.{then_some}
 use Rattle.quorum.specs.Votes.{or_else}
-use Rattle.wire.specs.Messages.{BodyData as Body, pre_prepare as PrePrepare, prepare as Prepare, commit as Commit}
+use Rattle.wire_format.specs.Messages.{BodyData as Body, pre_prepare as PrePrepare, prepare as Prepare, commit as Commit}
 use Rattle.ordering.specs.declared.votes.Vote.{Vote}
 use Rattle.ordering.specs.Log as logs
 use Rattle.ordering.specs.Log.{LogData}

@@ -12,10 +12,10 @@ use Rattle.quorum.proofs.Counting.{count_none}
 use Rattle.terms.specs.declared.state.Level.{Level}
 use Rattle.terms.specs.declared.state.Level.TheVariants as levels
 use Rattle.partition_tree.specs.Digests.{digest_of_children}
-use Rattle.wire.specs.Messages.{BodyData as Body, MessageData as Message, CheckpointEntryData as CheckpointEntry, fetch as Fetch, meta as Meta, page as Page}
-use Rattle.wire.specs.Spelling.{IsMessage}
-use Rattle.wire.specs.Words.{said}
-use Rattle.wire.proofs.Saying.{says_what_is_spelled}
+use Rattle.wire_format.specs.Messages.{BodyData as Body, MessageData as Message, CheckpointEntryData as CheckpointEntry, fetch as Fetch, meta as Meta, page as Page}
+use Rattle.wire_format.specs.Spelling.{IsMessage}
+use Rattle.wire_format.specs.Words.{said}
+use Rattle.wire_format.proofs.Saying.{says_what_is_spelled}
 use Rattle.signing.specs.Heard.{heard}
 use Rattle.protocol.specs.System.Configuration.{Configuration, members, replicas}
 use Rattle.protocol.specs.System.Trace.{Entry}

@@ -5,10 +5,10 @@ use Rattle.std.specs.Option.{option_map_or}
 use Rattle.terms.specs.declared.state.Level.{Level}
 use Rattle.terms.specs.declared.state.Level.TheVariants as levels
 use Rattle.partition_tree.specs.Levels.{children_of}
-use Rattle.wire.specs.Messages.{BodyData as Body, MessageData as Message, FrameData as Frame, fetch as Fetch, meta as Meta, page as Page}
-use Rattle.wire.specs.Spelling.{has_children, last_index}
-use Rattle.wire.specs.Words.{carried, frame_of, receivers_of}
-use Rattle.wire.proofs.Saying.{says_what_is_spelled, reads_frames}
+use Rattle.wire_format.specs.Messages.{BodyData as Body, MessageData as Message, FrameData as Frame, fetch as Fetch, meta as Meta, page as Page}
+use Rattle.wire_format.specs.Spelling.{has_children, last_index}
+use Rattle.wire_format.specs.Words.{carried, frame_of, receivers_of}
+use Rattle.wire_format.proofs.Saying.{says_what_is_spelled, reads_frames}
 use Rattle.protocol.specs.System.Configuration.{Configuration}
 use Rattle.protocol.specs.System.Trace.{Entry, Has, Hears}
 use Rattle.protocol.specs.System.Trace.Entry.{Invoke, Got, Executed, Installed, Accepted}

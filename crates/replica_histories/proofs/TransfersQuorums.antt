@@ -8,8 +8,8 @@ use Rattle.std.proofs.lemmas.Bool.{and_parts, ltb-false, leb-true, le-leb, or_le
 use Rattle.std.proofs.lemmas.Slice.Eq.{bytes_eq-Decides}
 use Rattle.quorum.proofs.Counting.{count_same, count_mono}
 use Rattle.terms.specs.declared.state.Level.TheVariants as levels
-use Rattle.wire.specs.Messages.{BodyData as Body, MessageData as Message, CheckpointEntryData as CheckpointEntry, checkpoint as Checkpoint, fetch as Fetch}
-use Rattle.wire.specs.Words.{said}
+use Rattle.wire_format.specs.Messages.{BodyData as Body, MessageData as Message, CheckpointEntryData as CheckpointEntry, checkpoint as Checkpoint, fetch as Fetch}
+use Rattle.wire_format.specs.Words.{said}
 use Rattle.protocol.specs.System.Configuration.{Configuration, replicas, is_number}
 use Rattle.protocol.specs.System.Trace.{Entry, Has}
 use Rattle.protocol.specs.System.Trace.Entry.{Sent}

@@ -13,7 +13,7 @@ use Rattle.sha2.specs.Sha256.{sha256}
 use Rattle.terms.specs.declared.state.Level.{Level}
 use Rattle.terms.specs.declared.state.Level.TheVariants as levels
 use Rattle.partition_tree.specs.Digests.{digest_of_children, page_digests, inner_digest, inner_digests, root_of as root_of_pages}
-use Rattle.wire.specs.Messages.{meta as Meta}
+use Rattle.wire_format.specs.Messages.{meta as Meta}
 use Rattle.protocol.specs.System.Configuration.{Configuration}
 use Rattle.protocol.specs.System.Trace.{Entry, Once, Hears}
 use Rattle.protocol.specs.System.Trace.Entry.{Got}

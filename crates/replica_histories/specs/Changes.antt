@@ -1,10 +1,10 @@
 -- A replica's view-change data, and how entries change them (Castro and Liskov, TOCS 2002, on view changes).
 use Rattle.std.specs.Prelude.{◌≡◌, ◌≢◌, ℕ, suc, ◌+◌, ◌≤◌, ◌<◌, ◌⊎◌, true, false, List, [], ◌∷◌, length, replicate, if◌then◌else◌, Option, Some, None, ⊤}
 use Rattle.std.specs.Option.{ForSome}
-use Rattle.wire.specs.Messages.{BodyData as Body, MessageData as Message, BatchEntryData as Claim, ViewChangeData, NewViewData, CheckpointEntryData as CheckpointEntry, pre_prepare as PrePrepare, commit as Commit, checkpoint as Checkpoint, view_change as ViewChange, new_view as NewView}
-use Rattle.wire.specs.Spelling.{is_signed}
-use Rattle.wire.specs.Words.{said}
-use Rattle.wire.specs.Lists.{Each}
+use Rattle.wire_format.specs.Messages.{BodyData as Body, MessageData as Message, BatchEntryData as Claim, ViewChangeData, NewViewData, CheckpointEntryData as CheckpointEntry, pre_prepare as PrePrepare, commit as Commit, checkpoint as Checkpoint, view_change as ViewChange, new_view as NewView}
+use Rattle.wire_format.specs.Spelling.{is_signed}
+use Rattle.wire_format.specs.Words.{said}
+use Rattle.wire_format.specs.Lists.{Each}
 use Rattle.signing.specs.Heard.{heard}
 use Rattle.ordering.specs.Log as logs
 use Rattle.ordering.specs.Log.{LogData}

@@ -2,9 +2,9 @@
 -- committed. A replica that has no commit left to send has committed each prepared batch (Castro and Liskov, TOCS 2002,
 -- on the sets P and Q of view changes).
 use Rattle.std.specs.Prelude.{◌≡◌, ◌≢◌, ℕ, ◌⊎◌, true, List, [], ◌∷◌, Some, None}
-use Rattle.wire.specs.Messages.{BatchEntryData as Claim}
-use Rattle.wire.specs.Words.{requests_of}
-use Rattle.wire.specs.Lists.{Each}
+use Rattle.wire_format.specs.Messages.{BatchEntryData as Claim}
+use Rattle.wire_format.specs.Words.{requests_of}
+use Rattle.wire_format.specs.Lists.{Each}
 use Rattle.ordering.specs.Log as logs
 use Rattle.ordering.specs.Log.{LogData}
 use Rattle.protocol.specs.System.Configuration.{Configuration}

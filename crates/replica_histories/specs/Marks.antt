@@ -1,7 +1,7 @@
 -- The log when the marks move: a checkpoint that becomes stable cuts the rows up to it (Castro and Liskov, TOCS 2002,
 -- on garbage collection).
 use Rattle.std.specs.Prelude.{◌≡◌, ℕ, ◌^◌, ◌≤◌, ◌<◌, true, List, ◌∷◌, if◌then◌else◌, Some, None}
-use Rattle.wire.specs.Messages.{CheckpointEntryData as CheckpointEntry, checkpoint as Checkpoint}
+use Rattle.wire_format.specs.Messages.{CheckpointEntryData as CheckpointEntry, checkpoint as Checkpoint}
 use Rattle.ordering.specs.Log as logs
 use Rattle.ordering.specs.Log.{LogData}
 use Rattle.ordering.specs.Keeping.{IsLog}

@@ -4,9 +4,9 @@
 use Rattle.std.specs.Prelude.{◌≡◌, ◌≢◌, ◌↔◌, ℕ, zero, suc, ◌+◌, ◌≤◌, ◌<◌, ◌⊎◌, Bool, true, false, ◌&&◌, not, List, [], ◌∷◌, ◌++◌, length, map, take, filter, max, nat_lt, ◌==◌, if◌then◌else◌, Some, None, option_and_then, is_some, AllPairs}
 use Rattle.std.specs.List.{list_all, list_any, filter_map, flat_map}
 use Rattle.std.specs.Option.{option_map_or}
-use Rattle.wire.specs.Messages.{MessageData as Message, NewViewData, pre_prepare as PrePrepare}
-use Rattle.wire.specs.Words.{requests_of, said}
-use Rattle.wire.specs.Lists.{Each}
+use Rattle.wire_format.specs.Messages.{MessageData as Message, NewViewData, pre_prepare as PrePrepare}
+use Rattle.wire_format.specs.Words.{requests_of, said}
+use Rattle.wire_format.specs.Lists.{Each}
 use Rattle.signing.specs.Heard.{heard}
 use Rattle.ordering.specs.Log.{LogData}
 use Rattle.protocol.specs.System.Configuration.{Configuration, primary, members}

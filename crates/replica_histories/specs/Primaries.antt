@@ -2,8 +2,8 @@
 -- 2002, on view changes).
 use Rattle.std.specs.Prelude.{◌≡◌, ℕ, ◌⊎◌, true, false, List, map, Option}
 use Rattle.sha2.specs.Sha256.{sha256}
-use Rattle.wire.specs.Lists.{Each}
-use Rattle.wire.specs.Messages.{ViewChangeData, BatchEntryData as Claim}
+use Rattle.wire_format.specs.Lists.{Each}
+use Rattle.wire_format.specs.Messages.{ViewChangeData, BatchEntryData as Claim}
 use Rattle.ordering.specs.Log as logs
 use Rattle.ordering.specs.Log.{LogData}
 use Rattle.protocol.specs.System.Configuration.{Configuration}

@@ -10,8 +10,8 @@ use Rattle.partition_tree.specs.Digests.{digest_of_children}
 use Rattle.terms.specs.declared.state.Level.{Level}
 use Rattle.terms.specs.declared.state.Level.TheVariants as levels
 use Rattle.terms.specs.declared.order.Mode.TheVariants as modes
-use Rattle.wire.specs.Messages.{BodyData as Body, MessageData as Message, request as Request, reply as Reply, fetch as Fetch, meta as Meta, page as Page, ViewChangeData, view_change as ViewChange}
-use Rattle.wire.specs.Words.{said}
+use Rattle.wire_format.specs.Messages.{BodyData as Body, MessageData as Message, request as Request, reply as Reply, fetch as Fetch, meta as Meta, page as Page, ViewChangeData, view_change as ViewChange}
+use Rattle.wire_format.specs.Words.{said}
 use Rattle.signing.specs.Heard.{heard}
 use Rattle.protocol.specs.System.Configuration.{Configuration, members}
 use Rattle.protocol.specs.System.Trace.{Entry, Has, Hears}

@@ -2,7 +2,7 @@
 -- seen (Castro and Liskov, TOCS 2002, on view changes).
 use Rattle.std.specs.Prelude.{◌≡◌, ◌≢◌, ℕ, ◌<◌, List, [], ◌∷◌, length, replicate, Option, Some, None}
 use Rattle.std.specs.Option.{option_map_or}
-use Rattle.wire.specs.Messages.{ViewChangeData}
+use Rattle.wire_format.specs.Messages.{ViewChangeData}
 use Rattle.protocol.specs.System.Configuration.{Configuration, replicas}
 use Rattle.protocol.specs.System.Trace.{Entry, Once}
 use Rattle.protocol.specs.System.Trace.Entry.{Got, Sent}

@@ -1,6 +1,6 @@
 -- A running event: where it began, its outputs, and the messages still to be sent.
 use Rattle.std.specs.Prelude.{◌≡◌, ℕ, ◌⊎◌, true, List, [], ◌∷◌, ◌++◌, ⊤}
-use Rattle.wire.specs.Messages.{MessageData as Message}
+use Rattle.wire_format.specs.Messages.{MessageData as Message}
 use Rattle.protocol.specs.System.Configuration.{Configuration}
 use Rattle.protocol.specs.System.Trace.{Entry, Has, is_output}
 use Rattle.protocol.specs.Replica.RightReplica.{Point, IsStep}

@@ -4,9 +4,9 @@ use Rattle.std.specs.Prelude.{◌≡◌, ℕ, true, List, [], ◌∷◌, map, re
 use Rattle.terms.specs.declared.state.Level.{Level}
 use Rattle.terms.specs.declared.state.Level.TheVariants as levels
 use Rattle.partition_tree.specs.Levels.{children_of}
-use Rattle.wire.specs.Messages.{MessageData as Message, fetch as Fetch, meta as Meta, page as Page}
-use Rattle.wire.specs.Spelling.{has_children}
-use Rattle.wire.specs.Words.{carried}
+use Rattle.wire_format.specs.Messages.{MessageData as Message, fetch as Fetch, meta as Meta, page as Page}
+use Rattle.wire_format.specs.Spelling.{has_children}
+use Rattle.wire_format.specs.Words.{carried}
 use Rattle.protocol.specs.System.Configuration.{Configuration}
 use Rattle.protocol.specs.System.Frames.{IsPosted}
 use Rattle.protocol.specs.System.Trace.{Entry, Has, Hears}

@@ -3,7 +3,7 @@
 -- on state transfer).
 use Rattle.std.specs.Prelude.{◌≡◌, ℕ, ◌≤◌, ◌<◌, ◌⊎◌, true, false, List, [], ◌∷◌, filter, nat_lt, Some, None}
 use Rattle.terms.specs.declared.state.Level.TheVariants as levels
-use Rattle.wire.specs.Messages.{MessageData as Message, CheckpointEntryData as CheckpointEntry, fetch as Fetch}
+use Rattle.wire_format.specs.Messages.{MessageData as Message, CheckpointEntryData as CheckpointEntry, fetch as Fetch}
 use Rattle.protocol.specs.System.Configuration.{Configuration}
 use Rattle.protocol.specs.System.Trace.{Entry, Once, Has}
 use Rattle.protocol.specs.Replica.Certificates.{checkpoint_in, checkpoints_of, count_checkpoints}

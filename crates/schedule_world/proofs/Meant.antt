@@ -7,7 +7,7 @@ use Rattle.std.proofs.lemmas.List.{length-map}
 use Rattle.std.proofs.lemmas.List.Sums.{AllPass-from_list_all, list_all-from_AllPass}
 use Rattle.terms.specs.Parties.{party_number}
 use Rattle.terms.specs.declared.parties.Party.{Party}
-use Rattle.wire.specs.Lists.{ascends, leads}
+use Rattle.wire_format.specs.Lists.{ascends, leads}
 use Rattle.protocol.specs.System.Configuration.{Configuration}
 use Rattle.protocol.specs.System.Schedule.{is_party, AreReceivers}
 

@@ -7,7 +7,7 @@ use Rattle.std.proofs.lemmas.Bool.{and_from, and_parts, cases_lt, or_left, or_ri
 use Rattle.std.proofs.lemmas.List.{get_or_default}
 use Rattle.std.proofs.lemmas.Option.{slice_get_read, get_or_from_slice_get}
 use Rattle.quorum.specs.Quorum.{member}
-use Rattle.wire.specs.Lists.{Each, ascends, leads}
+use Rattle.wire_format.specs.Lists.{Each, ascends, leads}
 use Rattle.protocol.specs.System.Configuration.{Configuration, IsConfiguration, replicas, is_correct, is_correct_replica, is_correct_client}
 use Rattle.protocol.specs.System.Trace.{history_of}
 use Rattle.protocol.specs.System.Schedule.{World}

@@ -2,8 +2,8 @@
 use Rattle.std.specs.Prelude.{ℕ, List, map, ◌++◌}
 use Rattle.terms.specs.Parties.{party_number}
 use Rattle.terms.specs.declared.parties.Party.{Party}
-use Rattle.wire.specs.Messages.{macs, signature}
-use Rattle.wire.specs.Spelling.{piece, authenticator_spelling}
+use Rattle.wire_format.specs.Messages.{macs, signature}
+use Rattle.wire_format.specs.Spelling.{piece, authenticator_spelling}
 use Rattle.authenticator.specs.Keys.{signing_seed}
 use Rattle.authenticator.specs.Sealing.{entry_for}
 use Rattle.signing.specs.Signatures.{signature_of}

@@ -21,7 +21,7 @@ use Rattle.replica.specs.Fits as replica_fits
 use Rattle.replica.specs.declared.replica.Event.{Event as ReplicaEvent}
 use Rattle.client_cert.specs.Steps as client_steps
 use Rattle.client_cert.specs.declared.client.Event.{Event as ClientEvent}
-use Rattle.wire.specs.Lists.{Each}
+use Rattle.wire_format.specs.Lists.{Each}
 use Rattle.schedule_world.specs.declared.stage.Seat.{Seat}
 use Rattle.schedule_world.specs.declared.stage.Stage.{Stage}
 use Rattle.schedule_world.specs.Pooled.{Frame, IsNext}

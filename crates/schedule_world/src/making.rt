@@ -5,7 +5,7 @@ ghost use Rattle.terms.specs.Parties.{party_number};
 ghost use Rattle.authenticator.specs.Giving.{AreMacsFor};
 ghost use Rattle.authenticator.specs.Keys.{key_between, signing_seed};
 ghost use Rattle.signing.specs.Signatures.{signature_of};
-ghost use Rattle.wire.specs.Spelling.{piece};
+ghost use Rattle.wire_format.specs.Spelling.{piece};
 ghost use Rattle.schedule_world.specs.Making.{sealed_text, seed_of, signed_text};
 
 use arrayvec::ArrayVec;

@@ -3,7 +3,7 @@
 ghost use Rattle.std.specs.Prelude.{◌≡◌, ◌↔◌, ◌≤◌, nat_lt, length, map, IfOk, IsTrue};
 ghost use Rattle.std.specs.List.{list_all};
 ghost use Rattle.terms.specs.Parties.{party_number};
-ghost use Rattle.wire.specs.Lists.{ascends};
+ghost use Rattle.wire_format.specs.Lists.{ascends};
 ghost use Rattle.protocol.specs.System.Configuration.{is_correct, is_replica};
 ghost use Rattle.protocol.specs.System.Schedule.{is_party, AreReceivers};
 ghost use Rattle.schedule_world.specs.Receiving.{AreCorrectOf};

@@ -2,8 +2,8 @@
 
 ghost use Rattle.std.specs.Prelude.{◌≡◌, ◌∷◌, [], false, map, IfOk};
 ghost use Rattle.terms.specs.Parties.{party_number};
-ghost use Rattle.wire.specs.Spelling.{IsBody, is_signed};
-ghost use Rattle.wire.specs.Views.{body_data, message_data};
+ghost use Rattle.wire_format.specs.Spelling.{IsBody, is_signed};
+ghost use Rattle.wire_format.specs.Views.{body_data, message_data};
 
 use crate::codes::is_code;
 use authenticator::{OpenFault, Opened, Ring, SealFault};

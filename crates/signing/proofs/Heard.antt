@@ -5,10 +5,10 @@ use Rattle.std.specs.Prelude.{option_and_then, not, ◌==◌}
 use Rattle.std.proofs.lemmas.Bool.{true≢false, and_parts, and_from, not-true, eqb-true, eqb-false, eq-eqb, ne_eqb, ltb-true, lt-ltb}
 use Rattle.std.proofs.lemmas.Slice.Eq.{bytes_eq-Decides}
 use Rattle.std.proofs.Math.Bool.{or-true}
-use Rattle.wire.specs.Messages.{BodyData, AuthenticatorData, signature, FrameData}
-use Rattle.wire.specs.Spelling.{SpellsFrame, body_spelling, is_signed, authenticator_is_signed}
-use Rattle.wire.specs.Words.{frame_of}
-use Rattle.wire.proofs.Saying.{reads_frames}
+use Rattle.wire_format.specs.Messages.{BodyData, AuthenticatorData, signature, FrameData}
+use Rattle.wire_format.specs.Spelling.{SpellsFrame, body_spelling, is_signed, authenticator_is_signed}
+use Rattle.wire_format.specs.Words.{frame_of}
+use Rattle.wire_format.proofs.Saying.{reads_frames}
 use Rattle.authenticator.specs.Authentic.{is_authentic}
 use Rattle.authenticator.specs.Keys.{signing_seed}
 use Rattle.authenticator.specs.Membership.{Membership, has_sender}

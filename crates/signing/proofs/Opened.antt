@@ -1,7 +1,7 @@
 -- The judgement of a frame by its header decides whether a party hears it.
 use Rattle.std.proofs.Common.{◌≡◌, ◌≢◌, inl, ℕ, true, false, List, Some, None, ap, sym, refl, ◌∙◌}
-use Rattle.wire.specs.Messages.{BodyData, FrameData, AuthenticatorData, macs, signature}
-use Rattle.wire.specs.Spelling.{SpellsFrame, is_signed, authenticator_is_signed, body_spelling}
+use Rattle.wire_format.specs.Messages.{BodyData, FrameData, AuthenticatorData, macs, signature}
+use Rattle.wire_format.specs.Spelling.{SpellsFrame, is_signed, authenticator_is_signed, body_spelling}
 use Rattle.wire.specs.Headers.{HeaderData, header_of, HasHeader}
 use Rattle.wire.proofs.Whole.{one_frame}
 use Rattle.authenticator.specs.declared.sealed.OpenFault.{OpenFault}

@@ -4,10 +4,10 @@ use lib.Dec.{eqb}
 use Rattle.terms.specs.Parties.{party_number}
 use Rattle.wire.specs.declared.request_bytes.RequestBytes.{RequestBytes}
 use Rattle.wire.specs.Headers.{HeaderData, HasHeader, header_of}
-use Rattle.wire.specs.Messages.{request, BodyData, AuthenticatorData, macs, signature, FrameData}
+use Rattle.wire_format.specs.Messages.{request, BodyData, AuthenticatorData, macs, signature, FrameData}
 use Rattle.wire.specs.Marks.{has_type_of_requests}
 use Rattle.wire.specs.Requests.{HoldsRequest}
-use Rattle.wire.specs.Spelling.{SpellsFrame, authenticator_is_signed, body_spelling, is_signed, message_type}
+use Rattle.wire_format.specs.Spelling.{SpellsFrame, authenticator_is_signed, body_spelling, is_signed, message_type}
 use Rattle.wire.proofs.Whole.{one_frame}
 use Rattle.authenticator.specs.declared.sealed.OpenFault.{OpenFault}
 use Rattle.authenticator.specs.Headers.{header_refusal}

@@ -2,7 +2,7 @@
 use Rattle.std.proofs.Common.{◌≡◌, ℕ, true, false, List, Option, Some, None, refl, ap, sym, ◌∙◌}
 use Rattle.std.specs.Prelude.{is_some}
 use Rattle.std.proofs.lemmas.Bool.{false≢true}
-use Rattle.wire.specs.Messages.{BodyData, FrameData}
+use Rattle.wire_format.specs.Messages.{BodyData, FrameData}
 use Rattle.wire.specs.Headers.{IsFrame, HasBody}
 use Rattle.wire.proofs.Whole.{one_frame}
 use Rattle.authenticator.specs.Membership.{Membership}

@@ -2,10 +2,10 @@
 use Rattle.std.specs.Prelude.{◌≡◌, ℕ, List, Option, Some, MatchOption, Result, Vec}
 use Rattle.terms.specs.Parties.{party_number}
 use Rattle.terms.specs.declared.parties.Party.{Party}
-use Rattle.wire.specs.Appends.{Appends}
+use Rattle.wire_format.specs.Appends.{Appends}
 use Rattle.tuple_codec.specs.Gives.{GivesEach}
-use Rattle.wire.specs.Messages.{BodyData}
-use Rattle.wire.specs.Views.{body_data}
+use Rattle.wire_format.specs.Messages.{BodyData}
+use Rattle.wire_format.specs.Views.{body_data}
 use Rattle.authenticator.specs.Keys.{signing_seed}
 use Rattle.authenticator.specs.Membership.{Membership}
 use Rattle.signing.specs.declared.hear_fault.HearFault.{HearFault}

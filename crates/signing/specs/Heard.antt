@@ -3,9 +3,9 @@
 -- new views count only with a signature that verifies, since others carry them on. A frame that a party gets in its
 -- own name counts for nothing, whoever made it: its own messages count when they are sent.
 use Rattle.std.specs.Prelude.{ℕ, Bool, false, ◌&&◌, not, ◌==◌, if◌then◌else◌, List, Option, Some, None, option_and_then}
-use Rattle.wire.specs.Messages.{BodyData, AuthenticatorData, macs, signature, FrameData}
-use Rattle.wire.specs.Spelling.{body_spelling, is_signed}
-use Rattle.wire.specs.Words.{frame_of}
+use Rattle.wire_format.specs.Messages.{BodyData, AuthenticatorData, macs, signature, FrameData}
+use Rattle.wire_format.specs.Spelling.{body_spelling, is_signed}
+use Rattle.wire_format.specs.Words.{frame_of}
 use Rattle.authenticator.specs.Membership.{Membership, has_sender}
 use Rattle.authenticator.specs.Authentic.{is_authentic}
 use Rattle.authenticator.specs.Keys.{signing_seed}

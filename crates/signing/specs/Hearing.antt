@@ -1,7 +1,7 @@
 -- Why a party hears nothing from bytes.
 use Rattle.std.specs.Prelude.{◌≡◌, ◌⊎◌, ℕ, Bool, true, false, IsTrue, List, Some}
-use Rattle.wire.specs.Messages.{BodyData, AuthenticatorData, macs, signature, FrameData}
-use Rattle.wire.specs.Spelling.{SpellsFrame, is_signed}
+use Rattle.wire_format.specs.Messages.{BodyData, AuthenticatorData, macs, signature, FrameData}
+use Rattle.wire_format.specs.Spelling.{SpellsFrame, is_signed}
 use Rattle.wire.specs.Headers.{HeaderData}
 use Rattle.authenticator.specs.declared.sealed.OpenFault.TheVariants as open_faults
 use Rattle.authenticator.specs.Keys.{signing_seed}

@@ -1,7 +1,7 @@
 -- The laws of hearing.
 use Rattle.std.specs.Prelude.{◌≡◌, ◌≢◌, ◌↔◌, ◌<◌, ℕ, IsTrue, List, Some}
-use Rattle.wire.specs.Messages.{BodyData, FrameData, signature}
-use Rattle.wire.specs.Spelling.{SpellsFrame, body_spelling, is_signed}
+use Rattle.wire_format.specs.Messages.{BodyData, FrameData, signature}
+use Rattle.wire_format.specs.Spelling.{SpellsFrame, body_spelling, is_signed}
 use Rattle.authenticator.specs.Keys.{signing_seed}
 use Rattle.authenticator.specs.Membership.{Membership, has_sender}
 use Rattle.authenticator.specs.Opening.{Opens}

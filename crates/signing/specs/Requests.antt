@@ -3,7 +3,7 @@
 use Rattle.std.specs.Prelude.{◌≡◌, ℕ, ◌+◌, List, Some}
 use Rattle.tuple_codec.specs.Operations.{Operation}
 use Rattle.tuple_codec.specs.Spelling.{SpellsOperation}
-use Rattle.wire.specs.Messages.{request}
+use Rattle.wire_format.specs.Messages.{request}
 use Rattle.authenticator.specs.Membership.{Membership}
 use Rattle.signing.specs.Heard.{heard}
 use Rattle.signing.specs.declared.heard_request.HeardRequest.{HeardRequest}

@@ -1,7 +1,7 @@
 //! A frame that a party hears.
 
 ghost use Rattle.wire.specs.Headers.{HasBody};
-ghost use Rattle.wire.specs.Views.{body_data};
+ghost use Rattle.wire_format.specs.Views.{body_data};
 
 use wire::Body;
 

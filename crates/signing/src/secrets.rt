@@ -3,7 +3,7 @@
 ghost use Rattle.std.specs.Prelude.{◌≡◌, ◌<◌, ◌≤◌};
 ghost use Rattle.signing.specs.Lamport.{bit_of, leaf_digest, public_hash, secret};
 ghost use Rattle.signing.specs.Signatures.{signed_bits};
-ghost use Rattle.wire.specs.Appends.{Appends};
+ghost use Rattle.wire_format.specs.Appends.{Appends};
 
 use authenticator::Key;
 use sha2::{Digest, Sha256};

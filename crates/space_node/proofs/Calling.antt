@@ -1,7 +1,7 @@
 -- How a client's history grows in a call.
 use Rattle.std.proofs.Common.{◌≡◌, ℕ, suc, ◌-◌, false, List, [], ◌∷◌, ◌++◌, map, refl, sym, ap, ◌∙◌, append_assoc}
 use Rattle.tuple_codec.specs.Operations.{Operation, Outcome}
-use Rattle.wire.specs.Lists.{Each}
+use Rattle.wire_format.specs.Lists.{Each}
 use Rattle.protocol.specs.System.Trace.{Entry}
 use Rattle.protocol.specs.System.Trace.Entry.{Invoke, Accepted}
 use Rattle.protocol.specs.Client.RightClient.{last_call}

@@ -6,8 +6,8 @@ use Rattle.terms.specs.Parties.{party_number}
 use Rattle.terms.specs.declared.parties.Party.{Party}
 use Rattle.space.specs.Applying.{no_tuples, outcome}
 use Rattle.space.specs.Births.{SpaceState, empty_state, tuples_of}
-use Rattle.wire.specs.Messages.{MessageData}
-use Rattle.wire.specs.declared.messages.Reply.{Reply}
+use Rattle.wire_format.specs.Messages.{MessageData}
+use Rattle.wire_format.specs.declared.messages.Reply.{Reply}
 use Rattle.authenticator.specs.Membership.{Membership}
 use Rattle.read_only.specs.Answering.{AnswersRead, read_reply, reply_data}
 use Rattle.read_only.specs.Hearing.{HearsRead}

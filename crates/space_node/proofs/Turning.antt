@@ -14,7 +14,7 @@ use Rattle.protocol.specs.Client.RightClient.Reaction.{nothing, asks, accepts}
 use Rattle.events.specs.Outputs.{after_entries, entry_of}
 use Rattle.events.specs.declared.output.Output.{Output}
 use Rattle.events.specs.declared.output.Output.TheVariants as outputs
-use Rattle.wire.specs.Lists.{Each}
+use Rattle.wire_format.specs.Lists.{Each}
 use Rattle.space_node.specs.Calls.{AcceptNothing, Accepts, MakesTurn}
 
 -- ---- the outputs of the newest event are its reaction

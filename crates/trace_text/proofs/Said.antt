@@ -3,12 +3,12 @@ use Rattle.std.proofs.Common.{◌≡◌, ℕ, List, ◌++◌, length, map, Optio
 use Rattle.std.specs.Prelude.{codes}
 use Rattle.std.specs.Fmt.{decimal}
 use Rattle.terms.specs.Parties.{party_number}
-use Rattle.wire.specs.Messages.{FrameData, signature}
-use Rattle.wire.specs.Spelling.{SpellsFrame}
-use Rattle.wire.specs.Views.{mac_data, macs_of}
-use Rattle.wire.specs.Words.{frame_of, receivers_of}
-use Rattle.wire.specs.declared.frames.ReceiverMac.{ReceiverMac}
-use Rattle.wire.proofs.Saying.{reads_frames}
+use Rattle.wire_format.specs.Messages.{FrameData, signature}
+use Rattle.wire_format.specs.Spelling.{SpellsFrame}
+use Rattle.wire_format.specs.Views.{mac_data, macs_of}
+use Rattle.wire_format.specs.Words.{frame_of, receivers_of}
+use Rattle.wire_format.specs.declared.frames.ReceiverMac.{ReceiverMac}
+use Rattle.wire_format.proofs.Saying.{reads_frames}
 use Rattle.trace_text.specs.Lists.{listed}
 use Rattle.trace_text.specs.Frames.{party_text, call_by, call_in, call_text, sender_in, sender_text, body_text, frame_in, frame_text, receivers_in, receivers_text}
 use Rattle.trace_text.proofs.Joined.{listed_view}

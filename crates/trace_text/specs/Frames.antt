@@ -8,8 +8,8 @@ use Rattle.terms.specs.declared.state.Level.{Level}
 use Rattle.terms.specs.declared.state.Level.TheVariants as levels
 use Rattle.tuple_codec.specs.Operations.{Operation, Outcome}
 use Rattle.tuple_text.specs.Written.{operation_written, outcome_text}
-use Rattle.wire.specs.Messages.{CheckpointEntryData, BatchEntryData, ViewChangeData, NewViewData, MessageData, request, pre_prepare, prepare, commit, checkpoint, view_change, new_view, reply, fetch, meta, page, BodyData, FrameData}
-use Rattle.wire.specs.Words.{frame_of, receivers_of, requests_of}
+use Rattle.wire_format.specs.Messages.{CheckpointEntryData, BatchEntryData, ViewChangeData, NewViewData, MessageData, request, pre_prepare, prepare, commit, checkpoint, view_change, new_view, reply, fetch, meta, page, BodyData, FrameData}
+use Rattle.wire_format.specs.Words.{frame_of, receivers_of, requests_of}
 use Rattle.trace_text.specs.Lists.{listed}
 
 -- replica 0 stands as r0, client 0 as c0

@@ -6,18 +6,18 @@ use Rattle.std.specs.declared.alloc.Global.{Global}
 use Rattle.terms.specs.Parties.{party_number}
 use Rattle.terms.specs.declared.parties.Party.{Party}
 use Rattle.tuple_codec.specs.OperationView.{operation_of, outcome_of}
-use Rattle.wire.specs.Views.{checkpoint_entry_data, batch_entry_data, batch_text, view_change_data, new_view_data}
-use Rattle.wire.specs.declared.frames.ReceiverMac.{ReceiverMac}
-use Rattle.wire.specs.declared.messages.Batch.{Batch}
-use Rattle.wire.specs.declared.messages.BatchEntry.{BatchEntry}
-use Rattle.wire.specs.declared.messages.Checkpoint.{Checkpoint}
-use Rattle.wire.specs.declared.messages.CheckpointEntry.{CheckpointEntry}
-use Rattle.wire.specs.declared.messages.NewView.{NewView}
-use Rattle.wire.specs.declared.messages.Page.{Page}
-use Rattle.wire.specs.declared.messages.PrePrepare.{PrePrepare}
-use Rattle.wire.specs.declared.messages.Reply.{Reply}
-use Rattle.wire.specs.declared.messages.Request.{Request}
-use Rattle.wire.specs.declared.messages.ViewChange.{ViewChange}
+use Rattle.wire_format.specs.Views.{checkpoint_entry_data, batch_entry_data, batch_text, view_change_data, new_view_data}
+use Rattle.wire_format.specs.declared.frames.ReceiverMac.{ReceiverMac}
+use Rattle.wire_format.specs.declared.messages.Batch.{Batch}
+use Rattle.wire_format.specs.declared.messages.BatchEntry.{BatchEntry}
+use Rattle.wire_format.specs.declared.messages.Checkpoint.{Checkpoint}
+use Rattle.wire_format.specs.declared.messages.CheckpointEntry.{CheckpointEntry}
+use Rattle.wire_format.specs.declared.messages.NewView.{NewView}
+use Rattle.wire_format.specs.declared.messages.Page.{Page}
+use Rattle.wire_format.specs.declared.messages.PrePrepare.{PrePrepare}
+use Rattle.wire_format.specs.declared.messages.Reply.{Reply}
+use Rattle.wire_format.specs.declared.messages.Request.{Request}
+use Rattle.wire_format.specs.declared.messages.ViewChange.{ViewChange}
 use Rattle.trace_text.specs.Lists.{listed}
 use Rattle.trace_text.specs.Frames as frames
 

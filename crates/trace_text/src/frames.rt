@@ -2,7 +2,7 @@
 
 ghost use Rattle.std.specs.Prelude.{◌++◌, codes, decimal};
 ghost use Rattle.tuple_text.specs.Written.{Appends};
-ghost use Rattle.wire.specs.Views.{body_data};
+ghost use Rattle.wire_format.specs.Views.{body_data};
 ghost use Rattle.trace_text.specs.Frames.{of_number, of_view, asked, changed, opened, part_text};
 ghost use Rattle.trace_text.specs.Frames.{body_text, frame_text, receivers_text};
 ghost use Rattle.trace_text.specs.Shown.{name_text, request_shown, pre_prepare_shown, vote_shown};

@@ -3,7 +3,7 @@
 ghost use Rattle.std.specs.Prelude.{◌++◌};
 ghost use Rattle.terms.specs.Parties.{party_number};
 ghost use Rattle.tuple_text.specs.Written.{Appends};
-ghost use Rattle.wire.specs.Views.{message_data, batch_text};
+ghost use Rattle.wire_format.specs.Views.{message_data, batch_text};
 ghost use Rattle.trace_text.specs.Frames.{call_by, call_text, calls_text, sender_text, batch_in_brackets};
 ghost use Rattle.trace_text.specs.Shown.{calls_shown, time_text, receivers_shown, checkpoints_shown};
 ghost use Rattle.trace_text.specs.Shown.{checkpoint_entry_shown, batch_entries_shown, batch_entry_shown};

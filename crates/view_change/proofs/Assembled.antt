@@ -4,9 +4,9 @@ use Rattle.std.specs.List.{list_any}
 use Rattle.std.proofs.Common.{◌≡◌, ℕ, ◌+◌, ◌*◌, ◌^◌, ◌≤◌, ◌<◌, ◌⊎◌, inl, inr, Bool, true, List, [], ◌∷◌, length, bytes_eq, Option, refl, sym, ap, ◌∙◌, subst, arith, ◌&&◌}
 use Rattle.std.proofs.lemmas.Bool.{and_parts, and_from, cases_lt, leb-true, lt-ltb, eq-eqb}
 use Rattle.std.proofs.lemmas.List.{length-map}
-use Rattle.wire.specs.Messages.{NewViewData, ViewChangeData, CheckpointEntryData as CheckpointEntry}
-use Rattle.wire.specs.Spelling.{IsBatch, IsDigest, IsNewView}
-use Rattle.wire.specs.Lists.{Each}
+use Rattle.wire_format.specs.Messages.{NewViewData, ViewChangeData, CheckpointEntryData as CheckpointEntry}
+use Rattle.wire_format.specs.Spelling.{IsBatch, IsDigest, IsNewView}
+use Rattle.wire_format.specs.Lists.{Each}
 use Rattle.protocol.specs.System.Configuration.{Configuration, replicas, span}
 use Rattle.protocol.specs.System.Trace.{Has}
 use Rattle.protocol.specs.Replica.Selection.{ascending, changes_of, count_in, is_quorum, is_weak_quorum, list_of, may_select, passes_by}

@@ -2,8 +2,8 @@
 use Rattle.std.specs.Prelude.{slice_index, IsTrue}
 use Rattle.std.specs.Int.{w16, w32, to_be_bytes}
 use Rattle.std.proofs.Common.{◌≡◌, ℕ, ◌+◌, ◌*◌, ◌^◌, ◌<◌, List, ◌∷◌, ◌++◌, length, refl, sym, ap, ◌∙◌, subst, arith}
-use Rattle.wire.specs.Messages.{MessageData as Message, FrameData as Frame, ViewChangeData, view_change as ViewChange}
-use Rattle.wire.specs.Spelling.{body_spelling, frame_spelling, authenticator_spelling, fields_spelling, message_type, IsCarried, IsMessage, IsPlain, is_view_change, sender_in}
+use Rattle.wire_format.specs.Messages.{MessageData as Message, FrameData as Frame, ViewChangeData, view_change as ViewChange}
+use Rattle.wire_format.specs.Spelling.{body_spelling, frame_spelling, authenticator_spelling, fields_spelling, message_type, IsCarried, IsMessage, IsPlain, is_view_change, sender_in}
 use Rattle.wire.proofs.Carrying.{sender_there}
 use Rattle.protocol.specs.System.Configuration.{Configuration}
 use Rattle.view_change.proofs.Opening.{IsChangeFrame}

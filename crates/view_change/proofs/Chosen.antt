@@ -9,7 +9,7 @@ use Rattle.protocol.specs.System.Configuration.{Configuration}
 use Rattle.protocol.specs.System.Trace.{Has}
 use Rattle.protocol.specs.Replica.Selection.{may_stand_at, may_be_null, null_batch, is_null, is_some_below, may_stand, may_all_stand}
 use Rattle.protocol.proofs.Words.Elements.{each_where}
-use Rattle.wire.specs.Messages.{ViewChangeData}
+use Rattle.wire_format.specs.Messages.{ViewChangeData}
 use Rattle.view_change.specs.Sets.{texts_of}
 use Rattle.view_change.specs.Selecting.{are_for, stands_by_entry, goes_before, how_many_from, IsFrom, AreFrom, IsFirst, AreFirst, NothingFrom}
 use Rattle.view_change.specs.Filling.{StandsAt, NoneStandsAt}

@@ -8,7 +8,7 @@ use Rattle.protocol.specs.System.Configuration.{Configuration}
 use Rattle.protocol.specs.System.Trace.{Has}
 use Rattle.protocol.specs.Replica.Selection.{is_quorum, list_of, signed_change, changes_of, all_signed, are_enough, ascending, may_select, count_in}
 use Rattle.protocol.proofs.Words.Lists.{no_longer}
-use Rattle.wire.specs.Messages.{NewViewData, ViewChangeData}
+use Rattle.wire_format.specs.Messages.{NewViewData, ViewChangeData}
 use Rattle.view_change.specs.declared.changes.Change.{Change}
 use Rattle.view_change.specs.declared.fault.NewViewFault.TheVariants.{BadSignature, TooFew, NotSelected}
 use Rattle.view_change.specs.Checking.{refusal_by_rules}

@@ -5,7 +5,7 @@ use Rattle.std.proofs.Common.{◌≡◌, ℕ, zero, suc, ◌+◌, ◌-◌, inl, 
 use Rattle.std.proofs.lemmas.Bool.{and_parts, lt-ltb, leb-true, false_from_ne_true}
 use Rattle.std.proofs.lemmas.Slice.Eq.{bytes_eq-Decides}
 use Rattle.protocol.specs.System.Configuration.{Configuration, replicas}
-use Rattle.wire.specs.Messages.{ViewChangeData, CheckpointEntryData as CheckpointEntry}
+use Rattle.wire_format.specs.Messages.{ViewChangeData, CheckpointEntryData as CheckpointEntry}
 use Rattle.protocol.specs.System.Trace.{Has}
 use Rattle.protocol.specs.Replica.Selection.{is_quorum, is_weak_quorum, passes_by, count_in, is_start}
 use Rattle.protocol.proofs.Words.Lists.{get_there, stands_at, some_below, passes_change, change_there}

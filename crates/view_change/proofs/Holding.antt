@@ -7,9 +7,9 @@ use Rattle.std.proofs.lemmas.Bool.{and_from, lt-ltb, cases_lt}
 use Rattle.std.proofs.lemmas.Option.{same_Some}
 use Rattle.std.proofs.lemmas.Slice.Eq.{bytes_eq-Decides}
 use Rattle.std.proofs.lemmas.List.{map-append, length-replicate, length-set, at_drop_more, at_drop_all}
-use Rattle.wire.specs.Lists.{Each, ascends, leads}
-use Rattle.wire.specs.Messages.{ViewChangeData}
-use Rattle.wire.specs.Spelling.{IsCarried, is_view_change, sender_before, sender_in}
+use Rattle.wire_format.specs.Lists.{Each, ascends, leads}
+use Rattle.wire_format.specs.Messages.{ViewChangeData}
+use Rattle.wire_format.specs.Spelling.{IsCarried, is_view_change, sender_before, sender_in}
 use Rattle.protocol.specs.System.Trace.{Has}
 use Rattle.protocol.specs.System.Configuration.{Configuration}
 use Rattle.protocol.specs.Replica.Selection.{ascending, is_within, signed_change}

@@ -4,7 +4,7 @@ use Rattle.std.specs.Option.{option_map_or}
 use Rattle.std.proofs.Common.{◌≡◌, ℕ, ◌<◌, Bool, true, false, Option, Some, None, refl}
 use Rattle.std.proofs.lemmas.Bool.{and_parts, and_from, lt-ltb, ltb-true}
 use Rattle.std.proofs.lemmas.Option.{same_Some}
-use Rattle.wire.specs.Messages.{NewViewData}
+use Rattle.wire_format.specs.Messages.{NewViewData}
 use Rattle.protocol.specs.System.Configuration.{Configuration, primary}
 use Rattle.protocol.specs.Replica.Certificates.{is_later}
 use Rattle.protocol.specs.Replica.Selection.{all_signed, are_enough, is_within, may_select}

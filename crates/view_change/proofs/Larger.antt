@@ -7,7 +7,7 @@ use Rattle.sha2.specs.Sha256.{sha256}
 use Rattle.quorum.specs.Quorum.{count_below}
 use Rattle.quorum.proofs.Counting.{count_mono}
 use Rattle.protocol.specs.System.Configuration.{Configuration, replicas, span}
-use Rattle.wire.specs.Messages.{ViewChangeData, CheckpointEntryData as CheckpointEntry, BatchEntryData as BatchEntry}
+use Rattle.wire_format.specs.Messages.{ViewChangeData, CheckpointEntryData as CheckpointEntry, BatchEntryData as BatchEntry}
 use Rattle.protocol.specs.System.Trace.{Has}
 use Rattle.protocol.specs.Replica.Selection.{is_quorum, is_weak_quorum, change_by, passes_by, count_in, ascending, changes_of, all_signed, are_enough, all_within, has_length, is_start, agrees, vouches, may_stand_at, may_be_null, null_batch, is_null, is_some_below, may_stand, may_all_stand, largest, largest_of, may_select}
 use Rattle.protocol.proofs.Words.Lists.{passes_change, largest_of-ge, change_there, change_of}

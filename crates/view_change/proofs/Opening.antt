@@ -3,10 +3,10 @@ use Rattle.std.specs.Prelude.{option_and_then, if◌then◌else◌}
 use Rattle.std.proofs.Common.{◌≡◌, ℕ, ◌<◌, Bool, true, false, List, Option, Some, None, refl, sym, ap, ◌∙◌, arith, ◌&&◌}
 use Rattle.std.proofs.lemmas.Bool.{ltb-true}
 use Rattle.std.proofs.lemmas.Option.{some_pair_parts}
-use Rattle.wire.specs.Messages.{MessageData as Message, BodyData as Body, FrameData as Frame, ViewChangeData, view_change as ViewChange, new_view as NewView}
-use Rattle.wire.specs.Spelling.{SpellsFrame, is_signed}
-use Rattle.wire.specs.Words.{frame_of}
-use Rattle.wire.proofs.Saying.{reads_frames}
+use Rattle.wire_format.specs.Messages.{MessageData as Message, BodyData as Body, FrameData as Frame, ViewChangeData, view_change as ViewChange, new_view as NewView}
+use Rattle.wire_format.specs.Spelling.{SpellsFrame, is_signed}
+use Rattle.wire_format.specs.Words.{frame_of}
+use Rattle.wire_format.proofs.Saying.{reads_frames}
 use Rattle.authenticator.specs.Membership.{is_replica, has_sender, sends}
 use Rattle.signing.specs.Heard.{has_signature, is_signed_frame, signed_body}
 use Rattle.protocol.specs.System.Configuration.{Configuration, members, replicas}

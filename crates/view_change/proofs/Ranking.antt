@@ -3,8 +3,8 @@ use Rattle.std.specs.Prelude.{nat_lt}
 use Rattle.std.proofs.Common.{◌≡◌, ℕ, ◌<◌, ◌⊎◌, inl, inr, Bool, true, false, cond, not, List, refl, arith, ◌&&◌, ◌||◌}
 use Rattle.std.proofs.lemmas.Bool.{and_parts, and_from, or_cases, or_left, or_right, lt-ltb, ltb-true, ltb-false, false_from_ne_true}
 use Rattle.protocol.specs.System.Configuration.{Configuration}
-use Rattle.wire.specs.Messages.{ViewChangeData}
-use Rattle.wire.specs.Spelling.{bytes_before}
+use Rattle.wire_format.specs.Messages.{ViewChangeData}
+use Rattle.wire_format.specs.Spelling.{bytes_before}
 use Rattle.claims.proofs.ByteOrder.{bytes_trans, bytes_irreflexive}
 use Rattle.view_change.specs.Selecting.{stands_by_entry, latest_of, is_prepared_in, precedes, outranks, goes_before}
 

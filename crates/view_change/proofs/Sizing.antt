@@ -1,9 +1,9 @@
 -- The rules use only the seed, the faults and the period of a configuration.
 use Rattle.std.specs.Prelude.{option_and_then, if◌then◌else◌, nat_lt, not, ◌==◌}
 use Rattle.std.proofs.Common.{◌≡◌, ℕ, ◌+◌, ◌*◌, Bool, true, List, [], ◌∷◌, length, map, Option, Some, None, refl, sym, ap, ap₂, ◌∙◌, subst, ◌&&◌}
-use Rattle.wire.specs.Messages.{MessageData as Message, BodyData as Body, FrameData as Frame, NewViewData, ViewChangeData, view_change as ViewChange, new_view as NewView}
-use Rattle.wire.specs.Words.{frame_of}
-use Rattle.wire.specs.Spelling.{is_signed}
+use Rattle.wire_format.specs.Messages.{MessageData as Message, BodyData as Body, FrameData as Frame, NewViewData, ViewChangeData, view_change as ViewChange, new_view as NewView}
+use Rattle.wire_format.specs.Words.{frame_of}
+use Rattle.wire_format.specs.Spelling.{is_signed}
 use Rattle.authenticator.specs.Membership.{sends}
 use Rattle.signing.specs.Heard.{has_signature, is_signed_frame, signed_body}
 use Rattle.protocol.specs.System.Configuration.{Configuration, members, primary}

@@ -7,7 +7,7 @@ use Rattle.protocol.specs.System.Configuration.{Configuration}
 use Rattle.protocol.specs.System.Trace.{Has}
 use Rattle.protocol.specs.Replica.Selection.{ascending, is_start, is_within}
 use Rattle.protocol.proofs.Words.Bounds.{bounded}
-use Rattle.wire.specs.Messages.{ViewChangeData, CheckpointEntryData as CheckpointEntry}
+use Rattle.wire_format.specs.Messages.{ViewChangeData, CheckpointEntryData as CheckpointEntry}
 use Rattle.view_change.specs.Selecting.{are_for, meets, AreFrom, NothingFrom, Selects, NothingSelects}
 use Rattle.view_change.specs.Filling.{Fills, NothingFills, greater_start, start_in, start_of, SelectsBelow, NothingBelow}
 use Rattle.view_change.proofs.Larger.{meets_parts, meets_from, larger_sets_allow}

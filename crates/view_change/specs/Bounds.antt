@@ -3,7 +3,7 @@ use Rattle.std.specs.Prelude.{Bool, ◌&&◌}
 use Rattle.std.specs.List.{list_all}
 use Rattle.protocol.specs.System.Configuration.{Configuration}
 use Rattle.protocol.specs.Replica.Selection.{is_batch_entry_within, is_checkpoint_within}
-use Rattle.wire.specs.Messages.{ViewChangeData}
+use Rattle.wire_format.specs.Messages.{ViewChangeData}
 
 -- the lists of the view change are within the bounds
 abbrev pub are_lists_within : Configuration → ViewChangeData → Bool

@@ -4,7 +4,7 @@ use Rattle.std.specs.Prelude.{ℕ, not, ◌==◌, if◌then◌else◌, Option, S
 use Rattle.protocol.specs.System.Configuration.{Configuration, primary}
 use Rattle.protocol.specs.Replica.Certificates.{is_later}
 use Rattle.protocol.specs.Replica.Selection.{all_signed, are_enough, may_select}
-use Rattle.wire.specs.Messages.{NewViewData}
+use Rattle.wire_format.specs.Messages.{NewViewData}
 use Rattle.view_change.specs.declared.fault.NewViewFault.{NewViewFault}
 use Rattle.view_change.specs.declared.fault.NewViewFault.TheVariants.{UnknownSender, WrongView, BadSignature, TooFew, NotSelected}
 

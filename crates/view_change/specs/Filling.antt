@@ -2,7 +2,7 @@
 use Rattle.std.specs.Prelude.{◌≡◌, ℕ, suc, ◌<◌, true, false, ◌&&◌, List, [], ◌∷◌, length, nat_lt, if◌then◌else◌, Option, Some, None}
 use Rattle.protocol.specs.System.Configuration.{Configuration}
 use Rattle.protocol.specs.Replica.Selection.{is_start, may_stand, may_all_stand}
-use Rattle.wire.specs.Messages.{ViewChangeData, CheckpointEntryData as CheckpointEntry}
+use Rattle.wire_format.specs.Messages.{ViewChangeData, CheckpointEntryData as CheckpointEntry}
 use Rattle.view_change.specs.Selecting.{how_many_from, meets, IsFrom, AreFrom, IsFirst, AreFirst, NothingFrom}
 
 -- ---- one number

@@ -4,7 +4,7 @@ use Rattle.protocol.specs.System.Configuration.{Configuration, primary}
 use Rattle.protocol.specs.System.Trace.{Has}
 use Rattle.protocol.specs.Replica.Certificates.{is_later}
 use Rattle.protocol.specs.Replica.Selection.{ascending, changes_of, all_signed, is_within, may_stand_at, is_some_below, may_stand, may_select, signed_change}
-use Rattle.wire.specs.Messages.{ViewChangeData, NewViewData, CheckpointEntryData as CheckpointEntry}
+use Rattle.wire_format.specs.Messages.{ViewChangeData, NewViewData, CheckpointEntryData as CheckpointEntry}
 use Rattle.view_change.specs.Checking.{refusal}
 use Rattle.view_change.specs.ReceivedData.{HeldData, held_of, refusal_of}
 use Rattle.view_change.specs.Selecting.{is_set_for, are_for, meets, how_many_from, IsPart, IsFrom, AreFrom, stands_by_entry}

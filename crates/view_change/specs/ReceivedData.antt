@@ -6,9 +6,9 @@ use Rattle.std.specs.Option.{option_map_or}
 use Rattle.protocol.specs.System.Configuration.{Configuration}
 use Rattle.protocol.specs.System.Trace.{Has}
 use Rattle.protocol.specs.Replica.Selection.{ascending, is_within, list_of, signed_change}
-use Rattle.wire.specs.Lists.{Each, ascends}
-use Rattle.wire.specs.Messages.{ViewChangeData}
-use Rattle.wire.specs.Spelling.{IsCarried, is_view_change, sender_before}
+use Rattle.wire_format.specs.Lists.{Each, ascends}
+use Rattle.wire_format.specs.Messages.{ViewChangeData}
+use Rattle.wire_format.specs.Spelling.{IsCarried, is_view_change, sender_before}
 use Rattle.view_change.specs.declared.change_fault.ChangeFault.{ChangeFault}
 use Rattle.view_change.specs.declared.change_fault.ChangeFault.TheVariants.{BadSignature, WrongView, OutOfBounds, Duplicate}
 use Rattle.view_change.specs.Selecting.{are_for}

@@ -2,7 +2,7 @@
 use Rattle.std.specs.Prelude.{◌≡◌, ℕ, ◌+◌, ◌*◌, List, length, map, Option, Some, None, option_map}
 use Rattle.protocol.specs.System.Configuration.{Configuration}
 use Rattle.protocol.specs.Replica.Selection.{signed_change}
-use Rattle.wire.specs.Views.{view_change_data}
+use Rattle.wire_format.specs.Views.{view_change_data}
 use Rattle.view_change.specs.declared.changes.Change.{Change}
 use Rattle.view_change.specs.declared.changes.Sizes.{Sizes}
 use Rattle.view_change.specs.declared.changes.SignedChange.{SignedChange}

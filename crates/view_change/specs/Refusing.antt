@@ -2,7 +2,7 @@
 use Rattle.std.specs.Prelude.{ℕ, Bool, true, ◌&&◌, not, if◌then◌else◌, List, Option, Some, None}
 use Rattle.protocol.specs.System.Configuration.{Configuration}
 use Rattle.protocol.specs.Replica.Selection.{is_quorum, count_in, ascending}
-use Rattle.wire.specs.Messages.{NewViewData, ViewChangeData}
+use Rattle.wire_format.specs.Messages.{NewViewData, ViewChangeData}
 use Rattle.view_change.specs.declared.fault.NewViewFault.{NewViewFault}
 use Rattle.view_change.specs.declared.fault.NewViewFault.TheVariants.{TooFew, NotSelected}
 use Rattle.view_change.specs.Selecting.{are_for, meets}

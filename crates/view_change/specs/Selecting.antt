@@ -7,9 +7,9 @@ use Rattle.protocol.specs.System.Configuration.{Configuration, span}
 use Rattle.protocol.specs.System.Trace.{Has}
 use Rattle.protocol.specs.Replica.Selection.{is_quorum, count_in, ascending, is_within, is_start, may_stand_at, may_all_stand, largest_of, null_batch}
 use Rattle.sha2.specs.Sha256.{sha256}
-use Rattle.wire.specs.Lists.{Each}
-use Rattle.wire.specs.Spelling.{bytes_before}
-use Rattle.wire.specs.Messages.{ViewChangeData, BatchEntryData as BatchEntry}
+use Rattle.wire_format.specs.Lists.{Each}
+use Rattle.wire_format.specs.Spelling.{bytes_before}
+use Rattle.wire_format.specs.Messages.{ViewChangeData, BatchEntryData as BatchEntry}
 
 -- ---- the rules
 

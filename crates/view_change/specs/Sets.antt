@@ -6,8 +6,8 @@ use Rattle.std.specs.declared.alloc.Global.{Global}
 use Rattle.std.specs.declared.sync.Arc.{Arc}
 use Rattle.protocol.specs.System.Configuration.{Configuration}
 use Rattle.protocol.specs.Replica.Selection.{agrees, vouches, signed_change}
-use Rattle.wire.specs.Messages.{ViewChangeData}
-use Rattle.wire.specs.Views.{view_change_data}
+use Rattle.wire_format.specs.Messages.{ViewChangeData}
+use Rattle.wire_format.specs.Views.{view_change_data}
 use Rattle.view_change.specs.declared.changes.Sizes.{Sizes}
 use Rattle.view_change.specs.declared.changes.Change.{Change}
 use Rattle.view_change.specs.declared.changes.Rule.{Rule}

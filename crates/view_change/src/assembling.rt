@@ -6,9 +6,9 @@ ghost use Rattle.view_change.specs.ReceivedData.{frames_for, pairs_for};
 ghost use Rattle.view_change.specs.ReceivedView.{configuration_of};
 ghost use Rattle.view_change.specs.Selecting.{meets};
 ghost use Rattle.view_change.specs.Sets.{sized, texts_of};
-ghost use Rattle.wire.specs.Lists.{Each};
-ghost use Rattle.wire.specs.Spelling.{IsBatch, IsNewView};
-ghost use Rattle.wire.specs.Views.{batch_text, new_view_data};
+ghost use Rattle.wire_format.specs.Lists.{Each};
+ghost use Rattle.wire_format.specs.Spelling.{IsBatch, IsNewView};
+ghost use Rattle.wire_format.specs.Views.{batch_text, new_view_data};
 
 use crate::changes::Selection;
 use crate::received::Received;

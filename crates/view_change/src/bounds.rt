@@ -4,7 +4,7 @@ ghost use Rattle.std.specs.Prelude.{◌≡◌, ◌+◌, ◌%◌, ◌^◌, ◌≤
 ghost use Rattle.std.specs.List.{list_all};
 ghost use Rattle.protocol.specs.System.Configuration as configuration;
 ghost use Rattle.protocol.specs.Replica.Selection as selection;
-ghost use Rattle.wire.specs.Views.{batch_entry_data, checkpoint_entry_data, view_change_data};
+ghost use Rattle.wire_format.specs.Views.{batch_entry_data, checkpoint_entry_data, view_change_data};
 ghost use Rattle.view_change.specs.Bounds as bounds;
 ghost use Rattle.view_change.specs.Selecting.{are_for};
 ghost use Rattle.view_change.specs.Sets.{pairs, sized};

@@ -4,7 +4,7 @@ ghost use Rattle.std.specs.Prelude.{◌≡◌, ◌≢◌, ◌+◌, ◌++◌, ◌
 ghost use Rattle.protocol.specs.System.Configuration as configuration;
 ghost use Rattle.protocol.specs.Replica.Selection as selection;
 ghost use Rattle.protocol.specs.System.Trace.{Has};
-ghost use Rattle.wire.specs.Views.{batch_text, new_view_data};
+ghost use Rattle.wire_format.specs.Views.{batch_text, new_view_data};
 ghost use Rattle.view_change.specs.Checking.{refusal, refusal_by_rules};
 ghost use Rattle.view_change.specs.ReceivedView.{configuration_of};
 ghost use Rattle.view_change.specs.Refusing as spec;

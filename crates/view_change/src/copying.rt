@@ -4,7 +4,7 @@ ghost use Rattle.std.specs.Prelude.{◌≡◌, ◌++◌, ◌∷◌, [], option_m
 ghost use Rattle.view_change.specs.ReceivedData.{frames_for, pairs_for};
 ghost use Rattle.view_change.specs.ReceivedView.{held_by, held_data};
 ghost use Rattle.view_change.specs.Sets.{change_pair, pairs};
-ghost use Rattle.wire.specs.Views.{texts_of, view_change_data};
+ghost use Rattle.wire_format.specs.Views.{texts_of, view_change_data};
 
 use crate::changes::{Change, SignedChange};
 use std::alloc::Global;

@@ -10,7 +10,7 @@ ghost use Rattle.view_change.specs.ReceivedData.{HeldData, IsHeldSet, IsJoined, 
 ghost use Rattle.view_change.specs.ReceivedView.{AreReceived, configuration_of, held_as, held_by, held_data, IsAdded, IsFrameAdded, IsHeldIn};
 ghost use Rattle.view_change.specs.Selecting.{are_for};
 ghost use Rattle.view_change.specs.Sets.{change_pair, pairs, sized};
-ghost use Rattle.wire.specs.Views.{texts_of, view_change_data};
+ghost use Rattle.wire_format.specs.Views.{texts_of, view_change_data};
 
 use crate::bounds::is_within;
 use crate::carried::open_change;

@@ -3,7 +3,7 @@
 ghost use Rattle.std.specs.Prelude.{◌≡◌, ◌+◌, ◌*◌, ◌≤◌, ◌&&◌, ◌||◌, not, ◌==◌, nat_le, nat_lt, bytes_eq};
 ghost use Rattle.std.specs.List.{list_all, list_any};
 ghost use Rattle.protocol.specs.Replica.Selection as selection;
-ghost use Rattle.wire.specs.Views.{view_change_data};
+ghost use Rattle.wire_format.specs.Views.{view_change_data};
 ghost use Rattle.view_change.specs.Sets.{sized, pairs, test_of};
 
 use crate::changes::{Change, Rule, Sizes};

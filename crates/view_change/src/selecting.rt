@@ -3,7 +3,7 @@
 ghost use Rattle.std.specs.Prelude.{◌≡◌, ◌+◌, ◌^◌, ◌<◌, true, map, option_map, IfOk, MatchOption};
 ghost use Rattle.std.specs.Arc.{arc_value};
 ghost use Rattle.protocol.specs.Replica.Selection as selection;
-ghost use Rattle.wire.specs.Views.{batch_entry_data, checkpoint_entry_data};
+ghost use Rattle.wire_format.specs.Views.{batch_entry_data, checkpoint_entry_data};
 ghost use Rattle.view_change.specs.Filling as spec;
 ghost use Rattle.view_change.specs.Filling.{Fills, NothingFills, SelectsBelow, NothingBelow};
 ghost use Rattle.view_change.specs.Selecting.{are_for, Selects, NothingSelects};

@@ -5,12 +5,12 @@ use Rattle.std.proofs.lemmas.Bool.{lt-ltb, le-ltb, le-leb, ltb-true, ltb-false}
 use lib.Dec.{ltb, leb}
 use Rattle.byteorder.specs.Endian.{big_number}
 use Rattle.tuple_tree.specs.Reading.{byte_at, bytes_at, number_of}
-use Rattle.wire.specs.Lists.{ascends}
-use Rattle.wire.specs.Messages.{MacData}
-use Rattle.wire.specs.Spelling.{mac_before}
+use Rattle.wire_format.specs.Lists.{ascends}
+use Rattle.wire_format.specs.Messages.{MacData}
+use Rattle.wire_format.specs.Spelling.{mac_before}
 use Rattle.wire.specs.Macs.{mac_in, macs_in}
-use Rattle.wire.specs.Reading.{follows, more_at, digest_at, mac_at, macs_at}
-use Rattle.wire.proofs.Forms.{ascends_grows}
+use Rattle.wire_format.specs.Reading.{follows, more_at, digest_at, mac_at, macs_at}
+use Rattle.wire_format.proofs.Forms.{ascends_grows}
 
 pub macs_count : (n : ℕ) (bs : List ℕ) → length (macs_in n bs) ≡ n
 macs_count zero bs = refl

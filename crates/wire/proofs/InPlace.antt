@@ -11,16 +11,16 @@ use Rattle.tuple_codec.specs.Reading.{operation_at, outcome_at}
 use Rattle.tuple_tree.proofs.Readers.{parts}
 use Rattle.tuple_codec.proofs.OperationLaws.{operation_reads, outcome_reads}
 use Rattle.terms.specs.declared.order.Mode.{Mode}
-use Rattle.wire.specs.Messages.{MessageData, request, reply, page, BodyData, AuthenticatorData}
-use Rattle.wire.specs.Spelling.{message_type, body_spelling, is_signed, sender_before}
-use Rattle.wire.specs.Faults.{limit_at}
+use Rattle.wire_format.specs.Messages.{MessageData, request, reply, page, BodyData, AuthenticatorData}
+use Rattle.wire_format.specs.Spelling.{message_type, body_spelling, is_signed, sender_before}
+use Rattle.wire_format.specs.Faults.{limit_at}
 use Rattle.wire.specs.Headers.{HeaderData, header_of, asks}
 use Rattle.wire.specs.Judging.{ends}
-use Rattle.wire.specs.Reading.{passing, more_at, follows, anyhow, all_of, authenticator_of, message_by, body_of, frame_read, piece_at, is_change, is_over, of_some, over_in, mode_at, client_at, digest_at, digests_at, batches_at, request_at, reply_at, page_at}
-use Rattle.wire.proofs.Parts.{number_8_reads, mode_reads, piece_reads}
+use Rattle.wire_format.specs.Reading.{passing, more_at, follows, anyhow, all_of, authenticator_of, message_by, body_of, frame_read, piece_at, is_change, is_over, of_some, over_in, mode_at, client_at, digest_at, digests_at, batches_at, request_at, reply_at, page_at}
+use Rattle.wire_format.proofs.Parts.{number_8_reads, mode_reads, piece_reads}
 use Rattle.wire.proofs.Carrying.{is_none, whole_test}
-use Rattle.wire.proofs.Plain.{client_reads}
-use Rattle.wire.proofs.Carriers.{body_of_found, some_there}
+use Rattle.wire_format.proofs.Plain.{client_reads}
+use Rattle.wire_format.proofs.Carriers.{body_of_found, some_there}
 use Rattle.wire.proofs.Whole.{no_piece, body_fails, authenticator_fails, all_there}
 use Rattle.tuple_codec.specs.declared.bad.Bad.TheVariants as bad
 

@@ -12,10 +12,10 @@ use Rattle.tuple_codec.specs.Spelling.{operation_spelling}
 use Rattle.wire.specs.declared.request_bytes.RequestBytes.{RequestBytes}
 use Rattle.wire.specs.Headers.{IsFrame}
 use Rattle.wire.specs.Marks.{has_type_of_requests}
-use Rattle.wire.specs.Messages.{MessageData, request, BodyData}
+use Rattle.wire_format.specs.Messages.{MessageData, request, BodyData}
 use Rattle.wire.specs.Requests.{HoldsRequest, mode_from}
-use Rattle.wire.specs.Sealing.{IsFrontPiece}
-use Rattle.wire.specs.Spelling.{IsMessage, authenticator_spelling, body_spelling, fields_spelling, message_type, mode_byte}
+use Rattle.wire_format.specs.Sealing.{IsFrontPiece}
+use Rattle.wire_format.specs.Spelling.{IsMessage, authenticator_spelling, body_spelling, fields_spelling, message_type, mode_byte}
 use Rattle.wire.proofs.Whole.{frame_parts}
 
 abbrev IsRequest : MessageData → Type 0

@@ -1,20 +1,18 @@
 -- The requests of a batch's text.
-use Rattle.std.proofs.Common.{◌≡◌, ℕ, zero, suc, ◌+◌, ◌≤◌, ◌<◌, ◌^◌, Bool, true, false, cond, List, [], ◌∷◌, ◌++◌, length, ◌==◌, Option, Some, None, refl, ap, sym, ◌∙◌, ◌-◌, map, arith, eqb-true, append-nil, length-append}
+use Rattle.std.proofs.Common.{◌≡◌, ℕ, zero, suc, ◌+◌, ◌≤◌, ◌<◌, Bool, true, false, cond, List, [], ◌∷◌, ◌++◌, length, ◌==◌, Option, Some, None, refl, ap, sym, ◌∙◌, ◌-◌, map, arith, eqb-true, append-nil, length-append}
 use Rattle.std.specs.Prelude.{◌&&◌, nat_le}
 use Rattle.std.proofs.lemmas.Bool.{and_parts, and_from, le-leb, leb-true}
 use Rattle.std.specs.Bool.{then_some}
 use Rattle.tuple_tree.specs.Reading.{Reader, byte_at}
 use Rattle.tuple_tree.proofs.Readers.{bind_some, guard_holds, parts}
-use Rattle.wire.specs.Lists.{Each}
-use Rattle.wire.specs.Spelling.{IsBatch, IsCarried, is_ordered_request}
-use Rattle.wire.specs.Reading.{passing, more_at, anyhow, piece_at, is_request, requests_at}
-use Rattle.wire.specs.Words.{requests_of}
+use Rattle.wire_format.specs.Spelling.{IsBatch}
+use Rattle.wire_format.specs.Reading.{passing, more_at, anyhow, piece_at, is_request, requests_at}
+use Rattle.wire_format.specs.Words.{requests_of}
 use Rattle.std.specs.Borrow.{Bor}
-use Rattle.wire.proofs.Carriers.{requests_parts, requests_reads}
+use Rattle.wire_format.proofs.Carriers.{requests_parts, requests_reads}
 use Rattle.wire.proofs.Carrying.{from_count}
-use Rattle.wire.proofs.Framing.{limit_bound}
 use Rattle.wire.proofs.Steps.{none_comes}
-use Rattle.wire.proofs.Forms.{passed_on}
+use Rattle.wire_format.proofs.Forms.{passed_on}
 
 -- ---- reading
 
@@ -118,11 +116,3 @@ module _ (n i : ℕ) (xs : List (Bor (List ℕ))) (bs : List ℕ) (all : List (L
           let none : passing is_request piece_at bs ≡ None = rw (piece, e) refl in
           let f = none_comes (passing is_request piece_at) anyhow (λ f. f.now) n i xs bs left none in
           absurd (let g : ⊥ = cc in g)
-
--- ---- writing
-
-pub are_short : (frames : List (List ℕ)) → Each (IsCarried is_ordered_request) frames → Each (λ frame. length frame < 2 ^ 32) frames
-are_short [] h = tt
-are_short (x ∷ xs) h =
-    let c = h.0 in
-    (omega (arith, ap length c.spelled.spelled, c.spelled.valid.short, limit_bound c.frame.body.message), are_short xs h.1)

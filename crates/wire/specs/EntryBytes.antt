@@ -1,7 +1,7 @@
 -- What a slice of MACs stands for, and which slices do.
 use Rattle.std.specs.Prelude.{◌*◌, ◌≤◌, List, length}
 use Rattle.wire.specs.declared.mac_bytes.MacBytes.TheInside.{Inside}
-use Rattle.wire.specs.Messages.{MacData}
+use Rattle.wire_format.specs.Messages.{MacData}
 use Rattle.wire.specs.Macs.{macs_in}
 
 -- the entries at the front of the bytes

@@ -4,8 +4,8 @@ use Rattle.terms.specs.Parties.{party_number}
 use Rattle.wire.specs.declared.headers.Header.{Header}
 use Rattle.wire.specs.declared.headers.AuthenticatorBytes.{AuthenticatorBytes}
 use Rattle.wire.specs.declared.headers.AuthenticatorBytes.TheVariants as authenticator_bytes
-use Rattle.wire.specs.Messages.{MessageData, request, BodyData, AuthenticatorData, macs, signature, FrameData}
-use Rattle.wire.specs.Spelling.{body_spelling, SpellsFrame}
+use Rattle.wire_format.specs.Messages.{MessageData, request, BodyData, AuthenticatorData, macs, signature, FrameData}
+use Rattle.wire_format.specs.Spelling.{body_spelling, SpellsFrame}
 
 pub record HeaderData : Type 0 where
   pub sender : ℕ

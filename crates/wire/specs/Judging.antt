@@ -1,9 +1,9 @@
 -- The results of judging bytes, for the contracts of private functions.
 use Rattle.std.specs.Prelude.{◌≡◌, ℕ, Bool, true, false, ◌==◌, List, length, Option, Some, None, option_map, Result, Ok, Err}
-use Rattle.wire.specs.declared.fault.NoFrame.{NoFrame}
-use Rattle.wire.specs.declared.fault.NoFrame.TheVariants as faults
+use Rattle.wire_format.specs.declared.fault.NoFrame.{NoFrame}
+use Rattle.wire_format.specs.declared.fault.NoFrame.TheVariants as faults
 use Rattle.wire.specs.declared.headers.Header.{Header}
-use Rattle.wire.specs.Messages.{FrameData}
+use Rattle.wire_format.specs.Messages.{FrameData}
 use Rattle.wire.specs.Headers.{header_data, header_of}
 
 -- the value was read up to the end of the bytes

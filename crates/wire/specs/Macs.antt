@@ -1,7 +1,7 @@
 -- MACs as they lie in the bytes of a frame: entries of 34 bytes, one after another.
 use Rattle.std.specs.Prelude.{ℕ, zero, suc, List, [], ◌∷◌, take, drop}
 use Rattle.byteorder.specs.Endian.{big_number}
-use Rattle.wire.specs.Messages.{MacData}
+use Rattle.wire_format.specs.Messages.{MacData}
 
 -- the entry at the front: two bytes of the receiver's number, and 32 of the MAC
 abbrev pub mac_in : List ℕ → MacData

@@ -7,7 +7,7 @@ use Rattle.tuple_codec.specs.Operations.{Operation}
 use Rattle.tuple_codec.specs.Spelling.{SpellsOperation}
 use Rattle.wire.specs.declared.request_bytes.RequestBytes.{RequestBytes}
 use Rattle.wire.specs.Headers.{HasBody}
-use Rattle.wire.specs.Messages.{request}
+use Rattle.wire_format.specs.Messages.{request}
 
 -- The bytes spell a frame of the request, whose operation is spelled by the request's bytes.
 pub record HoldsRequest (bytes : List ℕ) (it : RequestBytes) : Type 0 where

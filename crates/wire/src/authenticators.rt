@@ -2,12 +2,12 @@
 
 ghost use Rattle.std.specs.Prelude.{true, false};
 ghost use Rattle.tuple_tree.specs.Gives.{Yields};
-ghost use Rattle.wire.specs.Messages.{macs, signature};
-ghost use Rattle.wire.specs.Reading.{authenticator_of};
+ghost use Rattle.wire_format.specs.Messages.{macs, signature};
+ghost use Rattle.wire_format.specs.Reading.{authenticator_of};
 
-use crate::frames::{SIGNATURE_KEYS, SIGNATURE_LEN};
 use crate::mac_bytes::{MacBytes, read_macs};
 use crate::reading::read_byte;
+use wire_format::{SIGNATURE_KEYS, SIGNATURE_LEN};
 
 /// The MACs that the bytes, whole, spell, where they lie.
 pub fn read_mac_authenticator(bytes: &[u8]) -> Option<MacBytes<'_>>

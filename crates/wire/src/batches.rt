@@ -1,36 +1,14 @@
-//! The text of a batch, made of request frames, and the frames in it.
+//! The request frames in the text of a batch.
 
-ghost use Rattle.std.specs.Prelude.{◌≡◌, ◌↔◌, ◌≤◌, IsTrue, length, map, IfOk};
-ghost use Rattle.wire.specs.Lists.{Each};
-ghost use Rattle.wire.specs.Reading.{requests_at, request_frame_at};
-ghost use Rattle.wire.specs.Spelling.{IsBatch, IsCarried, is_ordered_request, pieces_spelling};
-ghost use Rattle.wire.specs.Words.{requests_of};
+ghost use Rattle.std.specs.Prelude.{◌≡◌, ◌↔◌, ◌≤◌, IsTrue, length, map};
+ghost use Rattle.wire_format.specs.Reading.{requests_at, request_frame_at};
+ghost use Rattle.wire_format.specs.Spelling.{IsBatch, IsCarried, is_ordered_request};
+ghost use Rattle.wire_format.specs.Words.{requests_of};
 ghost use Rattle.wire.specs.Giving.{YieldsFront};
-ghost use Rattle.wire.specs.Views.{texts_of, batch_text};
 
 use crate::carried::{MAX_REQUESTS, is_request_frame};
-use crate::messages::Batch;
-use crate::put_lists::put_frames;
 use crate::reading::{read_byte, read_piece};
-use crate::sizes::frames_len;
 use arrayvec::ArrayVec;
-use std::alloc::Global;
-use terms::NoMemory;
-
-impl Batch {
-    /// The batch of these request frames, in order.
-    #[tactic(auto, using(crate::proofs::Requesting::are_short))]
-    pub fn of(alloc: Global, frames: &[Vec<u8>]) -> Result<Batch, NoMemory>
-        requires few { length frames.now ≤ 16 }
-        requires each { Each (IsCarried is_ordered_request) (texts_of frames.now) }
-        ensures text { IfOk result (λ b. batch_text b ≡ pieces_spelling (texts_of frames.now)) }
-        ensures requests { IfOk result (λ b. requests_of (batch_text b) ≡ texts_of frames.now) }
-    {
-        let mut text = Vec::with_capacity(alloc, frames_len(frames))?;
-        put_frames(frames, &mut text)?;
-        Ok(Batch { text })
-    }
-}
 
 /// Whether the bytes, whole, are a frame of an ordered request, as batches have them. Takes no memory.
 pub fn is_ordered_request(frame: &[u8]) -> bool
@@ -88,7 +66,7 @@ fn read_request(bytes: &[u8]) -> Option<(&[u8], &[u8])>
 }
 
 // The requests of a batch at the front, and the rest.
-#[tactic(auto, unfolding(crate::specs::Reading::requests_at))]
+#[tactic(auto, unfolding(wire_format::specs::Reading::requests_at))]
 fn read_requests(bytes: &[u8]) -> Option<(ArrayVec<&[u8], MAX_REQUESTS>, &[u8])>
     ensures { YieldsFront (λ fs. map (λ f. f.now) fs.items) result (requests_at 0 bytes.now) }
 {

@@ -2,26 +2,25 @@
 
 ghost use Rattle.std.specs.Prelude.{◌≡◌, ◌≢◌, ◌≤◌, ◌&&◌, ◌<◌, is_some, length, option_map, IfOk, IfErr, IsOk, [], nat_le, ◌==◌, ◌||◌};
 ghost use Rattle.tuple_tree.specs.Gives.{Yields};
-ghost use Rattle.wire.specs.Messages.{FrameData};
-ghost use Rattle.wire.specs.Spelling as Spelling;
-ghost use Rattle.wire.specs.Spelling.{SpellsFrame};
-ghost use Rattle.wire.specs.Faults.{IsTooLarge, limit_at};
+ghost use Rattle.wire_format.specs.Messages.{FrameData};
+ghost use Rattle.wire_format.specs.Spelling as Spelling;
+ghost use Rattle.wire_format.specs.Spelling.{SpellsFrame};
+ghost use Rattle.wire_format.specs.Faults.{IsTooLarge, limit_at};
 ghost use Rattle.wire.specs.Headers.{HasHeader, header_data, header_of, authenticator_bytes_data};
 ghost use Rattle.wire.specs.Judging.{Judges, ends};
-ghost use Rattle.wire.specs.Reading.{all_of, message_at, message_by, request_at, reply_at, pre_prepare_at, vote_at, checkpoint_at, fetch_at, meta_at, page_at, digests_at, new_view_at, authenticator_of, frame_read, too_large};
+ghost use Rattle.wire_format.specs.Reading.{all_of, message_at, message_by, request_at, reply_at, pre_prepare_at, vote_at, checkpoint_at, fetch_at, meta_at, page_at, digests_at, new_view_at, authenticator_of, frame_read, too_large};
 ghost use Rattle.wire.specs.Giving.{YieldsRest};
 
 use crate::authenticators::{read_mac_authenticator, read_signature_authenticator};
 use crate::carried::{read_batch, skip_batches, skip_changes};
 use crate::changes::skip_view_change;
-use crate::fault::NoFrame;
 use crate::fields::{CHILDREN, last_index, read_client, read_place, read_vote};
-use crate::frames::{MAX_FRAME, MAX_VIEW_CHANGE};
 use crate::headers::{AuthenticatorBytes, Header};
 use crate::oversize::carries_too_large;
 use crate::reading::{party, read_byte, read_digest, read_mode, read_piece, read_u16, read_u64};
 use terms::Level;
 use tuple_codec::{is_op, is_result};
+use wire_format::{MAX_FRAME, MAX_VIEW_CHANGE, NoFrame};
 
 /// The header of the frame that the bytes, whole, spell. Takes no memory.
 ///
@@ -102,7 +101,7 @@ fn read_authenticator(signed: bool, bytes: &[u8]) -> Option<AuthenticatorBytes<'
 }
 
 // Whether the bytes, whole, are the fields of a message of this type.
-#[tactic(auto, unfolding(crate::specs::Reading::message_at, crate::specs::Reading::message_by))]
+#[tactic(auto, unfolding(wire_format::specs::Reading::message_at, wire_format::specs::Reading::message_by))]
 fn is_message(kind: u8, fields: &[u8]) -> bool
     ensures { result ≡ is_some (message_by kind fields.now) }
 {
@@ -175,7 +174,7 @@ fn is_page(fields: &[u8]) -> bool
 }
 
 // Each of these gives the bytes after the fields at the front.
-#[tactic(auto, unfolding(crate::specs::Reading::pre_prepare_at))]
+#[tactic(auto, unfolding(wire_format::specs::Reading::pre_prepare_at))]
 fn skip_pre_prepare(bytes: &[u8]) -> Option<&[u8]>
     ensures { YieldsRest result (pre_prepare_at bytes.now) }
 {
@@ -192,7 +191,7 @@ fn skip_vote(bytes: &[u8]) -> Option<&[u8]>
     Some(rest)
 }
 
-#[tactic(auto, unfolding(crate::specs::Reading::checkpoint_at))]
+#[tactic(auto, unfolding(wire_format::specs::Reading::checkpoint_at))]
 fn skip_checkpoint(bytes: &[u8]) -> Option<&[u8]>
     ensures { YieldsRest result (checkpoint_at bytes.now) }
 {
@@ -201,7 +200,7 @@ fn skip_checkpoint(bytes: &[u8]) -> Option<&[u8]>
     Some(rest)
 }
 
-#[tactic(auto, unfolding(crate::specs::Reading::new_view_at))]
+#[tactic(auto, unfolding(wire_format::specs::Reading::new_view_at))]
 fn skip_new_view(bytes: &[u8]) -> Option<&[u8]>
     ensures { YieldsRest result (new_view_at bytes.now) }
 {
@@ -212,7 +211,7 @@ fn skip_new_view(bytes: &[u8]) -> Option<&[u8]>
     skip_batches(rest)
 }
 
-#[tactic(auto, unfolding(crate::specs::Reading::fetch_at))]
+#[tactic(auto, unfolding(wire_format::specs::Reading::fetch_at))]
 fn skip_place(bytes: &[u8]) -> Option<&[u8]>
     ensures { YieldsRest result (fetch_at bytes.now) }
 {
@@ -220,7 +219,7 @@ fn skip_place(bytes: &[u8]) -> Option<&[u8]>
     Some(rest)
 }
 
-#[tactic(auto, unfolding(crate::specs::Reading::meta_at))]
+#[tactic(auto, unfolding(wire_format::specs::Reading::meta_at))]
 fn skip_meta(bytes: &[u8]) -> Option<&[u8]>
     ensures { YieldsRest result (meta_at bytes.now) }
 {

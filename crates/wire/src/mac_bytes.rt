@@ -1,18 +1,18 @@
 //! The MACs of a frame, where they lie in its bytes.
 
 ghost use Rattle.std.specs.Prelude.{◌≡◌, ◌*◌, ◌<◌, ◌≤◌, Some, length, map, slice_get};
-ghost use Rattle.wire.specs.Lists.{ascends};
+ghost use Rattle.wire_format.specs.Lists.{ascends};
 ghost use Rattle.wire.specs.Macs.{mac_in, macs_in};
-ghost use Rattle.wire.specs.Spelling.{mac_before};
-ghost use Rattle.wire.specs.Views.{mac_data};
-ghost use Rattle.wire.specs.Reading.{macs_at};
+ghost use Rattle.wire_format.specs.Spelling.{mac_before};
+ghost use Rattle.wire_format.specs.Views.{mac_data};
+ghost use Rattle.wire_format.specs.Reading.{macs_at};
 ghost use Rattle.wire.specs.Giving.{YieldsFront};
 
-use crate::frames::{MAX_RECEIVERS, ReceiverMac};
 use crate::reading::{party, read_byte};
 use arrayvec::ArrayVec;
 use byteorder::{BigEndian, ByteOrder};
 use std::marker::Model;
+use wire_format::{MAX_RECEIVERS, ReceiverMac};
 
 /// The length of an entry, in bytes: the receiver's number, and the MAC.
 const ENTRY_LEN: usize = 34;
@@ -26,7 +26,7 @@ pub struct MacBytes<'b> {
 
 impl<'b> Model for MacBytes<'b> {
     ghost use Rattle.std.specs.Prelude.{List};
-    ghost use Rattle.wire.specs.Messages.{MacData};
+    ghost use Rattle.wire_format.specs.Messages.{MacData};
 
     ghost Value = { List MacData };
 
@@ -81,7 +81,7 @@ fn read_entry(bytes: &[u8]) -> ReceiverMac
 }
 
 /// The MACs at the front, and the rest.
-#[tactic(auto, unfolding(crate::specs::Reading::macs_at))]
+#[tactic(auto, unfolding(wire_format::specs::Reading::macs_at))]
 pub(crate) fn read_macs(bytes: &[u8]) -> Option<(MacBytes<'_>, &[u8])>
     ensures { YieldsFront (λ ms. ms) result (macs_at bytes.now) }
 {

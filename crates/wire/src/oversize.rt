@@ -1,15 +1,15 @@
 //! Whether bytes carry a view change that is too long. Nothing here takes memory.
 
 ghost use Rattle.std.specs.Prelude.{◌≡◌, ◌-◌, ◌<◌, ◌≤◌, ◌&&◌, []};
-ghost use Rattle.wire.specs.Lists.{listed};
-ghost use Rattle.wire.specs.Reading.{body_over, changes_over, frame_over, is_over, new_view_over, over_in};
+ghost use Rattle.wire_format.specs.Lists.{listed};
+ghost use Rattle.wire_format.specs.Reading.{body_over, changes_over, frame_over, is_over, new_view_over, over_in};
 
 use crate::carried::{MAX_CHANGES, change_comes_next, read_change};
-use crate::frames::MAX_VIEW_CHANGE;
 use crate::reading::{read_byte, read_piece, read_u16, read_u32, read_u64};
+use wire_format::MAX_VIEW_CHANGE;
 
 /// Whether the bytes are a new view up to the length of a view change that is over its limit.
-#[tactic(auto, unfolding(crate::specs::Reading::frame_over))]
+#[tactic(auto, unfolding(wire_format::specs::Reading::frame_over))]
 pub fn carries_too_large(bytes: &[u8]) -> bool
     ensures { result ≡ frame_over bytes.now }
 {
@@ -19,7 +19,7 @@ pub fn carries_too_large(bytes: &[u8]) -> bool
     }
 }
 
-#[tactic(auto, unfolding(crate::specs::Reading::body_over, crate::specs::Reading::message_over))]
+#[tactic(auto, unfolding(wire_format::specs::Reading::body_over, wire_format::specs::Reading::message_over))]
 fn is_body_over(text: &[u8]) -> bool
     ensures { result ≡ body_over text.now }
 {
@@ -32,7 +32,7 @@ fn is_body_over(text: &[u8]) -> bool
     }
 }
 
-#[tactic(auto, unfolding(crate::specs::Reading::new_view_over))]
+#[tactic(auto, unfolding(wire_format::specs::Reading::new_view_over))]
 fn is_new_view_over(fields: &[u8]) -> bool
     ensures { result ≡ new_view_over fields.now }
 {
@@ -42,7 +42,7 @@ fn is_new_view_over(fields: &[u8]) -> bool
     }
 }
 
-#[tactic(auto, unfolding(crate::specs::Reading::changes_over))]
+#[tactic(auto, unfolding(wire_format::specs::Reading::changes_over))]
 fn are_changes_over(bytes: &[u8]) -> bool
     ensures { result ≡ changes_over bytes.now }
 {
@@ -74,7 +74,7 @@ fn is_one_over(count: u8, bytes: &[u8]) -> bool
     false
 }
 
-#[tactic(auto, unfolding(crate::specs::Reading::is_over))]
+#[tactic(auto, unfolding(wire_format::specs::Reading::is_over))]
 fn is_size_over(bytes: &[u8]) -> bool
     ensures { result ≡ is_over bytes.now }
 {

@@ -7,8 +7,7 @@ ghost use Rattle.wire.specs.Headers.{IsFrame};
 ghost use Rattle.wire.specs.Marks.{has_type_of_requests};
 ghost use Rattle.wire.specs.Requests.{HoldsRequest, mode_from};
 
-use crate::reading::party;
-use crate::sealing::body_bytes;
+use crate::reading::{body_bytes, party};
 use byteorder::{BigEndian, ByteOrder};
 use terms::{Mode, Party, Timestamp};
 

@@ -1,6 +1,6 @@
 //! The worked batch of two requests.
 
-ghost use Rattle.wire.specs.Spelling.{IsCarried, is_ordered_request};
+ghost use Rattle.wire_format.specs.Spelling.{IsCarried, is_ordered_request};
 
 use crate::frames::{REQUEST, with_macs};
 use std::alloc::{AllocError, Global};

@@ -1,9 +1,9 @@
 //! Worked rows of bytes that are frames, and of bytes that are none.
 
 ghost use Rattle.std.specs.Prelude.{◌≤◌, length};
-ghost use Rattle.wire.specs.Counts.{CountsFit};
-ghost use Rattle.wire.specs.Spelling.{authenticator_spelling};
-ghost use Rattle.wire.specs.Views.{message_data, authenticator_data};
+ghost use Rattle.wire_format.specs.Counts.{CountsFit};
+ghost use Rattle.wire_format.specs.Spelling.{authenticator_spelling};
+ghost use Rattle.wire_format.specs.Views.{message_data, authenticator_data};
 
 use crate::frames::{
     DIGEST, ONE, REQUEST, TWO, VIEW_CHANGE, carried_request, new_view, new_view_of,

@@ -1,8 +1,8 @@
 //! The claims that a replica keeps over views.
 
 ghost use Rattle.std.specs.Prelude.{◌≡◌, true};
-ghost use Rattle.wire.specs.Counts.{ViewChangeFits};
-ghost use Rattle.wire.specs.Views.{view_change_data};
+ghost use Rattle.wire_format.specs.Counts.{ViewChangeFits};
+ghost use Rattle.wire_format.specs.Views.{view_change_data};
 
 use crate::answers::holds;
 use crate::views::frames::batch;

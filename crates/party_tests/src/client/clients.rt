@@ -1,8 +1,8 @@
 //! Client 0 among four replicas, of which one may be faulty, and its outputs.
 
 ghost use Rattle.std.specs.Prelude.{◌≡◌, false, IfSome};
-ghost use Rattle.wire.specs.Spelling.{IsBody, is_signed};
-ghost use Rattle.wire.specs.Views.{body_data, message_data};
+ghost use Rattle.wire_format.specs.Spelling.{IsBody, is_signed};
+ghost use Rattle.wire_format.specs.Views.{body_data, message_data};
 
 use authenticator::{Ring, SealFault};
 use client_cert::{Client, Event, InvokeFault};

@@ -1,8 +1,8 @@
 //! Endpoints of four replicas, of which one may be faulty, and their frames.
 
 ghost use Rattle.std.specs.Prelude.{◌≡◌, ◌≤◌, true, false};
-ghost use Rattle.wire.specs.Spelling.{IsMessage, is_signed};
-ghost use Rattle.wire.specs.Views.{message_data};
+ghost use Rattle.wire_format.specs.Spelling.{IsMessage, is_signed};
+ghost use Rattle.wire_format.specs.Views.{message_data};
 
 use authenticator::{Ring, SealFault, signing_seed};
 use events::Output;

@@ -2,8 +2,8 @@
 //! docs/formats.md, under the seed 00 01 .. 1f.
 
 ghost use Rattle.std.specs.Prelude.{◌≡◌, false};
-ghost use Rattle.wire.specs.Spelling.{IsMessage, is_signed};
-ghost use Rattle.wire.specs.Views.{message_data};
+ghost use Rattle.wire_format.specs.Spelling.{IsMessage, is_signed};
+ghost use Rattle.wire_format.specs.Views.{message_data};
 
 use crate::answers::{all_hold, holds};
 use crate::endpoint::endpoints::{DIGEST, new_endpoint, new_ring, signed, without_frame};

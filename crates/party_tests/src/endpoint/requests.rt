@@ -2,8 +2,8 @@
 
 ghost use Rattle.std.specs.Prelude.{◌≡◌, ◌≤◌, ◌∷◌, [], false, map, IfOk};
 ghost use Rattle.terms.specs.Parties.{party_number};
-ghost use Rattle.wire.specs.Spelling.{IsBatch, IsBody, IsCarried, is_ordered_request, is_signed};
-ghost use Rattle.wire.specs.Views.{body_data, message_data};
+ghost use Rattle.wire_format.specs.Spelling.{IsBatch, IsBody, IsCarried, is_ordered_request, is_signed};
+ghost use Rattle.wire_format.specs.Views.{body_data, message_data};
 
 use crate::answers::{all_hold, holds};
 use crate::endpoint::endpoints::{new_endpoint, new_ring};

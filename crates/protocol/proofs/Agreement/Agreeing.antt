@@ -7,7 +7,7 @@ use Rattle.sha2.specs.Sha256.{sha256}
 use Rattle.quorum.proofs.Counting.{quorums_meet, count_with, count_members, count_mono}
 use Rattle.quorum.specs.Quorum.{count_below}
 use Rattle.protocol.specs.System.Configuration.{Configuration, primary, is_correct_replica, is_faulty_replica, is_replica}
-use Rattle.wire.specs.Messages.{BodyData as Body}
+use Rattle.wire_format.specs.Messages.{BodyData as Body}
 use Rattle.protocol.specs.System.Trace.{Entry, history_of, Once, Always, Unforged}
 use Rattle.protocol.specs.System.Trace.Entry.{Sent}
 use Rattle.quorum.specs.Votes.{has_digest}

@@ -6,9 +6,9 @@ use Rattle.std.proofs.lemmas.Slice.Eq.{bytes_eq-Decides}
 use Rattle.sha2.specs.Sha256.{sha256}
 use Rattle.quorum.specs.Quorum.{count_below}
 use Rattle.protocol.specs.System.Configuration.{Configuration, IsConfiguration, is_replica, is_client, is_correct_replica, members}
-use Rattle.wire.specs.Messages.{BodyData as Body, MessageData as Message, NewViewData, BatchEntryData as BatchEntry, request as Request, pre_prepare as PrePrepare}
-use Rattle.wire.specs.Words.{carried, requests_of, said}
-use Rattle.wire.specs.Reading.{requests_at}
+use Rattle.wire_format.specs.Messages.{BodyData as Body, MessageData as Message, NewViewData, BatchEntryData as BatchEntry, request as Request, pre_prepare as PrePrepare}
+use Rattle.wire_format.specs.Words.{carried, requests_of, said}
+use Rattle.wire_format.specs.Reading.{requests_at}
 use Rattle.signing.specs.Heard.{heard}
 use Rattle.terms.specs.declared.order.Mode.TheVariants as modes
 use Rattle.protocol.specs.System.Frames.{same_mode}
@@ -34,7 +34,7 @@ use Rattle.protocol.proofs.Agreement.States.{correct_of}
 use Rattle.protocol.proofs.Agreement.Offers.{entry_batch}
 use Rattle.protocol.specs.Replica.Certificates.{batch_from}
 use Rattle.protocol.proofs.Words.Elements.{every_has, some_of_has, each_has}
-use Rattle.wire.specs.Lists.{Each}
+use Rattle.wire_format.specs.Lists.{Each}
 
 -- a correct replica received the frame, authentic to itself, alone or carried
 unfoldable pub AsksFrame : Configuration → List ℕ → List Entry → Entry → Type 0

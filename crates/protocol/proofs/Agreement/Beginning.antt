@@ -3,7 +3,7 @@ use Rattle.std.proofs.Common.{◌≡◌, ℕ, ◌+◌, ◌*◌, ◌<◌, inl, in
 use Rattle.std.proofs.lemmas.Bool.{and_from, leb-true, lt-ltb}
 use Rattle.quorum.proofs.Counting.{one_is_correct, count_members}
 use Rattle.protocol.specs.System.Configuration.{Configuration, replicas, is_replica, is_faulty_replica, is_correct_replica}
-use Rattle.wire.specs.Messages.{NewViewData, ViewChangeData}
+use Rattle.wire_format.specs.Messages.{NewViewData, ViewChangeData}
 use Rattle.protocol.specs.System.Trace.{Entry, party_of, history_of, Once, SendsBody}
 use Rattle.protocol.specs.System.Trace.Entry.{Sent}
 use Rattle.protocol.specs.Replica.Selection.{may_select, changes_of, change_by, count_in, passes_by}

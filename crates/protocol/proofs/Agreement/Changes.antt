@@ -5,8 +5,8 @@ use Rattle.std.specs.Option.{option_map_or}
 use Rattle.std.proofs.lemmas.Bool.{and_parts, and_from, leb-true, lt-ltb, le-leb, cases_lt}
 use Rattle.sha2.specs.Sha256.{sha256}
 use Rattle.protocol.specs.System.Configuration.{Configuration, span, is_number}
-use Rattle.wire.specs.Messages.{BodyData as Body, MessageData as Message, ViewChangeData, BatchEntryData as BatchEntry, commit as Commit, view_change as ViewChange}
-use Rattle.wire.specs.Words.{said}
+use Rattle.wire_format.specs.Messages.{BodyData as Body, MessageData as Message, ViewChangeData, BatchEntryData as BatchEntry, commit as Commit, view_change as ViewChange}
+use Rattle.wire_format.specs.Words.{said}
 use Rattle.protocol.specs.System.Trace.{Entry, Once, Always, Has}
 use Rattle.protocol.specs.System.Trace.Entry.{Invoke, Sent}
 use Rattle.protocol.specs.Replica.Certificates.{logged, target, is_in_marks, low, Prepared, proposal, taken, batch_begun, view, entry_proposal, change_from}

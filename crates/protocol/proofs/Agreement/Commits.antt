@@ -5,7 +5,7 @@ use Rattle.std.proofs.lemmas.Bool.{and_parts}
 use Rattle.sha2.specs.Sha256.{sha256}
 use Rattle.quorum.proofs.Counting.{count_mono}
 use Rattle.protocol.specs.System.Configuration.{Configuration, is_correct_replica, replicas}
-use Rattle.wire.specs.Messages.{BodyData as Body, MessageData as Message, commit as Commit}
+use Rattle.wire_format.specs.Messages.{BodyData as Body, MessageData as Message, commit as Commit}
 use Rattle.protocol.specs.System.Trace.{Entry, history_of, Once, Always, Unforged}
 use Rattle.protocol.specs.System.Trace.Entry.{Sent}
 use Rattle.protocol.specs.Replica.Certificates.{prepare_from, commit_from, vote_in, prepare_of, commit_of, is_active_in, Prepared}

@@ -6,7 +6,7 @@ use Rattle.std.proofs.lemmas.Slice.Eq.{bytes_eq-Decides}
 use Rattle.quorum.proofs.Counting.{some_more, count_members}
 use Rattle.quorum.specs.Quorum.{count_below}
 use Rattle.protocol.specs.System.Configuration.{Configuration, IsConfiguration, is_replica, is_faulty_replica, is_correct_replica, is_number}
-use Rattle.wire.specs.Messages.{BodyData as Body, MessageData as Message, CheckpointEntryData as CheckpointEntry, NewViewData, ViewChangeData, checkpoint as Checkpoint, page as Page}
+use Rattle.wire_format.specs.Messages.{BodyData as Body, MessageData as Message, CheckpointEntryData as CheckpointEntry, NewViewData, ViewChangeData, checkpoint as Checkpoint, page as Page}
 use Rattle.protocol.specs.System.Trace.{Entry, party_of, history_of, Once, Always, Unforged, IsUnforgedAt, Has}
 use Rattle.protocol.specs.System.Trace.Entry.{Invoke, Got, Tick, Executed, Installed, Sent, Accepted}
 use Rattle.protocol.specs.Replica.Certificates.{checkpoint_from, checkpoint_in, insert_checkpoint, with_checkpoint, checkpoints_of, says_checkpoint, count_checkpoints, brought}

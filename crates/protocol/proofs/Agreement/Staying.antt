@@ -7,7 +7,7 @@ use Rattle.sha2.specs.Sha256.{sha256}
 use Rattle.quorum.proofs.Counting.{quorums_meet, some_more, count_members}
 use Rattle.quorum.specs.Quorum.{count_below}
 use Rattle.protocol.specs.System.Configuration.{Configuration, IsConfiguration, span, is_replica, is_faulty_replica, is_correct_replica, is_number}
-use Rattle.wire.specs.Messages.{ViewChangeData, NewViewData, BatchEntryData as BatchEntry}
+use Rattle.wire_format.specs.Messages.{ViewChangeData, NewViewData, BatchEntryData as BatchEntry}
 use Rattle.protocol.specs.System.Trace.{Entry, history_of, Once, Unforged, Has}
 use Rattle.std.specs.List.{list_all, list_any}
 use Rattle.protocol.specs.Replica.Selection.{is_quorum, is_weak_quorum, count_in, passes_by, change_by, changes_of, may_select, may_stand_at, may_be_null, may_all_stand, is_null, is_within, is_batch_entry_within, is_checkpoint_within, agrees, vouches, how_many}

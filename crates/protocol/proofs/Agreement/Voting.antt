@@ -4,7 +4,7 @@ use Rattle.std.specs.Prelude.{option_and_then, ◌==◌}
 use Rattle.std.proofs.lemmas.Bool.{and_parts}
 use Rattle.sha2.specs.Sha256.{sha256}
 use Rattle.protocol.specs.System.Configuration.{Configuration, is_correct, is_correct_replica, primary, members}
-use Rattle.wire.specs.Messages.{BodyData as Body, MessageData as Message, pre_prepare as PrePrepare, prepare as Prepare}
+use Rattle.wire_format.specs.Messages.{BodyData as Body, MessageData as Message, pre_prepare as PrePrepare, prepare as Prepare}
 use Rattle.signing.specs.Heard.{heard}
 use Rattle.protocol.specs.System.Trace.{Entry, party_of, history_of, Once, Always, Unforged, Hears}
 use Rattle.protocol.specs.System.Trace.Entry.{Invoke, Got, Sent}

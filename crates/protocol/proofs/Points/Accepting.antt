@@ -9,7 +9,7 @@ use Rattle.quorum.specs.Quorum.{count_below}
 use Rattle.protocol.specs.System.Configuration.{Configuration, is_replica, is_correct_replica, is_correct_client, members}
 use Rattle.terms.specs.declared.order.Mode.{Mode}
 use Rattle.terms.specs.declared.order.Mode.TheVariants as modes
-use Rattle.wire.specs.Messages.{BodyData as Body, MessageData as Message, reply as Reply}
+use Rattle.wire_format.specs.Messages.{BodyData as Body, MessageData as Message, reply as Reply}
 use Rattle.signing.specs.Heard.{heard}
 use Rattle.protocol.specs.System.Trace.{Entry, party_of, history_of, Once, Always, Hears}
 use Rattle.protocol.specs.System.Trace.Entry.{Invoke, Got, Executed, Sent, Accepted}

@@ -7,8 +7,8 @@ use Rattle.std.proofs.lemmas.List.{length-set, get_or-set_same, get_or-set_other
 use Rattle.protocol.specs.Replica.RightReplica
 use Rattle.protocol.proofs.Points.Sorting
 use Rattle.protocol.specs.System.Configuration.{Configuration, IsConfiguration, is_client, is_correct_replica}
-use Rattle.wire.specs.Messages.{MessageData as Message, request as Request}
-use Rattle.wire.specs.Words.{requests_of, said}
+use Rattle.wire_format.specs.Messages.{MessageData as Message, request as Request}
+use Rattle.wire_format.specs.Words.{requests_of, said}
 use Rattle.terms.specs.declared.order.Mode.TheVariants as modes
 use Rattle.protocol.specs.System.Frames.{same_mode}
 use Rattle.protocol.specs.System.Trace.{Entry, party_of, Once, Has}

@@ -7,8 +7,8 @@ use Rattle.protocol.specs.Replica.RightReplica
 use Rattle.quorum.specs.Quorum.{count_below}
 use Rattle.protocol.specs.System.Configuration.{Configuration, IsConfiguration, is_correct_replica, is_correct_client}
 use Rattle.terms.specs.declared.order.Mode.TheVariants as modes
-use Rattle.wire.specs.Messages.{BodyData as Body, reply as Reply}
-use Rattle.wire.specs.Words.{requests_of}
+use Rattle.wire_format.specs.Messages.{BodyData as Body, reply as Reply}
+use Rattle.wire_format.specs.Words.{requests_of}
 use Rattle.protocol.specs.System.Trace.{Entry, history_of, Once, Always, Has}
 use Rattle.protocol.specs.System.Trace.Entry.{Invoke, Got, Tick, Executed, Installed, Sent, Accepted}
 use Rattle.protocol.specs.Replica.State.{State, Call, Ran, opening, runs, run_call, call_of, run_frame, execute, ran_by, ran_in, kept_by, kept_of}

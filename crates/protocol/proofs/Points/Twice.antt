@@ -1,7 +1,7 @@
 -- No request runs twice over any batches.
 use Rattle.std.proofs.Common.{ℕ, suc, List, [], ◌∷◌, fold, arith}
 use Rattle.protocol.specs.System.Configuration.{Configuration, IsConfiguration}
-use Rattle.wire.specs.Words.{requests_of}
+use Rattle.wire_format.specs.Words.{requests_of}
 use Rattle.protocol.specs.Replica.State.{State, opening, run_frame, execute}
 use Rattle.protocol.specs.Laws.Runs.{ran_points, NoneRunsTwice}
 use Rattle.protocol.proofs.Points.Sorting.{AllOf, all_weaker}

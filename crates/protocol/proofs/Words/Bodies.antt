@@ -7,16 +7,16 @@ use Rattle.std.specs.Bool.{then_some}
 use Rattle.tuple_codec.specs.Operations.{IsOperation, IsOutcome}
 use Rattle.tuple_tree.specs.Reading.{byte_at}
 use Rattle.tuple_tree.proofs.Readers.{bind_some}
-use Rattle.wire.specs.Messages.{BodyData as Body, MessageData as Message, request as Request, reply as Reply}
-use Rattle.wire.specs.Spelling.{IsMessage}
-use Rattle.wire.specs.Reading.{passing, more_at, anyhow, piece_at, is_request, requests_at}
-use Rattle.wire.specs.Words.{requests_of, said}
-use Rattle.wire.proofs.Saying.{says_what_is_spelled}
+use Rattle.wire_format.specs.Messages.{BodyData as Body, MessageData as Message, request as Request, reply as Reply}
+use Rattle.wire_format.specs.Spelling.{IsMessage}
+use Rattle.wire_format.specs.Reading.{passing, more_at, anyhow, piece_at, is_request, requests_at}
+use Rattle.wire_format.specs.Words.{requests_of, said}
+use Rattle.wire_format.proofs.Saying.{says_what_is_spelled}
 use Rattle.protocol.specs.System.Configuration.{Configuration, members}
 use Rattle.signing.specs.Heard.{heard}
 use Rattle.protocol.proofs.Words.Options.{some_injective}
 use Rattle.protocol.proofs.Words.Linking.{heard_said}
-use Rattle.wire.proofs.Forms.{passed_on}
+use Rattle.wire_format.proofs.Forms.{passed_on}
 use Rattle.wire.proofs.Requesting.{more_number}
 
 -- ---- the contents of a message

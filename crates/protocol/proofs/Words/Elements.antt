@@ -5,7 +5,7 @@ use Rattle.std.proofs.lemmas.List.{reverse-reverse}
 use Rattle.std.specs.List.{list_all, list_any}
 use mathlib.Core.List.{reverse_aux}
 use Rattle.protocol.specs.System.Trace.{Has}
-use Rattle.wire.specs.Lists.{Each}
+use Rattle.wire_format.specs.Lists.{Each}
 
 -- ---- some element
 

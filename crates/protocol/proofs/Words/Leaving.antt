@@ -11,8 +11,8 @@ use Rattle.space.proofs.Answering.{answers_are_valid}
 use Rattle.space.proofs.Keeping.{IsState-state_after, IsState-empty}
 use Rattle.space.proofs.Batches.{next_after}
 use Rattle.protocol.specs.System.Configuration.{Configuration, is_client}
-use Rattle.wire.specs.Messages.{MessageData as Message, request as Request}
-use Rattle.wire.specs.Words.{requests_of, said}
+use Rattle.wire_format.specs.Messages.{MessageData as Message, request as Request}
+use Rattle.wire_format.specs.Words.{requests_of, said}
 use Rattle.terms.specs.declared.order.Mode.TheVariants as modes
 use Rattle.protocol.specs.System.Frames.{same_mode}
 use Rattle.reply_cache.specs.Replies.{Kept, Replies, no_replies, last_of, with_reply, IsKept, IsReply, AreReplies}

@@ -1,8 +1,8 @@
 -- A correct sender sent what a correct replica hears of it.
 use Rattle.std.proofs.Common.{◌≡◌, ℕ, true, List, Some, ap, ◌∙◌}
-use Rattle.wire.specs.Messages.{BodyData as Body, MessageData as Message}
-use Rattle.wire.specs.Words.{said}
-use Rattle.wire.proofs.Saying.{reads_said}
+use Rattle.wire_format.specs.Messages.{BodyData as Body, MessageData as Message}
+use Rattle.wire_format.specs.Words.{said}
+use Rattle.wire_format.proofs.Saying.{reads_said}
 use Rattle.signing.specs.Heard.{heard, signed_body}
 use Rattle.signing.proofs.Heard.{heard_was_opened, signed_was_signed}
 use Rattle.protocol.specs.System.Configuration.{Configuration, is_correct, members}

@@ -6,7 +6,7 @@ use Rattle.std.proofs.lemmas.Bool.{and_parts, le-leb, ltb-true, ne_eqb}
 use Rattle.quorum.proofs.Counting.{some_more}
 use Rattle.quorum.specs.Quorum.{count_below}
 use Rattle.protocol.specs.System.Configuration.{Configuration}
-use Rattle.wire.specs.Messages.{ViewChangeData, BatchEntryData as BatchEntry}
+use Rattle.wire_format.specs.Messages.{ViewChangeData, BatchEntryData as BatchEntry}
 use Rattle.std.specs.List.{list_all}
 use Rattle.protocol.specs.Replica.Selection.{change_by, passes_by, largest, largest_of, may_stand, may_all_stand, ascending, list_of}
 use Rattle.protocol.specs.System.Trace.{Has}

@@ -1,6 +1,6 @@
 -- Inputs that give a replica no reason to move to a view.
 use Rattle.std.proofs.Common.{◌≡◌, ℕ, inl, inr, List, ◌∷◌, Some, ap}
-use Rattle.wire.specs.Messages.{ViewChangeData, view_change as ViewChange}
+use Rattle.wire_format.specs.Messages.{ViewChangeData, view_change as ViewChange}
 use Rattle.signing.specs.Heard.{heard}
 use Rattle.protocol.specs.System.Configuration.{Configuration, members}
 use Rattle.protocol.specs.System.Trace.{Entry}

@@ -1,7 +1,7 @@
 -- Each two of a list, as a list of the program says it and as it is taken apart.
 use Rattle.std.proofs.Common.{zero, suc, List, [], ◌∷◌, arith, All, AllPairs}
 use Rattle.std.proofs.lemmas.List.Kept.{AllPairs-cons}
-use Rattle.wire.specs.Lists.{Each}
+use Rattle.wire_format.specs.Lists.{Each}
 
 abbrev pub Pairs : {A : Type 0} → (A → A → Type 0) → List A → Type 0
 Pairs R [] = Unit {0}

@@ -5,9 +5,9 @@ use Rattle.std.proofs.Common.{◌≡◌, ℕ, Bool, true, false, cond, List, ◌
 use Rattle.std.specs.Prelude.{option_and_then, ⊤}
 use Rattle.std.specs.Bool.{then_some}
 use Rattle.protocol.specs.System.Configuration.{Configuration, members}
-use Rattle.wire.specs.Messages.{BodyData as Body, MessageData as Message, CheckpointEntryData as CheckpointEntry, NewViewData, request as Request, pre_prepare as PrePrepare, prepare as Prepare, commit as Commit, reply as Reply, fetch as Fetch, meta as Meta, page as Page, checkpoint as Checkpoint, view_change as ViewChange, new_view as NewView}
+use Rattle.wire_format.specs.Messages.{BodyData as Body, MessageData as Message, CheckpointEntryData as CheckpointEntry, NewViewData, request as Request, pre_prepare as PrePrepare, prepare as Prepare, commit as Commit, reply as Reply, fetch as Fetch, meta as Meta, page as Page, checkpoint as Checkpoint, view_change as ViewChange, new_view as NewView}
 use Rattle.signing.specs.Heard.{heard}
-use Rattle.wire.specs.Words.{said}
+use Rattle.wire_format.specs.Words.{said}
 use Rattle.protocol.specs.System.Trace.{Entry}
 use Rattle.protocol.specs.System.Trace.Entry.{Got, Sent}
 use Rattle.protocol.specs.Replica.Certificates.{view, view_after, target, is_later, change_from, change_sent, new_view_in, new_view_from, taken, checkpoint_from, checkpoint_in, is_stable, stable_at, installed_at, started_at, low, is_in_marks, batch_begun, begun_proposal, entry_proposal, proposal}

@@ -2,20 +2,20 @@
 use Rattle.std.proofs.Common.{◌≡◌, ℕ, inl, inr, Bool, true, false, List, [], ◌∷◌, Option, Some, None, ◌∙◌, refl, sym, ap, subst}
 use Rattle.std.specs.Prelude.{option_and_then}
 use Rattle.std.proofs.lemmas.List.Elements.{All-map}
-use Rattle.wire.specs.Messages.{BodyData as Body, MessageData as Message, FrameData as Frame, MacData, AuthenticatorData as Authenticator, macs, signature}
-use Rattle.wire.specs.Spelling.{body_spelling, SpellsFrame, is_signed, authenticator_is_signed}
+use Rattle.wire_format.specs.Messages.{BodyData as Body, MessageData as Message, FrameData as Frame, MacData, AuthenticatorData as Authenticator, macs, signature}
+use Rattle.wire_format.specs.Spelling.{body_spelling, SpellsFrame, is_signed, authenticator_is_signed}
 use Rattle.authenticator.specs.Authentic.{mac_of}
 use Rattle.authenticator.specs.Sealing.{entry_for, sealed_for}
 use Rattle.signing.specs.Heard.{has_signature}
 use Rattle.protocol.specs.System.Configuration.{Configuration}
-use Rattle.wire.specs.Words.{receivers_of, frame_of, said}
+use Rattle.wire_format.specs.Words.{receivers_of, frame_of, said}
 use Rattle.protocol.specs.System.Frames.{IsSealed, IsPosted, leaf_in, leaf_of}
 use Rattle.protocol.specs.System.Trace.{Entry}
 use Rattle.protocol.specs.System.Trace.Entry.{Invoke, Sent}
 use Rattle.protocol.specs.Replica.RightReplica.{Point, HistoryReaches, IsStep, MaySend, IsFor, IsAddressed, SendsBytes, SentBefore, HasOwnLeaf}
 use Rattle.protocol.specs.Laws.Histories.{PostedMaySend, LeavesSignOnce}
 use Rattle.protocol.proofs.Words.Options.{some_injective}
-use Rattle.wire.proofs.Saying.{reads_frames, reads_said}
+use Rattle.wire_format.proofs.Saying.{reads_frames, reads_said}
 
 -- ---- posted frames
 

@@ -6,8 +6,8 @@ use Rattle.terms.specs.declared.order.Mode.{Mode}
 use Rattle.terms.specs.declared.order.Mode.TheVariants as modes
 use Rattle.tuple_codec.specs.Operations.{Operation, Outcome}
 use Rattle.protocol.specs.System.Configuration.{Configuration}
-use Rattle.wire.specs.Messages.{MessageData as Message, request as Request}
-use Rattle.wire.specs.Words.{said}
+use Rattle.wire_format.specs.Messages.{MessageData as Message, request as Request}
+use Rattle.wire_format.specs.Words.{said}
 use Rattle.protocol.specs.System.Trace.{Entry, party_of, is_output, Always, either}
 use Rattle.protocol.specs.System.Trace.Entry.{Invoke, Got, Tick, Sent, Accepted}
 use Rattle.protocol.specs.Client.RightClient.{OpenCall, open_call, Vote, newest_vote, is_complete, went_ordered, is_answered, Reaction, fallback, on_reply, on_got, first_mode, reaction, IsReaction, MayInput, Reacts, IsClient, MayAccept, MayAsk, MayClient, SafeClient}

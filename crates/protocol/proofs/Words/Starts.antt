@@ -1,7 +1,7 @@
 -- A new view starts at most at the low mark after it.
 use Rattle.std.proofs.Common.{◌≡◌, ℕ, ◌≤◌, max, inl, inr, List, [], ◌∷◌, refl, ap, arith, Option}
 use Rattle.std.specs.Option.{option_map_or}
-use Rattle.wire.specs.Messages.{NewViewData}
+use Rattle.wire_format.specs.Messages.{NewViewData}
 use Rattle.protocol.specs.System.Configuration.{Configuration}
 use Rattle.protocol.specs.System.Trace.{Entry, Once}
 use Rattle.protocol.specs.Replica.Certificates.{low, stable_at, installed_at, started_at}

@@ -7,7 +7,7 @@ use Rattle.std.proofs.lemmas.Bool.{and_parts}
 use Rattle.quorum.specs.Votes.{or_else}
 use Rattle.partition_tree.specs.Digests.{inner_digests, page_digests}
 use Rattle.protocol.specs.System.Configuration.{Configuration, members}
-use Rattle.wire.specs.Messages.{BodyData as Body, MessageData as Message, page as Page}
+use Rattle.wire_format.specs.Messages.{BodyData as Body, MessageData as Message, page as Page}
 use Rattle.signing.specs.Heard.{heard}
 use Rattle.protocol.specs.System.Trace.{Entry, Once}
 use Rattle.protocol.specs.System.Trace.Entry.{Invoke, Got, Tick, Executed, Installed, Sent, Accepted}

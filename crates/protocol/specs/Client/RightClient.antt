@@ -12,9 +12,9 @@ use Rattle.quorum.specs.Quorum.{count_below}
 use Rattle.protocol.specs.System.Configuration.{Configuration, replicas, members}
 use Rattle.terms.specs.declared.order.Mode.{Mode}
 use Rattle.terms.specs.declared.order.Mode.TheVariants as modes
-use Rattle.wire.specs.Messages.{BodyData as Body, MessageData as Message, request as Request, reply as Reply}
+use Rattle.wire_format.specs.Messages.{BodyData as Body, MessageData as Message, request as Request, reply as Reply}
 use Rattle.signing.specs.Heard.{heard}
-use Rattle.wire.specs.Words.{said}
+use Rattle.wire_format.specs.Words.{said}
 use Rattle.protocol.specs.System.Frames.{same_mode, IsPosted}
 use Rattle.protocol.specs.System.Trace.{Entry, party_of, is_output, Always, either}
 use Rattle.protocol.specs.System.Trace.Entry.{Invoke, Got, Tick, Sent, Accepted}

@@ -2,9 +2,9 @@
 use Rattle.std.specs.Prelude.{◌≡◌, ℕ, ◌+◌, ◌^◌, ◌≤◌, ◌<◌, ◌⊎◌, true, List, [], ◌∷◌, ◌++◌, length, Some}
 use Rattle.sha2.specs.Sha256.{sha256}
 use Rattle.protocol.specs.System.Configuration.{Configuration, IsConfiguration, is_correct, is_correct_replica, is_correct_client}
-use Rattle.wire.specs.Messages.{MessageData as Message, NewViewData, ViewChangeData, view_change as ViewChange}
-use Rattle.wire.specs.Spelling.{is_signed}
-use Rattle.wire.specs.Words.{carried}
+use Rattle.wire_format.specs.Messages.{MessageData as Message, NewViewData, ViewChangeData, view_change as ViewChange}
+use Rattle.wire_format.specs.Spelling.{is_signed}
+use Rattle.wire_format.specs.Words.{carried}
 use Rattle.protocol.specs.System.Frames.{IsPosted, leaf_of}
 use Rattle.protocol.specs.System.Trace.{Entry, party_of, history_of, Once, Always, Has, SendsBody, Unforged}
 use Rattle.protocol.specs.System.Trace.Entry.{Executed, Installed}
@@ -14,7 +14,7 @@ use Rattle.protocol.specs.Client.RightClient.{SafeClient}
 use Rattle.protocol.specs.Space.Linear.{points, IsLinear}
 use Rattle.protocol.specs.Replica.State.{State, IsReplicatedState, opening, after_batches, page_text, root_of}
 use Rattle.protocol.specs.System.Texts.{NoCollision}
-use Rattle.wire.specs.Lists.{Each}
+use Rattle.wire_format.specs.Lists.{Each}
 
 -- ---- what may be sent
 

@@ -6,7 +6,7 @@ use Rattle.protocol.specs.System.Trace.{Entry, history_of, Always, Unforged}
 use Rattle.protocol.specs.System.Trace.Entry.{Accepted}
 use Rattle.protocol.specs.Client.RightClient.{Vote, newest_vote}
 use Rattle.protocol.specs.System.Texts.{NoCollision}
-use Rattle.wire.specs.Words.{requests_of}
+use Rattle.wire_format.specs.Words.{requests_of}
 use Rattle.protocol.specs.Replica.State.{State, opening, execute, ran_in}
 use Rattle.protocol.specs.Space.Linear.{points, IsLinear, Linear, is_level, invoke_past, Placing, ordered_point, NoneTwice}
 use Rattle.protocol.specs.Laws.Histories.{IsSafeTrace}

@@ -12,9 +12,9 @@ use Rattle.protocol.specs.System.Configuration.{Configuration, primary, is_numbe
 use Rattle.terms.specs.declared.order.Mode.TheVariants as modes
 use Rattle.terms.specs.declared.state.Level.{Level}
 use Rattle.terms.specs.declared.state.Level.TheVariants as levels
-use Rattle.wire.specs.Spelling.{has_children}
-use Rattle.wire.specs.Messages.{BodyData as Body, MessageData as Message, ViewChangeData, NewViewData, CheckpointEntryData as CheckpointEntry, request as Request, pre_prepare as PrePrepare, prepare as Prepare, commit as Commit, checkpoint as Checkpoint, view_change as ViewChange, new_view as NewView, reply as Reply, fetch as Fetch, meta as Meta, page as Page}
-use Rattle.wire.specs.Words.{requests_of, frame_of, said, receivers_of}
+use Rattle.wire_format.specs.Spelling.{has_children}
+use Rattle.wire_format.specs.Messages.{BodyData as Body, MessageData as Message, ViewChangeData, NewViewData, CheckpointEntryData as CheckpointEntry, request as Request, pre_prepare as PrePrepare, prepare as Prepare, commit as Commit, checkpoint as Checkpoint, view_change as ViewChange, new_view as NewView, reply as Reply, fetch as Fetch, meta as Meta, page as Page}
+use Rattle.wire_format.specs.Words.{requests_of, frame_of, said, receivers_of}
 use Rattle.signing.specs.Heard.{heard}
 use Rattle.protocol.specs.System.Frames.{leaf_of}
 use Rattle.protocol.specs.System.Trace.{Entry, party_of, is_output, Once, Has, either, Hears}
@@ -25,7 +25,7 @@ use Rattle.reply_cache.specs.Replies.{Kept}
 use Rattle.protocol.specs.Replica.State.{State, Call, call_of, Ran, kept_of, last_time, tuples, root_of, page_text, all_pages}
 use Rattle.protocol.specs.Replica.Transfers.{fetch_sent, fetching, asked_last, in_place, GotBelow}
 use Rattle.protocol.specs.Replica.RightReplica.{Point, first_point, IsFree, reply_of, IsStep, IsInstalled, KeptState, Executes, IsRootWanted, digests_at, SentBefore, IsTick, TimesOut, JoinsOthers, IsNewViewChange}
-use Rattle.wire.specs.Lists.{Each}
+use Rattle.wire_format.specs.Lists.{Each}
 
 -- ---- words on outputs
 

@@ -14,8 +14,8 @@ use Rattle.terms.specs.declared.order.Mode.{Mode}
 use Rattle.terms.specs.declared.order.Mode.TheVariants as modes
 use Rattle.terms.specs.declared.state.Level.{Level}
 use Rattle.terms.specs.declared.state.Level.TheVariants as levels
-use Rattle.wire.specs.Messages.{BodyData as Body, FrameData as Frame, MessageData as Message, AuthenticatorData as Authenticator, macs, signature, ViewChangeData, NewViewData, CheckpointEntryData as CheckpointEntry, BatchEntryData as BatchEntry, request as Request, pre_prepare as PrePrepare, prepare as Prepare, commit as Commit, checkpoint as Checkpoint, view_change as ViewChange, new_view as NewView, reply as Reply, fetch as Fetch, meta as Meta, page as Page}
-use Rattle.wire.specs.Words.{carried, requests_of, frame_of, said, receivers_of}
+use Rattle.wire_format.specs.Messages.{BodyData as Body, FrameData as Frame, MessageData as Message, AuthenticatorData as Authenticator, macs, signature, ViewChangeData, NewViewData, CheckpointEntryData as CheckpointEntry, BatchEntryData as BatchEntry, request as Request, pre_prepare as PrePrepare, prepare as Prepare, commit as Commit, checkpoint as Checkpoint, view_change as ViewChange, new_view as NewView, reply as Reply, fetch as Fetch, meta as Meta, page as Page}
+use Rattle.wire_format.specs.Words.{carried, requests_of, frame_of, said, receivers_of}
 use Rattle.signing.specs.Heard.{heard}
 use Rattle.protocol.specs.System.Frames.{IsSealed, leaf_of}
 use Rattle.protocol.specs.System.Trace.{Entry, party_of, is_output, Once, Has, either, frames_in, Hears}
@@ -25,7 +25,7 @@ use Rattle.protocol.specs.Replica.Certificates.{view, target, is_active_in, take
 use Rattle.reply_cache.specs.Replies.{Kept}
 use Rattle.protocol.specs.Replica.Transfers.{fetching, asked_last, NoneAsked, IsNext, in_place}
 use Rattle.protocol.specs.Replica.State.{State, IsReplicatedState, Call, call_in, Ran, opening, execute, root_of, pages_of, page_text, kept_of, last_time, tuples, ran_in}
-use Rattle.wire.specs.Lists.{Each}
+use Rattle.wire_format.specs.Lists.{Each}
 
 -- ---- words on pasts
 

@@ -10,8 +10,8 @@ use Rattle.space.specs.Pages.{IsStateAt, header_text, page_text as tuple_page}
 use Rattle.partition_tree.specs.Digests.{root_of as root_of_pages}
 use Rattle.protocol.specs.System.Configuration.{Configuration, is_client}
 use Rattle.terms.specs.declared.order.Mode.TheVariants as modes
-use Rattle.wire.specs.Messages.{BodyData as Body, request as Request}
-use Rattle.wire.specs.Words.{requests_of, said}
+use Rattle.wire_format.specs.Messages.{BodyData as Body, request as Request}
+use Rattle.wire_format.specs.Words.{requests_of, said}
 use Rattle.protocol.specs.System.Frames.{same_mode}
 use Rattle.reply_cache.specs.Replies.{Kept, Replies, no_replies, last_of, seen_of, with_reply, AreReplies}
 use Rattle.reply_cache.specs.Pages.{reply_text}

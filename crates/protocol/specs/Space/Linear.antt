@@ -9,8 +9,8 @@ use Rattle.protocol.specs.Replica.Selection.{null_batch}
 use Rattle.protocol.specs.System.Configuration.{Configuration, replicas, is_correct_replica, is_correct_client, members}
 use Rattle.terms.specs.declared.order.Mode.{Mode}
 use Rattle.terms.specs.declared.order.Mode.TheVariants as modes
-use Rattle.wire.specs.Messages.{request as Request}
-use Rattle.wire.specs.Words.{requests_of}
+use Rattle.wire_format.specs.Messages.{request as Request}
+use Rattle.wire_format.specs.Words.{requests_of}
 use Rattle.signing.specs.Heard.{heard}
 use Rattle.protocol.specs.System.Frames.{same_mode}
 use Rattle.protocol.specs.System.Trace.{Entry, history_of, frames_in, Once, Always, Has}

@@ -3,8 +3,8 @@
 use Rattle.std.specs.Prelude.{◌≡◌, ℕ, Bool, true, false, List, Option, Some, None, option_and_then, slice_get, All}
 use Rattle.terms.specs.declared.order.Mode.{Mode}
 use Rattle.terms.specs.declared.order.Mode.TheVariants as modes
-use Rattle.wire.specs.Messages.{MessageData as Message, AuthenticatorData as Authenticator, macs, signature, FrameData as Frame}
-use Rattle.wire.specs.Words.{frame_of, said, receivers_of}
+use Rattle.wire_format.specs.Messages.{MessageData as Message, AuthenticatorData as Authenticator, macs, signature, FrameData as Frame}
+use Rattle.wire_format.specs.Words.{frame_of, said, receivers_of}
 use Rattle.authenticator.specs.Authentic.{mac_of}
 use Rattle.signing.specs.Heard.{has_signature}
 use Rattle.protocol.specs.System.Configuration.{Configuration}

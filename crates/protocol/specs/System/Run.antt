@@ -1,7 +1,7 @@
 -- Runs: traces in which each correct party follows the protocol, whatever faulty parties send and however frames come.
 use Rattle.std.specs.Prelude.{◌≡◌, ℕ, true, false, List, [], ◌∷◌}
 use Rattle.quorum.specs.Quorum.{member}
-use Rattle.wire.specs.Lists.{Each}
+use Rattle.wire_format.specs.Lists.{Each}
 use Rattle.protocol.specs.System.Configuration.{Configuration, is_correct, is_correct_replica, is_correct_client}
 use Rattle.protocol.specs.System.Trace.{Entry, party_of, is_output, history_of, Always}
 use Rattle.protocol.specs.Client.RightClient.{IsClient, IsPromptClient}

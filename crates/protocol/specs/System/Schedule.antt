@@ -6,12 +6,12 @@ use Rattle.std.specs.Option.{option_map_or}
 use Rattle.tuple_codec.specs.Operations.{Operation, Outcome, IsOperation}
 use Rattle.authenticator.specs.Keys.{signing_seed}
 use Rattle.authenticator.specs.Sealing.{entry_for}
-use Rattle.wire.specs.Spelling.{piece, authenticator_spelling}
+use Rattle.wire_format.specs.Spelling.{piece, authenticator_spelling}
 use Rattle.signing.specs.Signatures.{signature_of}
 use Rattle.quorum.specs.Votes.{or_else}
 use Rattle.protocol.specs.System.Configuration.{Configuration, replicas, is_replica, is_client, is_correct, is_correct_client}
-use Rattle.wire.specs.Messages.{AuthenticatorData as Authenticator, macs, signature}
-use Rattle.wire.specs.Words.{frame_of, receivers_of}
+use Rattle.wire_format.specs.Messages.{AuthenticatorData as Authenticator, macs, signature}
+use Rattle.wire_format.specs.Words.{frame_of, receivers_of}
 use Rattle.protocol.specs.System.Trace.{Entry, is_output, history_of}
 use Rattle.protocol.specs.System.Trace.Entry.{Invoke, Got, Tick, Sent, Accepted}
 use Rattle.protocol.specs.Client.RightClient.{open_call}

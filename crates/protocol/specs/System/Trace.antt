@@ -4,10 +4,10 @@ use Rattle.std.specs.Prelude.{◌≡◌, ℕ, ◌+◌, ◌⊎◌, Bool, true, fa
 use Rattle.std.specs.Option.{option_map_or}
 use Rattle.tuple_codec.specs.Operations.{Operation, Outcome}
 use Rattle.protocol.specs.System.Configuration.{Configuration, is_correct, members}
-use Rattle.wire.specs.Messages.{BodyData as Body}
-use Rattle.wire.specs.Words.{carried, said}
+use Rattle.wire_format.specs.Messages.{BodyData as Body}
+use Rattle.wire_format.specs.Words.{carried, said}
 use Rattle.signing.specs.Heard.{heard, signed_body}
-use Rattle.wire.specs.Lists.{Each}
+use Rattle.wire_format.specs.Lists.{Each}
 
 -- An input or output of a correct party. A field client has the client's number k, which is 256 + k as a party.
 pub data Entry : Type 0 where

@@ -1,4 +1,4 @@
-use Rattle.wire.specs.Spelling.{body_spelling}
+use Rattle.wire_format.specs.Spelling.{body_spelling}
 use Rattle.authenticator.proofs.Entries.{entries-have}
 use Rattle.authenticator.proofs.laws.sealed_frames_open.Goals as goal
 

@@ -1,5 +1,5 @@
 use Rattle.std.proofs.Common.{◌∙◌, sym, true, false, arith}
-use Rattle.wire.specs.Views.{mac_data}
+use Rattle.wire_format.specs.Views.{mac_data}
 use Rattle.authenticator.proofs.Entries.{has_mac-step, has_mac-end}
 use Rattle.authenticator.proofs.sealed.has_mac.Goals as goal
 

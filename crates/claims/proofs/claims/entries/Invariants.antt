@@ -1,5 +1,5 @@
 use Rattle.std.proofs.Common.{◌≡◌, map, take}
-use Rattle.wire.specs.Views.{batch_entry_data}
+use Rattle.wire_format.specs.Views.{batch_entry_data}
 use Rattle.claims.specs.ClaimsView.{claims_of}
 use Rattle.claims.proofs.claims.entries.Given as goal
 

@@ -1,6 +1,6 @@
 use Rattle.std.proofs.Common.{◌∙◌, sym}
 use Rattle.std.proofs.lemmas.Bool.{le-ltb}
-use Rattle.wire.specs.Views.{batch_entry_data}
+use Rattle.wire_format.specs.Views.{batch_entry_data}
 use Rattle.claims.proofs.Placing.{same_in, same_out}
 use Rattle.claims.proofs.claims.is_same_at.Goals as goal
 

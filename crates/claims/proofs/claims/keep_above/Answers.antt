@@ -1,7 +1,7 @@
 use Rattle.std.specs.Prelude.{nat_lt}
 use Rattle.std.proofs.Common.{rules, List, sym, ap, ◌∙◌, subst}
 use Rattle.std.proofs.lemmas.Fn.{filter_same}
-use Rattle.wire.specs.Lists.{Each}
+use Rattle.wire_format.specs.Lists.{Each}
 use Rattle.claims.specs.declared.claim.Claim.{Claim}
 use Rattle.claims.specs.ClaimsView.{claims_of, texts_in, IsAmong}
 use Rattle.claims.proofs.KeptClaims.{texts_left}

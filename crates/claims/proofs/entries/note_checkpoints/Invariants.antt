@@ -1,7 +1,7 @@
 use Rattle.std.proofs.Common.{map, take}
-use Rattle.wire.specs.Lists.{Each}
-use Rattle.wire.specs.Spelling.{IsCheckpointEntry}
-use Rattle.wire.specs.Views.{checkpoint_entry_data}
+use Rattle.wire_format.specs.Lists.{Each}
+use Rattle.wire_format.specs.Spelling.{IsCheckpointEntry}
+use Rattle.wire_format.specs.Views.{checkpoint_entry_data}
 use Rattle.claims.proofs.entries.note_checkpoints.Given as goal
 
 abbrev pub invariant-loop-entry : goal.invariant-loop-entry

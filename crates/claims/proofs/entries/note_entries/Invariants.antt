@@ -1,7 +1,7 @@
 use Rattle.std.proofs.Common.{map, take}
-use Rattle.wire.specs.Lists.{Each}
-use Rattle.wire.specs.Spelling.{IsBatchEntry}
-use Rattle.wire.specs.Views.{batch_entry_data}
+use Rattle.wire_format.specs.Lists.{Each}
+use Rattle.wire_format.specs.Spelling.{IsBatchEntry}
+use Rattle.wire_format.specs.Views.{batch_entry_data}
 use Rattle.claims.proofs.entries.note_entries.Given as goal
 
 abbrev pub invariant-loop-entry : goal.invariant-loop-entry

@@ -1,12 +1,12 @@
 use Rattle.std.specs.Prelude.{IsTrue}
 use Rattle.std.proofs.Common.{List, map, sym, subst, arith, rules}
 use Rattle.std.proofs.lemmas.List.{length-map}
-use Rattle.wire.specs.Lists.{Each, ascends}
-use Rattle.wire.specs.Messages.{BatchEntryData}
-use Rattle.wire.specs.Spelling.{IsBatchEntry, IsCheckpointEntry, batch_entry_before, named_before}
-use Rattle.wire.specs.Views.{batch_entry_data, checkpoint_entry_data}
-use Rattle.wire.specs.declared.messages.BatchEntry.{BatchEntry}
-use Rattle.wire.specs.declared.messages.CheckpointEntry.{CheckpointEntry}
+use Rattle.wire_format.specs.Lists.{Each, ascends}
+use Rattle.wire_format.specs.Messages.{BatchEntryData}
+use Rattle.wire_format.specs.Spelling.{IsBatchEntry, IsCheckpointEntry, batch_entry_before, named_before}
+use Rattle.wire_format.specs.Views.{batch_entry_data, checkpoint_entry_data}
+use Rattle.wire_format.specs.declared.messages.BatchEntry.{BatchEntry}
+use Rattle.wire_format.specs.declared.messages.CheckpointEntry.{CheckpointEntry}
 use Rattle.claims.proofs.making.make.Goals as goal
 
 pub returns-clause-said : goal.returns-clause-said

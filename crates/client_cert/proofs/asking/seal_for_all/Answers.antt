@@ -1,6 +1,6 @@
 use Rattle.std.proofs.Common.{Err, map, ap, ◌∙◌}
 use Rattle.terms.specs.Parties.{party_number}
-use Rattle.wire.specs.Views.{body_data}
+use Rattle.wire_format.specs.Views.{body_data}
 use Rattle.client_cert.proofs.Sealed.{never_too_long}
 use Rattle.client_cert.proofs.asking.seal_for_all.Goals as goal
 

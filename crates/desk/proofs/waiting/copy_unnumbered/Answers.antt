@@ -1,5 +1,5 @@
 use Rattle.std.proofs.Common.{ap, sym, ◌∙◌, arith}
-use Rattle.wire.specs.Views.{texts_of}
+use Rattle.wire_format.specs.Views.{texts_of}
 use Rattle.desk.proofs.WaitingKept.{passed_over, too_many, copied}
 use Rattle.desk.proofs.waiting.copy_unnumbered.Goals.{then-not-request+then-len-lt-MAX_REQUESTS+in_ok-add_copy, else-not-request, else-not-request-via-then-not-request+else-len-lt-MAX_REQUESTS, else-not-request-via-else-not-request}
 use Rattle.desk.proofs.waiting.copy_unnumbered.Goals as goal

@@ -1,5 +1,5 @@
 use Rattle.std.proofs.Common.{◌≡◌, take}
-use Rattle.wire.specs.Views.{texts_of}
+use Rattle.wire_format.specs.Views.{texts_of}
 use Rattle.desk.specs.Waiting.{all_unnumbered, texts}
 use Rattle.desk.proofs.waiting.copy_unnumbered.Given as goal
 

@@ -1,7 +1,7 @@
 use Rattle.std.proofs.Common.{ℕ, List, Bor, arith}
 use Rattle.std.proofs.lemmas.List.{drop_all}
 use Rattle.wire.specs.Headers.{IsFrame}
-use Rattle.wire.proofs.Appending.{each_at}
+use Rattle.wire_format.proofs.Appending.{each_at}
 use Rattle.execution.proofs.Leading.{goes_on, ends, changes_on}
 use Rattle.execution.proofs.running.run_frames.Goals as goal
 

@@ -1,5 +1,5 @@
 use Rattle.std.proofs.Common.{◌≡◌, ◌+◌, drop, map}
-use Rattle.wire.specs.Views.{checkpoint_entry_data}
+use Rattle.wire_format.specs.Views.{checkpoint_entry_data}
 use Rattle.ordering.specs.Places.{place_in}
 use Rattle.ordering.proofs.checkpoints.place_of.Given as goal
 

@@ -1,6 +1,6 @@
 use Rattle.std.proofs.Common.{◌≡◌, ◌≤◌, reverse, take}
 use Rattle.std.specs.List.Sorted.{IsNonDecreasingBy}
-use Rattle.wire.specs.Lists.{Each}
+use Rattle.wire_format.specs.Lists.{Each}
 use Rattle.points.specs.declared.levels.Rise.{Rise}
 use Rattle.points.specs.Leveling.{level, rises}
 use Rattle.points.proofs.Rising.{AreReached}

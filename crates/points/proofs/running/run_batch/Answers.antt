@@ -1,7 +1,7 @@
 use Rattle.std.proofs.Common.{ℕ, List, Bor, sym, ap, ◌∙◌, subst, arith}
 use Rattle.std.specs.Prelude.{OnOk}
 use Rattle.wire.specs.Headers.{IsFrame}
-use Rattle.wire.specs.Lists.{Each}
+use Rattle.wire_format.specs.Lists.{Each}
 use Rattle.points.specs.Running.{so_far, RunsAll}
 use Rattle.execution.proofs.Calling.{requests_are_frames}
 use Rattle.points.proofs.Going.{texts}

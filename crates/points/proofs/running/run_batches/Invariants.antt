@@ -1,5 +1,5 @@
 use Rattle.std.proofs.Common.{◌≤◌, reverse}
-use Rattle.wire.specs.Lists.{Each}
+use Rattle.wire_format.specs.Lists.{Each}
 use Rattle.points.specs.Batching.{numbered_of}
 use Rattle.points.specs.Numbering.{Numbered}
 use Rattle.points.specs.Running.{so_far}

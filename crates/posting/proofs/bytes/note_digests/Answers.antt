@@ -1,5 +1,5 @@
 use Rattle.std.proofs.Common.{[], arith}
-use Rattle.wire.specs.Spelling.{IsDigest}
+use Rattle.wire_format.specs.Spelling.{IsDigest}
 use Rattle.posting.proofs.Digesting.{each_of}
 use Rattle.posting.proofs.bytes.note_digests.Goals as goal
 

@@ -1,5 +1,5 @@
 use Rattle.std.proofs.Common.{ℕ, ◌<◌, [], get_or}
-use Rattle.wire.specs.Spelling.{IsDigest}
+use Rattle.wire_format.specs.Spelling.{IsDigest}
 use Rattle.posting.proofs.bytes.note_digests.Given as goal
 
 abbrev pub invariant-loop-digest : goal.invariant-loop-digest

@@ -1,6 +1,6 @@
 use Rattle.std.proofs.Common.{sym, ap, ◌∙◌, subst, length, arith}
-use Rattle.wire.specs.Lists.{Each}
-use Rattle.wire.specs.Spelling.{IsDigest}
+use Rattle.wire_format.specs.Lists.{Each}
+use Rattle.wire_format.specs.Spelling.{IsDigest}
 use Rattle.posting.proofs.messages.meta_message.Goals as goal
 
 pub returns-clause-may : goal.returns-clause-may

@@ -1,6 +1,6 @@
 use Rattle.std.proofs.Common.{map}
 use Rattle.terms.specs.Parties.{party_number}
-use Rattle.wire.specs.Views.{body_data}
+use Rattle.wire_format.specs.Views.{body_data}
 use Rattle.posting.proofs.Fitting.{never_too_long}
 use Rattle.posting.proofs.sealing.seal_body.Goals as goal
 

@@ -1,7 +1,7 @@
 use Rattle.std.proofs.Common.{ℕ, List, map, refl, subst, sym, ap, ◌∙◌}
 use Rattle.terms.specs.declared.parties.Party.{Party}
 use Rattle.terms.specs.Parties.{party_number}
-use Rattle.wire.specs.Views.{message_data}
+use Rattle.wire_format.specs.Views.{message_data}
 use Rattle.protocol.specs.System.Trace.Entry.{Sent}
 use Rattle.events.specs.Outputs.{receivers_in}
 use Rattle.events.proofs.Meant.{sealed_is_for}

@@ -1,7 +1,7 @@
 use Rattle.std.proofs.Common.{ℕ, List, map, subst}
 use Rattle.std.specs.Prelude.{IfOk}
 use Rattle.terms.specs.Parties.{party_number}
-use Rattle.wire.specs.Views.{message_data}
+use Rattle.wire_format.specs.Views.{message_data}
 use Rattle.posting.specs.Endpoint.{IsSealedPost}
 use Rattle.posting.proofs.Posting.{one_sealable}
 use Rattle.posting.proofs.sealing.seal_for_one.Goals as goal

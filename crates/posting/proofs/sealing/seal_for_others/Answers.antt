@@ -1,7 +1,7 @@
 use Rattle.std.proofs.Common.{◌≡◌, ◌∙◌, ◌+◌, ◌*◌, ℕ, List, map, ap, subst}
 use Rattle.std.specs.Prelude.{IfOk}
 use Rattle.terms.specs.Parties.{party_number}
-use Rattle.wire.specs.Views.{message_data}
+use Rattle.wire_format.specs.Views.{message_data}
 use Rattle.posting.specs.Endpoint.{IsSealedPost, other_replicas, others_below}
 use Rattle.posting.proofs.Posting.{others_sealable}
 use Rattle.posting.proofs.sealing.seal_for_others.Goals as goal

@@ -1,5 +1,5 @@
-use Rattle.wire.specs.Views.{body_data}
-use Rattle.wire.proofs.Counting.{body_fits}
+use Rattle.wire_format.specs.Views.{body_data}
+use Rattle.wire_format.proofs.Counting.{body_fits}
 use Rattle.posting.proofs.signing_frames.begin_signed.Goals as goal
 
 pub begin_frame-requires-clause-body : goal.begin_frame-requires-clause-body

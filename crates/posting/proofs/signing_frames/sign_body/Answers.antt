@@ -1,8 +1,8 @@
 use Rattle.std.proofs.Common.{◌≡◌, [], ◌++◌, ◌<◌, ◌^◌, List, ℕ, length, slice_get, subst, sym, ◌∙◌, ap, append-nil}
 use Rattle.tuple_tree.specs.Values.{AreBytes}
-use Rattle.wire.specs.Messages.{signature}
-use Rattle.wire.specs.Spelling.{authenticator_spelling, body_spelling, piece}
-use Rattle.wire.specs.Views.{body_data, message_data}
+use Rattle.wire_format.specs.Messages.{signature}
+use Rattle.wire_format.specs.Spelling.{authenticator_spelling, body_spelling, piece}
+use Rattle.wire_format.specs.Views.{body_data, message_data}
 use Rattle.authenticator.proofs.Frames.{piece-short}
 use Rattle.posting.proofs.Posting.{begins_with_leaf, spells_signed}
 use Rattle.posting.proofs.signing_frames.sign_body.Goals as goal

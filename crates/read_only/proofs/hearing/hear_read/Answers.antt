@@ -1,7 +1,7 @@
 use Rattle.std.proofs.Common.{◌==◌, ◌+◌, Some, slice_index, ap, ◌∙◌}
 use Rattle.std.proofs.lemmas.Bool.{and_parts}
 use Rattle.terms.specs.declared.order.Mode.{Mode}
-use Rattle.wire.specs.Messages.{request}
+use Rattle.wire_format.specs.Messages.{request}
 use Rattle.read_only.proofs.Marks.{marked_is_read}
 use Rattle.read_only.proofs.hearing.hear_read.Goals as goal
 

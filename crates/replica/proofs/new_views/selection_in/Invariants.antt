@@ -1,6 +1,6 @@
 use Rattle.std.proofs.Common.{◌≡◌, ◌++◌, map}
 use Rattle.std.specs.Vec.Iter.{into_iter_items}
-use Rattle.wire.specs.Views.{batch_text}
+use Rattle.wire_format.specs.Views.{batch_text}
 use Rattle.view_change.specs.Sets.{texts_of}
 use Rattle.replica.proofs.new_views.selection_in.Given as goal
 

@@ -1,6 +1,6 @@
 use Rattle.std.proofs.Common.{◌≡◌, ◌≤◌, length, map, take}
 use Rattle.terms.specs.Parties.{party_number}
-use Rattle.wire.specs.Views.{mac_data}
+use Rattle.wire_format.specs.Views.{mac_data}
 use Rattle.authenticator.specs.Sealing.{entry_for}
 use Rattle.schedule_world.proofs.making.macs_for.Given as goal
 

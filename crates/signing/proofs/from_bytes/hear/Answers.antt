@@ -1,7 +1,7 @@
 use Rattle.std.proofs.Common.{◌≡◌, ◌∙◌, Some, sym}
 use Rattle.std.proofs.lemmas.Result.{err_from_is_err_and}
 use Rattle.terms.specs.Parties.{party_number}
-use Rattle.wire.specs.Views.{body_data}
+use Rattle.wire_format.specs.Views.{body_data}
 use Rattle.signing.proofs.Whether.{nothing_heard, something_heard, heard_frame, heard_of_body}
 use Rattle.signing.proofs.from_bytes.hear.Goals as goal
 

@@ -1,6 +1,6 @@
 use Rattle.std.proofs.Common.{◌≡◌, ◌∷◌, map, take}
 use Rattle.terms.specs.Parties.{party_number}
-use Rattle.wire.specs.Lists.{Each}
+use Rattle.wire_format.specs.Lists.{Each}
 use Rattle.events.specs.Outputs.{entry_of}
 use Rattle.journal.specs.Histories.{IsOutputOf}
 use Rattle.space_node.proofs.entries.entries_of.Given as goal

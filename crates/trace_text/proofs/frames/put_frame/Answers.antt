@@ -1,6 +1,6 @@
 use Rattle.std.proofs.Common.{subst}
 use Rattle.tuple_text.specs.Written.{Appends}
-use Rattle.wire.specs.Views.{frame_data}
+use Rattle.wire_format.specs.Views.{frame_data}
 use Rattle.trace_text.proofs.Said.{frame_said, len_said}
 use Rattle.trace_text.proofs.frames.put_frame.Goals as goal
 

@@ -3,7 +3,7 @@ use Rattle.std.specs.Prelude.{codes}
 use Rattle.std.specs.Fmt.{decimal}
 use Rattle.tuple_text.specs.Written.{Appends}
 use Rattle.tuple_text.proofs.Writing.{second_part}
-use Rattle.wire.specs.Views.{batch_text}
+use Rattle.wire_format.specs.Views.{batch_text}
 use Rattle.trace_text.specs.Lists.{listed}
 use Rattle.trace_text.specs.Frames.{short, opened, sender_text, batch_in_brackets}
 use Rattle.trace_text.specs.Shown.{name_text}

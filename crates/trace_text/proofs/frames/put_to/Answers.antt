@@ -1,7 +1,7 @@
 use Rattle.std.proofs.Common.{ap, sym, ◌∙◌, subst}
 use Rattle.std.specs.Prelude.{codes}
 use Rattle.terms.specs.Parties.{party_number}
-use Rattle.wire.specs.Messages.{macs}
+use Rattle.wire_format.specs.Messages.{macs}
 use Rattle.wire.specs.Headers.{authenticator_bytes_data}
 use Rattle.trace_text.specs.Lists.{listed}
 use Rattle.trace_text.specs.Frames.{party_text}

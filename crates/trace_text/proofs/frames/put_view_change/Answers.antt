@@ -2,7 +2,7 @@ use Rattle.std.proofs.Common.{ap, sym, ◌∙◌, subst}
 use Rattle.std.specs.Prelude.{codes}
 use Rattle.tuple_text.specs.Written.{Appends}
 use Rattle.tuple_text.proofs.Writing.{second_part}
-use Rattle.wire.specs.Views.{checkpoint_entry_data, batch_entry_data}
+use Rattle.wire_format.specs.Views.{checkpoint_entry_data, batch_entry_data}
 use Rattle.trace_text.specs.Lists.{listed}
 use Rattle.trace_text.specs.Frames.{checkpoint_entry_text, batch_entry_text}
 use Rattle.trace_text.proofs.Chained.{then_more, then_same}

@@ -1,6 +1,6 @@
 use Rattle.std.proofs.Common.{take}
 use Rattle.std.specs.Prelude.{codes}
-use Rattle.wire.specs.Views.{batch_text}
+use Rattle.wire_format.specs.Views.{batch_text}
 use Rattle.trace_text.specs.Frames.{batch_in_brackets}
 use Rattle.trace_text.proofs.Joined.{SoFar}
 use Rattle.trace_text.proofs.lists.put_batches.Given as goal

@@ -1,7 +1,7 @@
 use Rattle.std.proofs.Common.{◌++◌, ap, ◌∙◌, subst}
 use Rattle.tuple_text.specs.Written.{Appends}
 use Rattle.tuple_text.proofs.Writing.{second_part}
-use Rattle.wire.specs.Views.{frame_data}
+use Rattle.wire_format.specs.Views.{frame_data}
 use Rattle.trace_text.proofs.Said.{call_said}
 use Rattle.trace_text.proofs.lists.put_call.Goals as goal
 

@@ -1,6 +1,6 @@
 use Rattle.std.proofs.Common.{sym}
 use Rattle.std.specs.Prelude.{codes}
-use Rattle.wire.specs.Views.{batch_entry_data}
+use Rattle.wire_format.specs.Views.{batch_entry_data}
 use Rattle.trace_text.specs.Frames.{batch_entry_text}
 use Rattle.std.proofs.lemmas.Bool.{eqb-false}
 use Rattle.std.proofs.lemmas.Result.{err_from_is_err_and}

@@ -1,6 +1,6 @@
 use Rattle.std.proofs.Common.{take}
 use Rattle.std.specs.Prelude.{codes}
-use Rattle.wire.specs.Views.{batch_entry_data}
+use Rattle.wire_format.specs.Views.{batch_entry_data}
 use Rattle.trace_text.specs.Frames.{batch_entry_text}
 use Rattle.trace_text.proofs.Joined.{SoFar}
 use Rattle.trace_text.proofs.lists.put_entries.Given as goal

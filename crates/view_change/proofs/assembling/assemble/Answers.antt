@@ -1,7 +1,7 @@
 use Rattle.std.proofs.Common.{◌≡◌, true, List, ℕ, sym, ap, ap₂, ◌∙◌, subst, rules}
 use Rattle.protocol.specs.Replica.Selection.{may_select}
-use Rattle.wire.specs.Messages.{NewViewData}
-use Rattle.wire.specs.Spelling.{IsNewView}
+use Rattle.wire_format.specs.Messages.{NewViewData}
+use Rattle.wire_format.specs.Spelling.{IsNewView}
 use Rattle.view_change.specs.ReceivedView.{configuration_of}
 use Rattle.view_change.specs.Sets.{texts_of}
 use Rattle.view_change.proofs.Assembled.{right, said}

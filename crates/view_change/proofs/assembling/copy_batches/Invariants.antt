@@ -1,5 +1,5 @@
 use Rattle.std.proofs.Common.{◌≡◌, map, take}
-use Rattle.wire.specs.Views.{batch_text}
+use Rattle.wire_format.specs.Views.{batch_text}
 use Rattle.view_change.specs.Sets.{texts_of}
 use Rattle.view_change.proofs.assembling.copy_batches.Given as goal
 

@@ -1,7 +1,7 @@
 use Rattle.std.proofs.Common.{ℕ, ◌+◌, ◌*◌, Some, ap, sym, ◌∙◌, arith}
 use Rattle.std.proofs.lemmas.Bool.{le-ltb, lt-ltb}
-use Rattle.wire.specs.Messages.{ViewChangeData}
-use Rattle.wire.specs.Views.{frame_data, view_change_data}
+use Rattle.wire_format.specs.Messages.{ViewChangeData}
+use Rattle.wire_format.specs.Views.{frame_data, view_change_data}
 use Rattle.view_change.specs.Sets.{keyed}
 use Rattle.view_change.proofs.Opening.{not_spelled, spelled_tells, no_sender, no_signature, no_change, is_change}
 use Rattle.view_change.proofs.carried.open_change.Goals as goal

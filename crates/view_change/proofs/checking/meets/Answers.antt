@@ -1,5 +1,5 @@
 use Rattle.std.proofs.Common.{map, sym}
-use Rattle.wire.specs.Views.{batch_text}
+use Rattle.wire_format.specs.Views.{batch_text}
 use Rattle.view_change.specs.Sets.{sized, pairs}
 use Rattle.view_change.proofs.Starting.{start_is_number}
 use Rattle.view_change.proofs.checking.meets.Goals as goal

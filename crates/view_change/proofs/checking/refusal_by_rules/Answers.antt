@@ -1,5 +1,5 @@
 use Rattle.std.proofs.Common.{refl, ap, ◌∙◌}
-use Rattle.wire.specs.Views.{new_view_data}
+use Rattle.wire_format.specs.Views.{new_view_data}
 use Rattle.view_change.specs.declared.changes.Sizes.{Sizes}
 use Rattle.view_change.specs.ReceivedView.{configuration_of}
 use Rattle.view_change.specs.Refusing.{refusal_over}

@@ -1,5 +1,5 @@
 use Rattle.std.proofs.Common.{◌≡◌, drop, map, max}
-use Rattle.wire.specs.Views.{batch_entry_data}
+use Rattle.wire_format.specs.Views.{batch_entry_data}
 use Rattle.view_change.specs.Selecting.{latest_in}
 use Rattle.view_change.specs.Sets.{sized, pairs}
 use Rattle.view_change.proofs.choosing.latest_in.Given as goal

@@ -1,6 +1,6 @@
 use Rattle.std.proofs.Common.{refl, arith}
 use Rattle.std.specs.Prelude.{option_map}
-use Rattle.wire.specs.Views.{texts_of}
+use Rattle.wire_format.specs.Views.{texts_of}
 use Rattle.view_change.specs.ReceivedData.{frames_for}
 use Rattle.view_change.specs.ReceivedView.{held_by, held_data}
 use Rattle.view_change.proofs.Holding.{frames_then, one_on, all_on}

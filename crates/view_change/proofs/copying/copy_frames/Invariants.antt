@@ -1,7 +1,7 @@
 use Rattle.std.proofs.Common.{◌≡◌, ◌++◌, drop}
 use Rattle.view_change.specs.ReceivedData.{frames_for}
 use Rattle.view_change.specs.ReceivedView.{held_by}
-use Rattle.wire.specs.Views.{texts_of}
+use Rattle.wire_format.specs.Views.{texts_of}
 use Rattle.view_change.proofs.copying.copy_frames.Given as goal
 
 abbrev pub invariant-loop-signed : goal.invariant-loop-signed

@@ -1,5 +1,5 @@
 use Rattle.std.proofs.Common.{◌∙◌, sym, arith}
-use Rattle.wire.proofs.Carriers.{request_is, request_has}
+use Rattle.wire_format.proofs.Carriers.{request_is, request_has}
 use Rattle.wire.proofs.batches.is_ordered_request.Goals as goal
 
 pub returns : goal.returns

@@ -1,5 +1,5 @@
 use Rattle.std.proofs.Common.{◌≡◌, ◌-◌, [], map, length}
-use Rattle.wire.specs.Reading.{passing, more_at, anyhow, piece_at, is_request}
+use Rattle.wire_format.specs.Reading.{passing, more_at, anyhow, piece_at, is_request}
 use Rattle.wire.proofs.batches.read_requests.Given as goal
 
 abbrev pub invariant-loop-i : goal.invariant-loop-i

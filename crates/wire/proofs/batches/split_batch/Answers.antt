@@ -1,5 +1,5 @@
 use Rattle.std.proofs.Common.{◌≡◌, ◌-◌, ◌∷◌, [], ap, refl, arith, ◌∙◌, length, length-append}
-use Rattle.wire.specs.Reading.{passing, piece_at, is_request, anyhow}
+use Rattle.wire_format.specs.Reading.{passing, piece_at, is_request, anyhow}
 use Rattle.wire.proofs.Requesting.{starts, some_bytes, no_piece, a_request}
 use Rattle.wire.proofs.Steps.{goes_on}
 use Rattle.wire.proofs.batches.split_batch.Goals as goal

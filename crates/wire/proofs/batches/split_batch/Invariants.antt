@@ -1,6 +1,6 @@
 use Rattle.std.proofs.Common.{◌≡◌, ◌-◌, ◌≤◌, [], map, length, Some}
-use Rattle.wire.specs.Reading.{passing, more_at, anyhow, piece_at, is_request}
-use Rattle.wire.specs.Words.{requests_of}
+use Rattle.wire_format.specs.Reading.{passing, more_at, anyhow, piece_at, is_request}
+use Rattle.wire_format.specs.Words.{requests_of}
 use Rattle.wire.proofs.batches.split_batch.Given as goal
 
 abbrev pub invariant-loop-i : goal.invariant-loop-i

@@ -1,6 +1,6 @@
 use Rattle.std.proofs.Common.{◌∙◌, ap, sym, arith}
 use Rattle.tuple_tree.specs.Reading.{rest_of}
-use Rattle.wire.specs.Reading.{batch_at}
+use Rattle.wire_format.specs.Reading.{batch_at}
 use Rattle.wire.proofs.Steps.{batches_from}
 use Rattle.wire.proofs.Carrying.{skip_goes_on}
 use Rattle.wire.proofs.InPlace.{skip_stops, skip_ended, batches_uncounted, batches_many}

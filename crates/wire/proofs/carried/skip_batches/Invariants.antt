@@ -1,6 +1,6 @@
 use Rattle.std.proofs.Common.{◌≡◌, ◌-◌, []}
 use Rattle.tuple_tree.specs.Reading.{rest_of}
-use Rattle.wire.specs.Reading.{more_at, anyhow, batch_at}
+use Rattle.wire_format.specs.Reading.{more_at, anyhow, batch_at}
 use Rattle.wire.proofs.carried.skip_batches.Given as goal
 
 abbrev pub invariant-loop-i : goal.invariant-loop-i

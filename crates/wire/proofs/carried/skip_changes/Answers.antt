@@ -1,9 +1,9 @@
 use Rattle.std.proofs.Common.{◌∙◌, ap, sym, arith}
 use Rattle.tuple_tree.specs.Reading.{Reader, rest_of}
 use Rattle.std.specs.Prelude.{ℕ, List}
-use Rattle.wire.specs.Lists.{listed}
-use Rattle.wire.specs.Spelling.{sender_before}
-use Rattle.wire.specs.Reading.{passing, piece_at, is_change}
+use Rattle.wire_format.specs.Lists.{listed}
+use Rattle.wire_format.specs.Spelling.{sender_before}
+use Rattle.wire_format.specs.Reading.{passing, piece_at, is_change}
 use Rattle.wire.proofs.Carrying.{changes_from, changes_uncounted}
 use Rattle.wire.proofs.Skipping.{skip_goes_on, skip_ends, skip_refuses, skip_done}
 use Rattle.wire.proofs.carried.skip_changes.Goals as goal

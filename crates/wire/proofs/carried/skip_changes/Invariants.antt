@@ -1,8 +1,8 @@
 use Rattle.std.proofs.Common.{◌≡◌, ◌-◌, []}
 use Rattle.tuple_tree.specs.Reading.{rest_of}
-use Rattle.wire.specs.Lists.{listed}
-use Rattle.wire.specs.Spelling.{sender_before}
-use Rattle.wire.specs.Reading.{passing, more_at, follows, piece_at, is_change}
+use Rattle.wire_format.specs.Lists.{listed}
+use Rattle.wire_format.specs.Spelling.{sender_before}
+use Rattle.wire_format.specs.Reading.{passing, more_at, follows, piece_at, is_change}
 use Rattle.wire.proofs.carried.skip_changes.Given as goal
 
 abbrev pub invariant-loop-i : goal.invariant-loop-i

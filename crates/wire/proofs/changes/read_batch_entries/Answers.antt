@@ -1,8 +1,8 @@
 use Rattle.std.proofs.Common.{◌-◌, length, ◌∙◌, ap, sym, arith}
 use Rattle.std.specs.List.{slice_get}
 use Rattle.wire.specs.Orders.{order_of}
-use Rattle.wire.specs.Views.{batch_entry_data}
-use Rattle.wire.specs.Reading.{follows, batch_entry_at}
+use Rattle.wire_format.specs.Views.{batch_entry_data}
+use Rattle.wire_format.specs.Reading.{follows, batch_entry_at}
 use Rattle.wire.proofs.Steps.{goes_on, none_comes, out_of_order, follows_listed, batch_entries_from}
 use Rattle.wire.proofs.Skipping.{batch_entries_short}
 use Rattle.wire.proofs.changes.read_batch_entries.Goals as goal

@@ -1,7 +1,7 @@
 use Rattle.std.proofs.Common.{◌≡◌, ◌-◌, [], map}
 use Rattle.wire.specs.Orders.{order_of}
-use Rattle.wire.specs.Views.{batch_entry_data}
-use Rattle.wire.specs.Reading.{more_at, follows, batch_entry_at}
+use Rattle.wire_format.specs.Views.{batch_entry_data}
+use Rattle.wire_format.specs.Reading.{more_at, follows, batch_entry_at}
 use Rattle.wire.proofs.changes.read_batch_entries.Given as goal
 
 abbrev pub invariant-loop-i : goal.invariant-loop-i

@@ -1,8 +1,8 @@
 use Rattle.std.proofs.Common.{◌-◌, length, ◌∙◌, ap, sym, arith}
 use Rattle.std.specs.List.{slice_get}
-use Rattle.wire.specs.Views.{checkpoint_entry_data}
-use Rattle.wire.specs.Spelling.{checkpoint_entry_before}
-use Rattle.wire.specs.Reading.{follows, checkpoint_entry_at}
+use Rattle.wire_format.specs.Views.{checkpoint_entry_data}
+use Rattle.wire_format.specs.Spelling.{checkpoint_entry_before}
+use Rattle.wire_format.specs.Reading.{follows, checkpoint_entry_at}
 use Rattle.wire.proofs.Steps.{goes_on, none_comes, out_of_order, follows_listed, checkpoint_entries_from}
 use Rattle.wire.proofs.changes.read_checkpoint_entries.Goals as goal
 

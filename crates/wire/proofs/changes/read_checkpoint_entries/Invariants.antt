@@ -1,7 +1,7 @@
 use Rattle.std.proofs.Common.{◌≡◌, ◌-◌, [], map}
-use Rattle.wire.specs.Views.{checkpoint_entry_data}
-use Rattle.wire.specs.Spelling.{checkpoint_entry_before}
-use Rattle.wire.specs.Reading.{more_at, follows, checkpoint_entry_at}
+use Rattle.wire_format.specs.Views.{checkpoint_entry_data}
+use Rattle.wire_format.specs.Spelling.{checkpoint_entry_before}
+use Rattle.wire_format.specs.Reading.{more_at, follows, checkpoint_entry_at}
 use Rattle.wire.proofs.changes.read_checkpoint_entries.Given as goal
 
 abbrev pub invariant-loop-i : goal.invariant-loop-i

@@ -1,9 +1,9 @@
 use Rattle.std.proofs.Common.{◌∙◌, ap, sym, arith}
 use Rattle.tuple_tree.specs.Reading.{rest_of}
-use Rattle.wire.specs.Lists.{listed}
+use Rattle.wire_format.specs.Lists.{listed}
 use Rattle.wire.specs.Orders.{order_of}
-use Rattle.wire.specs.Views.{batch_entry_data}
-use Rattle.wire.specs.Reading.{batch_entry_at}
+use Rattle.wire_format.specs.Views.{batch_entry_data}
+use Rattle.wire_format.specs.Reading.{batch_entry_at}
 use Rattle.wire.proofs.Steps.{batch_entries_from}
 use Rattle.wire.proofs.Skipping.{skip_goes_on, skip_ends, skip_refuses, skip_done, batch_entries_uncounted}
 use Rattle.wire.proofs.changes.skip_batch_entries.Goals as goal

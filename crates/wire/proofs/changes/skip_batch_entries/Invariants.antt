@@ -1,9 +1,9 @@
 use Rattle.std.proofs.Common.{◌≡◌, ◌-◌, []}
 use Rattle.tuple_tree.specs.Reading.{rest_of}
-use Rattle.wire.specs.Lists.{listed}
+use Rattle.wire_format.specs.Lists.{listed}
 use Rattle.wire.specs.Orders.{order_of}
-use Rattle.wire.specs.Views.{batch_entry_data}
-use Rattle.wire.specs.Reading.{more_at, follows, batch_entry_at}
+use Rattle.wire_format.specs.Views.{batch_entry_data}
+use Rattle.wire_format.specs.Reading.{more_at, follows, batch_entry_at}
 use Rattle.wire.proofs.changes.skip_batch_entries.Given as goal
 
 abbrev pub invariant-loop-i : goal.invariant-loop-i

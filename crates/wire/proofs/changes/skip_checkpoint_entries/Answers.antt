@@ -1,9 +1,9 @@
 use Rattle.std.proofs.Common.{◌∙◌, ap, sym, arith}
 use Rattle.tuple_tree.specs.Reading.{rest_of}
-use Rattle.wire.specs.Lists.{listed}
-use Rattle.wire.specs.Spelling.{checkpoint_entry_before}
-use Rattle.wire.specs.Views.{checkpoint_entry_data}
-use Rattle.wire.specs.Reading.{checkpoint_entry_at}
+use Rattle.wire_format.specs.Lists.{listed}
+use Rattle.wire_format.specs.Spelling.{checkpoint_entry_before}
+use Rattle.wire_format.specs.Views.{checkpoint_entry_data}
+use Rattle.wire_format.specs.Reading.{checkpoint_entry_at}
 use Rattle.wire.proofs.Steps.{checkpoint_entries_from}
 use Rattle.wire.proofs.Skipping.{skip_goes_on, skip_ends, skip_refuses, skip_done, checkpoint_entries_uncounted, checkpoint_entries_many}
 use Rattle.wire.proofs.changes.skip_checkpoint_entries.Goals as goal

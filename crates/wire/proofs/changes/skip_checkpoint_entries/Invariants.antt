@@ -1,9 +1,9 @@
 use Rattle.std.proofs.Common.{◌≡◌, ◌-◌, []}
 use Rattle.tuple_tree.specs.Reading.{rest_of}
-use Rattle.wire.specs.Lists.{listed}
-use Rattle.wire.specs.Views.{checkpoint_entry_data}
-use Rattle.wire.specs.Spelling.{checkpoint_entry_before}
-use Rattle.wire.specs.Reading.{more_at, follows, checkpoint_entry_at}
+use Rattle.wire_format.specs.Lists.{listed}
+use Rattle.wire_format.specs.Views.{checkpoint_entry_data}
+use Rattle.wire_format.specs.Spelling.{checkpoint_entry_before}
+use Rattle.wire_format.specs.Reading.{more_at, follows, checkpoint_entry_at}
 use Rattle.wire.proofs.changes.skip_checkpoint_entries.Given as goal
 
 abbrev pub invariant-loop-i : goal.invariant-loop-i

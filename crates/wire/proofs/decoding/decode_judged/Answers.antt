@@ -1,8 +1,8 @@
 use Rattle.std.proofs.Common.{subst, arith}
 use Rattle.tuple_codec.specs.Gives.{Fails}
-use Rattle.wire.specs.Reading.{frame_read}
-use Rattle.wire.specs.Views.{frame_data}
-use Rattle.wire.proofs.Carriers.{frame_of_found}
+use Rattle.wire_format.specs.Reading.{frame_read}
+use Rattle.wire_format.specs.Views.{frame_data}
+use Rattle.wire_format.proofs.Carriers.{frame_of_found}
 use Rattle.wire.proofs.Whole.{reads}
 use Rattle.wire.proofs.decoding.decode_judged.Goals as goal
 

@@ -1,7 +1,7 @@
 use Rattle.std.proofs.Common.{subst}
 use Rattle.tuple_codec.specs.Gives.{Fails}
-use Rattle.wire.specs.Reading.{body_of}
-use Rattle.wire.specs.Views.{body_data}
+use Rattle.wire_format.specs.Reading.{body_of}
+use Rattle.wire_format.specs.Views.{body_data}
 use Rattle.wire.proofs.Whole.{body_reads, has_body}
 use Rattle.wire.proofs.decoding.decode_judged_body.Goals as goal
 

@@ -1,5 +1,5 @@
 use Rattle.std.proofs.Common.{◌∙◌, ap, sym, arith}
-use Rattle.wire.specs.Reading.{authenticator_of}
+use Rattle.wire_format.specs.Reading.{authenticator_of}
 use Rattle.wire.proofs.InPlace.{no_text, no_type, no_sender, no_message, no_authenticator, header_there, from_sender}
 use Rattle.wire.proofs.judging.header.Goals as goal
 

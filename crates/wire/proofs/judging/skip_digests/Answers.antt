@@ -1,6 +1,6 @@
 use Rattle.std.proofs.Common.{◌∙◌, ap, sym, arith}
 use Rattle.tuple_tree.specs.Reading.{rest_of}
-use Rattle.wire.specs.Reading.{digest_at}
+use Rattle.wire_format.specs.Reading.{digest_at}
 use Rattle.wire.proofs.Carrying.{skip_goes_on}
 use Rattle.wire.proofs.InPlace.{skip_stops, skip_ended, digests_are}
 use Rattle.wire.proofs.judging.skip_digests.Goals as goal

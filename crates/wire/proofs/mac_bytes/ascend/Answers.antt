@@ -1,6 +1,6 @@
 use Rattle.std.proofs.Common.{◌≡◌, ◌+◌, ◌-◌, ◌∙◌, take, drop, length, length-drop, ap, arith}
-use Rattle.wire.specs.Lists.{ascends}
-use Rattle.wire.specs.Spelling.{mac_before}
+use Rattle.wire_format.specs.Lists.{ascends}
+use Rattle.wire_format.specs.Spelling.{mac_before}
 use Rattle.wire.specs.Macs.{macs_in}
 use Rattle.byteorder.specs.Endian.{big_number}
 use Rattle.wire.proofs.Steps.{rest_whole}

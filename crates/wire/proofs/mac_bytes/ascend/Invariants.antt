@@ -1,7 +1,7 @@
 use Rattle.std.proofs.Common.{◌≡◌, ◌+◌, ◌*◌, ◌-◌, ◌≤◌, length}
-use Rattle.wire.specs.Lists.{ascends}
+use Rattle.wire_format.specs.Lists.{ascends}
 use Rattle.wire.specs.Macs.{macs_in}
-use Rattle.wire.specs.Spelling.{mac_before}
+use Rattle.wire_format.specs.Spelling.{mac_before}
 use Rattle.wire.proofs.mac_bytes.ascend.Given as goal
 
 abbrev pub invariant-loop-i : goal.invariant-loop-i

@@ -1,5 +1,5 @@
 use Rattle.std.proofs.Common.{◌∙◌, sym, arith}
-use Rattle.wire.specs.Lists.{listed}
+use Rattle.wire_format.specs.Lists.{listed}
 use Rattle.wire.proofs.InPlace.{over_here, no_change, disorder, over_goes_on, over_done}
 use Rattle.wire.proofs.oversize.is_one_over.Goals as goal
 

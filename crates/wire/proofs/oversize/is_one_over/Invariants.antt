@@ -1,6 +1,6 @@
 use Rattle.std.proofs.Common.{◌≡◌, ◌-◌, []}
-use Rattle.wire.specs.Lists.{listed}
-use Rattle.wire.specs.Reading.{over_in}
+use Rattle.wire_format.specs.Lists.{listed}
+use Rattle.wire_format.specs.Reading.{over_in}
 use Rattle.wire.proofs.oversize.is_one_over.Given as goal
 
 abbrev pub invariant-loop-i : goal.invariant-loop-i

@@ -1,5 +1,5 @@
-use Rattle.wire.specs.Views.{message_data, authenticator_data}
-use Rattle.wire.proofs.Counting.{counts_fit, authenticator_fits}
+use Rattle.wire_format.specs.Views.{message_data, authenticator_data}
+use Rattle.wire_format.proofs.Counting.{counts_fit, authenticator_fits}
 use Rattle.wire_tests.proofs.decoding.comes_back.Goals as goal
 
 pub is_written-is_back-requires-clause-body : goal.is_written-is_back-requires-clause-body

@@ -1,9 +1,9 @@
 use Rattle.std.proofs.Common.{◌≡◌, ◌<◌, ◌^◌, ◌∙◌, map, subst, sym, arith}
 use Rattle.std.proofs.lemmas.List.{map-append}
 use Rattle.authenticator.specs.Keys.{mac_between}
-use Rattle.wire.specs.Spelling.{IsMac, IsDigest}
+use Rattle.wire_format.specs.Spelling.{IsMac, IsDigest}
 use Rattle.terms.specs.Parties.{party_number}
-use Rattle.wire.specs.Views.{mac_data}
+use Rattle.wire_format.specs.Views.{mac_data}
 use Rattle.authenticator.proofs.Digests.{hmac_of-digest, each_push}
 use Rattle.authenticator.proofs.Entries.{entries-push}
 use Rattle.authenticator.proofs.ring.Ring.entries.Goals as goal

@@ -1,8 +1,8 @@
 use Rattle.std.proofs.Common.{◌≡◌, map, take}
-use Rattle.wire.specs.Lists.{Each}
-use Rattle.wire.specs.Spelling.{IsMac}
+use Rattle.wire_format.specs.Lists.{Each}
+use Rattle.wire_format.specs.Spelling.{IsMac}
 use Rattle.terms.specs.Parties.{party_number}
-use Rattle.wire.specs.Views.{mac_data}
+use Rattle.wire_format.specs.Views.{mac_data}
 use Rattle.authenticator.specs.Sealing.{entry_for}
 use Rattle.authenticator.proofs.ring.Ring.entries.Given as goal
 

@@ -1,6 +1,6 @@
 use Rattle.std.proofs.lemmas.Result.{err_from_is_err_and}
 use Rattle.terms.specs.Parties.{party_number}
-use Rattle.wire.specs.Views.{frame_data}
+use Rattle.wire_format.specs.Views.{frame_data}
 use Rattle.wire.specs.Headers.{header_data}
 use Rattle.wire.proofs.Whole.{one_frame}
 use Rattle.authenticator.proofs.Refusing.{header_refused, header_opened, header_not_refused}

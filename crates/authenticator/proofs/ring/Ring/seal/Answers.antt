@@ -1,9 +1,9 @@
 use Rattle.std.proofs.Common.{◌≡◌, ◌<◌, ◌+◌, ◌^◌, ◌*◌, ◌∙◌, [], ◌++◌, map, length, ap, sym, refl}
 use Rattle.std.proofs.lemmas.List.{append-nil, length-map}
-use Rattle.wire.specs.Spelling.{body_spelling, piece, authenticator_spelling}
-use Rattle.wire.specs.Messages.{macs}
+use Rattle.wire_format.specs.Spelling.{body_spelling, piece, authenticator_spelling}
+use Rattle.wire_format.specs.Messages.{macs}
 use Rattle.terms.specs.Parties.{party_number}
-use Rattle.wire.specs.Views.{body_data, mac_data, message_data}
+use Rattle.wire_format.specs.Views.{body_data, mac_data, message_data}
 use Rattle.authenticator.specs.Sealing.{entry_for}
 use Rattle.authenticator.proofs.Frames.{piece-short}
 use Rattle.authenticator.proofs.Sealing.{counts_fit, sealed-over, sealed-short, sealed-spells, sealed-too_long}

@@ -1,5 +1,5 @@
 use Rattle.std.proofs.Common.{sym, subst}
-use Rattle.wire.specs.Spelling.{batch_entry_before, named_before}
+use Rattle.wire_format.specs.Spelling.{batch_entry_before, named_before}
 use Rattle.claims.specs.ClaimsView.{claims_of}
 use Rattle.claims.specs.Recording.{Ascends}
 use Rattle.claims.proofs.KeptClaims.{logged_cut, prepared_cut}

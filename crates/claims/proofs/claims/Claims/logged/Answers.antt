@@ -1,7 +1,7 @@
 use Rattle.std.specs.Prelude.{IsTrue}
 use Rattle.std.proofs.Common.{subst}
-use Rattle.wire.specs.Lists.{ascends}
-use Rattle.wire.specs.Spelling.{named_before}
+use Rattle.wire_format.specs.Lists.{ascends}
+use Rattle.wire_format.specs.Spelling.{named_before}
 use Rattle.claims.specs.ClaimsView.{ClaimsData, claims_of}
 use Rattle.claims.proofs.KeptClaims.{logged_order}
 use Rattle.claims.proofs.claims.Claims.logged.Goals as goal

@@ -1,7 +1,7 @@
 use Rattle.std.specs.Prelude.{IsTrue}
 use Rattle.std.proofs.Common.{subst}
-use Rattle.wire.specs.Lists.{ascends}
-use Rattle.wire.specs.Spelling.{batch_entry_before}
+use Rattle.wire_format.specs.Lists.{ascends}
+use Rattle.wire_format.specs.Spelling.{batch_entry_before}
 use Rattle.claims.specs.ClaimsView.{ClaimsData, claims_of}
 use Rattle.claims.proofs.KeptClaims.{prepared_order}
 use Rattle.claims.proofs.claims.Claims.prepared.Goals as goal

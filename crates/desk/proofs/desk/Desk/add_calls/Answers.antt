@@ -1,7 +1,7 @@
 use Rattle.std.proofs.Common.{◌≡◌, ℕ, ◌+◌, List, Bor, option_map, get_or, refl, sym, ap, ◌∙◌, subst, arith}
 use Rattle.wire.specs.Headers.{IsFrame}
-use Rattle.wire.specs.Lists.{Each}
-use Rattle.wire.proofs.Appending.{each_at}
+use Rattle.wire_format.specs.Lists.{Each}
+use Rattle.wire_format.proofs.Appending.{each_at}
 use Rattle.execution.specs.Calls.{call_data}
 use Rattle.execution.specs.Executed.{ExecutedData}
 use Rattle.execution.proofs.Calling.{requests_are_frames}

@@ -1,8 +1,8 @@
 use Rattle.std.proofs.Common.{ℕ, ◌<◌, inl, inr, List, sym, ap, ◌∙◌, subst, arith}
 use Rattle.std.proofs.lemmas.Bool.{true≢false}
 use Rattle.std.proofs.lemmas.Slice.Eq.{bytes_eq-Decides}
-use Rattle.wire.specs.Sealing.{IsFrontPiece}
-use Rattle.wire.specs.Spelling.{is_ordered_request}
+use Rattle.wire_format.specs.Sealing.{IsFrontPiece}
+use Rattle.wire_format.specs.Spelling.{is_ordered_request}
 use Rattle.protocol.specs.Replica.State.{last_time}
 use Rattle.execution.specs.Executed.{ExecutedData}
 use Rattle.desk.specs.State.{DeskData}

@@ -1,5 +1,5 @@
 use Rattle.std.proofs.Common.{rules, Err, ap, ◌∙◌}
-use Rattle.wire.specs.Views.{message_data}
+use Rattle.wire_format.specs.Views.{message_data}
 use Rattle.posting.specs.Endpoint.{FitsFrame}
 use Rattle.desk.proofs.desk.Desk.give_part.Goals as goal
 

@@ -1,6 +1,6 @@
 use Rattle.std.proofs.Common.{ℕ, List, sym, ap, ◌∙◌, subst}
 use Rattle.std.specs.Arc.{arc_value}
-use Rattle.wire.specs.Words.{requests_of}
+use Rattle.wire_format.specs.Words.{requests_of}
 use Rattle.desk.specs.Begun.{AddsCalls}
 use Rattle.desk.specs.State.{DeskData}
 use Rattle.desk.specs.DeskView.{desk_data}

@@ -2,8 +2,8 @@ use Rattle.std.proofs.Common.{◌≡◌, ◌≢◌, IsTrue, List, ℕ, Result, O
 use Rattle.std.specs.Prelude.{is_ok}
 use Rattle.terms.specs.declared.state.Level.{Level}
 use Rattle.terms.specs.declared.state.Level.TheVariants as levels
-use Rattle.wire.specs.Spelling.{has_children}
-use Rattle.wire.specs.declared.messages.Meta.{Meta}
+use Rattle.wire_format.specs.Spelling.{has_children}
+use Rattle.wire_format.specs.declared.messages.Meta.{Meta}
 use Rattle.partition_tree.specs.Digests.{digest_of_children}
 use Rattle.state_transfer.specs.declared.part_fault.PartFault.{PartFault}
 use Rattle.state_transfer.specs.declared.part_fault.PartFault.TheVariants as faults

@@ -1,7 +1,7 @@
 use Rattle.std.proofs.Common.{List, map, drop, ap, ◌∙◌}
 use mathlib.Core.List.{reverse_aux}
-use Rattle.wire.specs.declared.messages.CheckpointEntry.{CheckpointEntry}
-use Rattle.wire.specs.Views.{checkpoint_entry_data}
+use Rattle.wire_format.specs.declared.messages.CheckpointEntry.{CheckpointEntry}
+use Rattle.wire_format.specs.Views.{checkpoint_entry_data}
 use Rattle.desk.proofs.Listing.{listed, none_listed}
 use Rattle.std.proofs.Common.{IsTrue, subst}
 use Rattle.replica_histories.specs.Desk.{Snapshot}

@@ -1,6 +1,6 @@
 use Rattle.std.proofs.Common.{◌≡◌, drop, map}
 use mathlib.Core.List.{reverse_aux}
-use Rattle.wire.specs.Views.{checkpoint_entries_data}
+use Rattle.wire_format.specs.Views.{checkpoint_entries_data}
 use Rattle.replica_histories.specs.Views.{entries_of}
 use Rattle.desk.specs.SnapshotsView.{kept_data}
 use Rattle.desk.proofs.Listing.{listed}

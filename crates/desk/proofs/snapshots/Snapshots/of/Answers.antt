@@ -1,6 +1,6 @@
 use Rattle.std.proofs.Common.{◌≡◌, ◌≢◌, rules, ℕ, List, map, subst, arith}
 use Rattle.std.proofs.lemmas.List.{take_all}
-use Rattle.wire.specs.Lists.{Each}
+use Rattle.wire_format.specs.Lists.{Each}
 use Rattle.protocol.specs.System.Trace.{Has}
 use Rattle.replica_histories.specs.Desk.{Snapshot}
 use Rattle.desk.specs.declared.snapshots.KeptState.{KeptState}

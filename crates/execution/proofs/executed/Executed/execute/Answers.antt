@@ -1,6 +1,6 @@
 use Rattle.std.proofs.Common.{◌≡◌, ℕ, suc, ◌+◌, List, Bor, map, refl, sym, ap, ◌∙◌, subst, arith}
 use Rattle.wire.specs.Headers.{IsFrame}
-use Rattle.wire.specs.Lists.{Each}
+use Rattle.wire_format.specs.Lists.{Each}
 use Rattle.execution.specs.Executed.{ExecutedData, Executes, told}
 use Rattle.execution.specs.Running.{so_far, state_with}
 use Rattle.execution.proofs.Calling.{requests_are_frames}

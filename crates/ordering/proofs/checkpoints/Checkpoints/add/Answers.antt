@@ -1,6 +1,6 @@
 use Rattle.std.proofs.Common.{rules, ◌≡◌, true, false, map}
 use Rattle.std.specs.List.{insert}
-use Rattle.wire.specs.Views.{checkpoint_entry_data}
+use Rattle.wire_format.specs.Views.{checkpoint_entry_data}
 use Rattle.ordering.specs.Places.{place_in, stands_at}
 use Rattle.ordering.proofs.Placing.{put, stays}
 use Rattle.ordering.proofs.checkpoints.Checkpoints.add.Goals as goal

@@ -1,5 +1,5 @@
 use Rattle.std.proofs.Common.{◌∙◌}
-use Rattle.wire.specs.Views.{checkpoint_entry_data}
+use Rattle.wire_format.specs.Views.{checkpoint_entry_data}
 use Rattle.ordering.proofs.Placing.{says_entry}
 use Rattle.ordering.proofs.checkpoints.Checkpoints.has.Goals as goal
 

@@ -1,6 +1,6 @@
 use Rattle.std.proofs.Common.{◌≡◌, ◌≤◌}
 use Rattle.quorum.specs.Quorum.{count_below}
-use Rattle.wire.specs.Views.{checkpoint_entry_data}
+use Rattle.wire_format.specs.Views.{checkpoint_entry_data}
 use Rattle.ordering.specs.Checkpoints.{says_checkpoint}
 use Rattle.ordering.specs.Log.{checkpoints_of}
 use Rattle.ordering.proofs.log.Log.count_checkpoints.Given as goal

@@ -1,6 +1,6 @@
 use Rattle.std.proofs.Common.{◌≡◌, ◌∙◌, ap, sym, arith, subst, ℕ, List}
-use Rattle.wire.specs.Spelling.{IsBatch}
-use Rattle.wire.specs.Words.{requests_of}
+use Rattle.wire_format.specs.Spelling.{IsBatch}
+use Rattle.wire_format.specs.Words.{requests_of}
 use Rattle.posting.specs.Endpoint.{are_heard}
 use Rattle.posting.specs.Frames.{texts}
 use Rattle.posting.proofs.endpoint.Endpoint.are_genuine.Goals as goal

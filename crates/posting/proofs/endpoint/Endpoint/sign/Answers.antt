@@ -1,4 +1,4 @@
-use Rattle.wire.specs.Views.{message_data}
+use Rattle.wire_format.specs.Views.{message_data}
 use Rattle.posting.specs.Endpoint.{says}
 use Rattle.posting.proofs.Posting.{may_say, signs_own, signs_by}
 use Rattle.posting.proofs.endpoint.Endpoint.sign.Goals as goal

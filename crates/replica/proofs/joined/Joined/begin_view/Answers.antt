@@ -7,8 +7,8 @@ use Rattle.replica.specs.EnteringViews.{IsSelection, new_view_of}
 use Rattle.replica.proofs.ChangingViews.{of_some}
 use Rattle.replica.proofs.Choosing.{unselected, unsigned}
 use Rattle.replica.proofs.OwnViews.{begins_so, signs_in, selects_few, starts_small}
-use Rattle.wire.specs.Lists.{Each}
-use Rattle.wire.specs.Spelling.{IsBatch}
+use Rattle.wire_format.specs.Lists.{Each}
+use Rattle.wire_format.specs.Spelling.{IsBatch}
 use Rattle.replica.proofs.joined.Joined.begin_view.Goals as goal
 
 pub enter-requires-clause-start : goal.enter-requires-clause-start

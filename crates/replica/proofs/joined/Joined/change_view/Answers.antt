@@ -1,6 +1,6 @@
 use Rattle.std.proofs.Common.{IsTrue, List, length, ◌≤◌, sym, subst}
-use Rattle.wire.specs.Messages.{CheckpointEntryData as CheckpointEntry}
-use Rattle.wire.specs.Views.{checkpoint_entries_data}
+use Rattle.wire_format.specs.Messages.{CheckpointEntryData as CheckpointEntry}
+use Rattle.wire_format.specs.Views.{checkpoint_entries_data}
 use Rattle.replica.specs.State.{JoinedData}
 use Rattle.replica.specs.JoinedView.{joined_data}
 use Rattle.replica.specs.Changing.{IsNextView, MaySignChange, SignsChange}

@@ -1,6 +1,6 @@
 use Rattle.std.proofs.Common.{true, Option, option_map, subst}
-use Rattle.wire.specs.declared.messages.CheckpointEntry.{CheckpointEntry}
-use Rattle.wire.specs.Views.{checkpoint_entry_data}
+use Rattle.wire_format.specs.declared.messages.CheckpointEntry.{CheckpointEntry}
+use Rattle.wire_format.specs.Views.{checkpoint_entry_data}
 use Rattle.replica.specs.State.{JoinedData}
 use Rattle.replica.specs.Fetching.{InstallsFetched}
 use Rattle.desk.specs.Fetching.{Installs}

@@ -1,6 +1,6 @@
 use Rattle.std.proofs.Common.{List, [], true, false, subst}
-use Rattle.wire.specs.Messages.{CheckpointEntryData as CheckpointEntry}
-use Rattle.wire.specs.Views.{checkpoint_entry_data}
+use Rattle.wire_format.specs.Messages.{CheckpointEntryData as CheckpointEntry}
+use Rattle.wire_format.specs.Views.{checkpoint_entry_data}
 use Rattle.events.specs.declared.output.Output.{Output}
 use Rattle.replica.specs.JoinedView.{joined_data}
 use Rattle.replica.specs.Checkpoints.{StartsTransferIfBehind, Settles}

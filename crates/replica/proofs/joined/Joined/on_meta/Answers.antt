@@ -1,5 +1,5 @@
 use Rattle.std.proofs.Common.{Bool, false, List, subst}
-use Rattle.wire.specs.Messages.{meta}
+use Rattle.wire_format.specs.Messages.{meta}
 use Rattle.events.specs.declared.output.Output.{Output}
 use Rattle.replica.specs.declared.taking.Touched.TheVariants as touched
 use Rattle.replica.specs.State.{JoinedData}

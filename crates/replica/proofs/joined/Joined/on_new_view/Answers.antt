@@ -1,15 +1,15 @@
 use Rattle.std.proofs.Common.{◌<◌, ◌^◌, ℕ, [], length, None, sym, ap, subst, arith}
 use Rattle.std.specs.Arc.{arc_value}
 use Rattle.std.proofs.lemmas.List.{length-map}
-use Rattle.wire.specs.Views.{new_view_data}
+use Rattle.wire_format.specs.Views.{new_view_data}
 use Rattle.replica_histories.proofs.Words.{apart}
 use Rattle.replica.specs.EnteringViews.{Enters}
 use Rattle.replica.specs.JoinedView.{joined_data}
 use Rattle.replica.specs.State.{JoinedData}
 use Rattle.replica.proofs.NewViewsCome.{enters_with, new_view_dropped, new_view_entered, right_views_are_small}
 use Rattle.replica.proofs.ViewsEntered.{start_in}
-use Rattle.wire.specs.Lists.{Each}
-use Rattle.wire.specs.Spelling.{IsBatch}
+use Rattle.wire_format.specs.Lists.{Each}
+use Rattle.wire_format.specs.Spelling.{IsBatch}
 use Rattle.replica.proofs.joined.Joined.on_new_view.Goals as goal
 
 pub returns-then-not-branch-clause-ok : goal.returns-then-not-branch-clause-ok

@@ -1,5 +1,5 @@
 use Rattle.std.proofs.Common.{Bool, false, List, Option, subst, sym}
-use Rattle.wire.specs.Messages.{page}
+use Rattle.wire_format.specs.Messages.{page}
 use Rattle.events.specs.declared.output.Output.{Output}
 use Rattle.replica.specs.declared.taking.Touched.TheVariants as touched
 use Rattle.replica.specs.State.{JoinedData}

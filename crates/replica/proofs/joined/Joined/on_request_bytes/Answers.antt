@@ -1,6 +1,6 @@
 use Rattle.std.proofs.Common.{◌+◌, ℕ, Some, ap, refl, ◌∙◌}
 use Rattle.terms.specs.declared.order.Mode.{Mode}
-use Rattle.wire.specs.Messages.{request}
+use Rattle.wire_format.specs.Messages.{request}
 use Rattle.signing.specs.Heard.{heard}
 use Rattle.replica.specs.JoinedView.{joined_data}
 use Rattle.replica.proofs.Beginning.{silence_dropped}

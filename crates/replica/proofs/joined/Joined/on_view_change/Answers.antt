@@ -1,6 +1,6 @@
 use Rattle.std.proofs.Common.{◌≡◌, inl, inr, Bool, List, [], Some, sym, ap, ◌∙◌, subst}
-use Rattle.wire.specs.Messages.{view_change}
-use Rattle.wire.specs.Views.{view_change_data}
+use Rattle.wire_format.specs.Messages.{view_change}
+use Rattle.wire_format.specs.Views.{view_change_data}
 use Rattle.events.specs.declared.output.Output.{Output}
 use Rattle.view_change.specs.ReceivedView.{held_as}
 use Rattle.signing.specs.Heard.{heard}

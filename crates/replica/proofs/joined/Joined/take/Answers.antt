@@ -1,5 +1,5 @@
 use Rattle.std.proofs.Common.{rules, ℕ, ap, ◌∙◌, option_map, subst}
-use Rattle.wire.specs.Views.{body_data}
+use Rattle.wire_format.specs.Views.{body_data}
 use Rattle.signing.specs.Heard.{heard}
 use Rattle.view_change.specs.ReceivedView.{IsHeldIn}
 use Rattle.replica.specs.declared.joined.Joined.TheInside.{Inside}

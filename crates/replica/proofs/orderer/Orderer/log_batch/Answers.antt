@@ -7,8 +7,8 @@ use Rattle.replica.proofs.Logging.{logs_batch}
 use Rattle.replica.proofs.Batches.{batch_logged}
 use Rattle.std.proofs.Common.{◌<◌, ◌∷◌, ℕ, List, true, sym, subst}
 use Rattle.ordering.specs.Log as logs
-use Rattle.wire.specs.Lists.{Each}
-use Rattle.wire.specs.Spelling.{IsBatch}
+use Rattle.wire_format.specs.Lists.{Each}
+use Rattle.wire_format.specs.Spelling.{IsBatch}
 use Rattle.claims.specs.ClaimsView.{IsAmong}
 use Rattle.replica.proofs.orderer.Orderer.log_batch.Goals as goal
 

@@ -2,8 +2,8 @@ use Rattle.std.proofs.Common.{rules, ◌≡◌, ℕ, ◌+◌, suc, [], length, r
 use Rattle.std.specs.Vec.Iter.{into_iter_items}
 use Rattle.std.proofs.lemmas.List.{nil_from_length}
 use Rattle.ordering.specs.Log.{is_in_marks}
-use Rattle.wire.specs.Lists.{Each}
-use Rattle.wire.specs.Spelling.{IsBatch}
+use Rattle.wire_format.specs.Lists.{Each}
+use Rattle.wire_format.specs.Spelling.{IsBatch}
 use Rattle.view_change.specs.Sets.{texts_of}
 use Rattle.replica.specs.State.{OrdererData}
 use Rattle.replica.specs.EnteringViews.{LogsBatches}

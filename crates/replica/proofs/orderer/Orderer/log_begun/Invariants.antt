@@ -1,7 +1,7 @@
 use Rattle.std.proofs.Common.{◌≡◌, ◌+◌, suc, length}
 use Rattle.std.specs.Vec.Iter.{into_iter_items}
-use Rattle.wire.specs.Lists.{Each}
-use Rattle.wire.specs.Spelling.{IsBatch}
+use Rattle.wire_format.specs.Lists.{Each}
+use Rattle.wire_format.specs.Spelling.{IsBatch}
 use Rattle.view_change.specs.Sets.{texts_of}
 use Rattle.replica.proofs.EnteringViews.{LogsLeft}
 use Rattle.replica.proofs.orderer.Orderer.log_begun.Given as goal

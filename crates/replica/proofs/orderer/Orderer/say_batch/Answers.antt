@@ -1,8 +1,8 @@
 use Rattle.std.proofs.Common.{ℕ, List, refl, sym, ◌∙◌, subst}
 use Rattle.std.specs.Arc.{arc_value}
-use Rattle.wire.specs.Messages.{pre_prepare as PrePrepare}
-use Rattle.wire.specs.Spelling.{pieces_spelling}
-use Rattle.wire.specs.Views.{texts_of}
+use Rattle.wire_format.specs.Messages.{pre_prepare as PrePrepare}
+use Rattle.wire_format.specs.Spelling.{pieces_spelling}
+use Rattle.wire_format.specs.Views.{texts_of}
 use Rattle.replica.specs.State.{OrdererData}
 use Rattle.replica.specs.OrdererView.{orderer_data}
 use Rattle.replica.specs.Claiming.{LogsBatch}

@@ -1,6 +1,6 @@
 use Rattle.replica.specs.OrdererView.{orderer_data}
 use Rattle.replica.proofs.Batches.{checkpoint_counted}
-use Rattle.wire.specs.Views.{checkpoint_entry_data}
+use Rattle.wire_format.specs.Views.{checkpoint_entry_data}
 use Rattle.replica.proofs.orderer.Orderer.say_checkpoint.Goals as goal
 
 pub invariant_of-self : goal.invariant_of-self

@@ -1,6 +1,6 @@
 use Rattle.std.proofs.Common.{sym, ap, ◌∙◌, option_map}
 use Rattle.std.proofs.lemmas.Result.{on_ok_weaker}
-use Rattle.wire.specs.Views.{checkpoint_entry_data}
+use Rattle.wire_format.specs.Views.{checkpoint_entry_data}
 use Rattle.replica.specs.State.{OrdererData}
 use Rattle.replica.proofs.Again.{checkpoint_again, no_checkpoint_again}
 use Rattle.replica.proofs.orderer.Orderer.say_checkpoint_again.Goals as goal

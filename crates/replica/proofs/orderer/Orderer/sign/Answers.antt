@@ -1,5 +1,5 @@
 use Rattle.std.proofs.Common.{◌+◌, Err, Some, inl, inr, sym, ap, ◌∙◌, subst}
-use Rattle.wire.specs.Views.{message_data}
+use Rattle.wire_format.specs.Views.{message_data}
 use Rattle.posting.specs.Endpoint.{EndpointState, IsTooLongToSign, SignedExceeds, SignsFrame, says}
 use Rattle.replica.specs.Claiming.{MaySign}
 use Rattle.replica.specs.OrdererView.{orderer_data}

@@ -1,5 +1,5 @@
 use Rattle.std.proofs.Common.{rules, ◌≡◌, Bool, List, ℕ, ◌+◌, Some, inl, inr, true, refl, sym, subst}
-use Rattle.wire.specs.Views.{checkpoint_entries_data, message_data}
+use Rattle.wire_format.specs.Views.{checkpoint_entries_data, message_data}
 use Rattle.protocol.specs.Replica.Selection.{signed_change}
 use Rattle.view_change.specs.declared.changes.Change.{Change}
 use Rattle.view_change.specs.ReceivedView.{configuration_of, held_as}

@@ -1,5 +1,5 @@
 use Rattle.std.proofs.Common.{IfOk, sym, subst}
-use Rattle.wire.specs.Views.{message_data, new_view_data}
+use Rattle.wire_format.specs.Views.{message_data, new_view_data}
 use Rattle.view_change.specs.Sets.{texts_of}
 use Rattle.replica.specs.Claiming.{MaySign}
 use Rattle.replica.specs.OrdererView.{orderer_data}

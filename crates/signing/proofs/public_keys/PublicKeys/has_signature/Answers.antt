@@ -1,8 +1,8 @@
 use Rattle.std.proofs.Common.{◌≡◌, ◌∙◌, ap}
 use Rattle.std.proofs.lemmas.Bool.Decides.{same_from_decides}
-use Rattle.wire.specs.Spelling.{body_spelling, authenticator_spelling}
+use Rattle.wire_format.specs.Spelling.{body_spelling, authenticator_spelling}
 use Rattle.terms.specs.Parties.{party_number}
-use Rattle.wire.specs.Views.{body_data, frame_data, authenticator_data}
+use Rattle.wire_format.specs.Views.{body_data, frame_data, authenticator_data}
 use Rattle.authenticator.specs.Keys.{signing_seed}
 use Rattle.authenticator.proofs.Frames.{body-short}
 use Rattle.signing.specs.Signatures.{public_key, verifies}

@@ -1,7 +1,7 @@
 use Rattle.std.proofs.Common.{rules, refl, subst}
 use Rattle.std.specs.Prelude.{IfOk}
 use Rattle.terms.specs.declared.parties.Party.TheVariants as parties
-use Rattle.wire.specs.Views.{message_data}
+use Rattle.wire_format.specs.Views.{message_data}
 use Rattle.authenticator.specs.Membership.{Membership}
 use Rattle.posting.specs.Endpoint.{SealsForOne}
 use Rattle.read_only.specs.Hearing.{HearsRead}

@@ -1,5 +1,5 @@
 use Rattle.std.proofs.Common.{◌≡◌, ℕ, List, Option, Some, ap, ◌∙◌, subst}
-use Rattle.wire.specs.Messages.{ViewChangeData}
+use Rattle.wire_format.specs.Messages.{ViewChangeData}
 use Rattle.protocol.specs.Replica.Selection.{signed_change}
 use Rattle.view_change.specs.declared.changes.SignedChange.{SignedChange}
 use Rattle.view_change.specs.ReceivedView.{ReceivedState, configuration_of, held_by, received_state}

@@ -1,6 +1,6 @@
 use Rattle.std.proofs.Common.{◌∙◌, ◌∷◌, [], ◌++◌, ap, sym, length, length-append, map, arith}
 use Rattle.std.proofs.lemmas.List.{take_all, map_push}
-use Rattle.wire.specs.Views.{mac_data}
+use Rattle.wire_format.specs.Views.{mac_data}
 use Rattle.wire.proofs.Entries.{take_more}
 use Rattle.wire.proofs.mac_bytes.MacBytes.copied.Goals as goal
 

@@ -1,5 +1,5 @@
 use Rattle.std.proofs.Common.{◌≡◌, take, length, map}
-use Rattle.wire.specs.Views.{mac_data}
+use Rattle.wire_format.specs.Views.{mac_data}
 use Rattle.wire.proofs.mac_bytes.MacBytes.copied.Given as goal
 
 abbrev pub invariant-loop-i : goal.invariant-loop-i

@@ -1,0 +1,10 @@
+pub mod Forms
+pub mod Parts
+pub mod Framing
+pub mod Plain
+pub mod Carriers
+pub mod Appending
+pub mod Counting
+pub mod Telling
+pub mod FramesBytes
+pub mod Saying

@@ -1,0 +1,11 @@
+pub mod Lists
+pub mod Messages
+pub mod Views
+pub mod Spelling
+pub mod Faults
+pub mod Reading
+pub mod Appends
+pub mod Texts
+pub mod Sealing
+pub mod Counts
+pub mod Words
