@@ -3,7 +3,7 @@ use Rattle.std.proofs.Common.{◌≡◌, ℕ, Bool, List, Some, refl, sym, ap, �
 use Rattle.wire_format.specs.Messages.{BodyData as Body, MessageData as Message}
 use Rattle.wire_format.specs.Spelling.{IsCarried, IsMessage, SpellsFrame, body_spelling, authenticator_spelling}
 use Rattle.wire_format.specs.Reading.{message_by}
-use Rattle.wire_format.specs.Sealing.{IsFrontPiece}
+use Rattle.wire.specs.Pieces.{IsFrontPiece}
 use Rattle.wire_format.specs.Words.{said}
 use Rattle.wire_format.proofs.Carriers.{to_message}
 use Rattle.wire_format.proofs.Framing.{text_bound}

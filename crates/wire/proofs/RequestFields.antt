@@ -14,7 +14,7 @@ use Rattle.wire.specs.Headers.{IsFrame}
 use Rattle.wire.specs.Marks.{has_type_of_requests}
 use Rattle.wire_format.specs.Messages.{MessageData, request, BodyData}
 use Rattle.wire.specs.Requests.{HoldsRequest, mode_from}
-use Rattle.wire_format.specs.Sealing.{IsFrontPiece}
+use Rattle.wire.specs.Pieces.{IsFrontPiece}
 use Rattle.wire_format.specs.Spelling.{IsMessage, authenticator_spelling, body_spelling, fields_spelling, message_type, mode_byte}
 use Rattle.wire.proofs.Whole.{frame_parts}
 

@@ -1,5 +1,5 @@
--- Whether frames are longer than they may be, and the bytes of a body in a frame.
-use Rattle.std.specs.Prelude.{◌≡◌, ◌≢◌, ℕ, ◌+◌, ◌<◌, ◌≤◌, ◌^◌, List, ◌++◌, length}
+-- Whether frames are longer than they may be.
+use Rattle.std.specs.Prelude.{ℕ, ◌+◌, ◌<◌, ◌≤◌, length}
 use Rattle.wire_format.specs.declared.messages.Body.{Body}
 use Rattle.wire_format.specs.declared.frames.Frame.{Frame}
 use Rattle.wire_format.specs.Views.{message_data}
@@ -23,12 +23,3 @@ FrameFits frame = length (frame_text frame) ≤ frame_limit (message_data frame.
 -- The frame is longer than it may be.
 abbrev pub FrameExceeds : Frame → Type 0
 FrameExceeds frame = frame_limit (message_data frame.body.message) < length (frame_text frame)
-
--- If the bytes begin with a length and so many bytes, front are those.
-abbrev pub IsFrontPiece : List ℕ → List ℕ → Type 0
-IsFrontPiece bytes front =
-    (text rest : List ℕ) → length text < 2 ^ 32 → bytes ≡ piece text ++ rest → front ≡ text
-
--- The bytes don't begin with a length and so many bytes.
-abbrev pub HasNoFrontPiece : List ℕ → Type 0
-HasNoFrontPiece bytes = (text rest : List ℕ) → length text < 2 ^ 32 → bytes ≢ piece text ++ rest

@@ -1,7 +1,7 @@
 use Rattle.std.proofs.Common.{ℕ, ◌<◌, inl, inr, List, sym, ap, ◌∙◌, subst, arith}
 use Rattle.std.proofs.lemmas.Bool.{true≢false}
 use Rattle.std.proofs.lemmas.Slice.Eq.{bytes_eq-Decides}
-use Rattle.wire_format.specs.Sealing.{IsFrontPiece}
+use Rattle.wire.specs.Pieces.{IsFrontPiece}
 use Rattle.wire_format.specs.Spelling.{is_ordered_request}
 use Rattle.protocol.specs.Replica.State.{last_time}
 use Rattle.execution.specs.Executed.{ExecutedData}
