@@ -9,7 +9,7 @@ ghost use Rattle.protocol.specs.System.Configuration.{is_correct_client, is_corr
 ghost use Rattle.quorum.specs.Quorum.{member};
 
 use std::marker::Model;
-use terms::FIRST_CLIENT;
+use terms::{FIRST_CLIENT, MAX_CLIENTS};
 use thiserror::Error;
 
 /// Numbers that make no valid configuration.
@@ -151,7 +151,7 @@ fn is_valid(
     ensures { result ≡ are_valid faults clients period faulty_replicas.now faulty_clients.now }
 {
     is_within(u16::from(faults), 3)
-        && is_within(clients, 256)
+        && is_within(clients, MAX_CLIENTS as u16)
         && is_within(u16::from(period), 16)
         && faulty_replicas.len() <= usize::from(faults)
         && names_each_once(faulty_replicas, 3 * u16::from(faults) + 1)

@@ -7,14 +7,14 @@ ghost use Rattle.execution.specs.Installing.{AreNoStates, AreTexts, HasPagesAt, 
 ghost use Rattle.execution.specs.Running.{state_with};
 
 use partition_tree::{PAGES, Tree};
-use reply_cache::{CLIENTS, ReplyCache};
-use space::Space;
+use reply_cache::ReplyCache;
+use space::{PAGES as TUPLE_PAGES, Space};
 use std::alloc::Global;
-use terms::{ClientId, Number};
+use terms::{ClientId, MAX_CLIENTS, Number};
 use tuple_codec::Bad;
 
-/// The page of the header, after those of tuples and of replies, 256 each.
-const HEADER: usize = 512;
+/// The page of the header, after those of tuples and of replies.
+pub(crate) const HEADER: usize = TUPLE_PAGES + MAX_CLIENTS;
 
 /// The space and the replies of the state with this number and these pages.
 ///
@@ -34,7 +34,7 @@ pub fn read_pages(alloc: Global, number: Number, pages: &Tree) -> Result<(Space,
     if batches != number.0 {
         return Err(Bad::Malformed);
     }
-    let replies = ReplyCache::from_pages(alloc, &texts_from(pages, 256))?;
+    let replies = ReplyCache::from_pages(alloc, &texts_from(pages, TUPLE_PAGES))?;
     Ok((space, replies))
 }
 
@@ -43,7 +43,7 @@ pub fn none_falls(old: &ReplyCache, new: &ReplyCache) -> bool
     requires { AreReplies old.now }
     ensures { IsTrue result ↔ ((client : ℕ) → seen_of old.now client ≤ seen_of new.now client) }
 {
-    for number in 0..CLIENTS as u16 {
+    for number in 0..MAX_CLIENTS as u16 {
         let client = ClientId { number };
         if new.seen(client) < old.seen(client) {
             return false;
@@ -64,13 +64,13 @@ fn are_none_behind(pages: &Tree) -> bool
     true
 }
 
-// The texts of the 256 pages from the first on.
-fn texts_from(pages: &Tree, first: usize) -> [&[u8]; CLIENTS]
-    requires { first ≤ 512 }
+// The texts of so many pages as there are clients, from the first on.
+fn texts_from(pages: &Tree, first: usize) -> [&[u8]; MAX_CLIENTS]
+    requires { first ≤ HEADER }
     ensures { AreTexts pages.now first (texts_of result) }
 {
-    let mut texts: [&[u8]; CLIENTS] = [&[]; CLIENTS];
-    for i in 0..CLIENTS {
+    let mut texts: [&[u8]; MAX_CLIENTS] = [&[]; MAX_CLIENTS];
+    for i in 0..MAX_CLIENTS {
         texts[i] = pages.page(first + i);
     }
     texts

@@ -6,15 +6,16 @@ ghost use Rattle.protocol.specs.Replica.State.{page_text, pages_of};
 ghost use Rattle.execution.specs.Running.{state_with};
 ghost use Rattle.execution.specs.Touching.{is_page_touched, AreRenewed, Renews, HasPages};
 
+use crate::installing::HEADER;
 use crate::replies::WatchedReplies;
 use partition_tree::{Page, Tree};
 use reply_cache::ReplyCache;
-use space::Watched;
+use space::{PAGES as TUPLE_PAGES, Watched};
 use std::alloc::Global;
 use terms::{ClientId, NoMemory, Number};
 
-/// How many pages may have a text: 256 of tuples, 256 of replies, and the header.
-const TEXTS: usize = 513;
+/// The pages of tuples, those of replies, and the header may have a text.
+const TEXTS: usize = HEADER + 1;
 
 /// Gives a tree the pages of the state that may differ. An `Err` changes nothing.
 pub fn renew(
@@ -49,7 +50,7 @@ fn touched_pages(
     requires { HasPages tree.now space.now replies.now }
     ensures { IfOk result (λ pages. AreRenewed
         (state_with number.0 space.now.state replies.now.replies)
-        (is_page_touched space.now replies.now) pages.items 513) }
+        (is_page_touched space.now replies.now) pages.items TEXTS) }
 {
     let mut pages = Vec::new(alloc);
     for index in 0..TEXTS {
@@ -67,7 +68,7 @@ fn add_page(
     index: usize,
     pages: &mut Vec<Page>,
 ) -> Result<(), NoMemory>
-    requires index { index < 513 }
+    requires index { index < TEXTS }
     requires has { HasPages tree.now space.now replies.now }
     ensures { OnOk result (Renews (state_with number.0 space.now.state replies.now.replies)
         (is_page_touched space.now replies.now) index pages.old.items pages.new.items) }
@@ -85,11 +86,11 @@ fn add_page(
 fn is_touched(space: &Watched, replies: &WatchedReplies, index: usize) -> bool
     ensures { result ≡ is_page_touched space.now replies.now index }
 {
-    if index < 256 {
+    if index < TUPLE_PAGES {
         return space.touched(index);
     }
-    if index < 512 {
-        return replies.touched(index - 256);
+    if index < HEADER {
+        return replies.touched(index - TUPLE_PAGES);
     }
     true
 }
@@ -104,16 +105,16 @@ fn text_of(
     number: Number,
     index: usize,
 ) -> Result<Vec<u8>, NoMemory>
-    requires index { index < 513 }
+    requires index { index < TEXTS }
     requires written { index < 256 → IsWrittenAs space.now index (slice_index_or tree.now index []) }
     ensures { IfOk result (λ text.
         text.items ≡ page_text (state_with number.0 space.now.state replies.now) index) }
 {
-    if index < 256 {
+    if index < TUPLE_PAGES {
         return space.page_text(index, tree.page(index));
     }
-    if index < 512 {
-        let number = (index - 256) as u16;
+    if index < HEADER {
+        let number = (index - TUPLE_PAGES) as u16;
         return replies.page_text(ClientId { number });
     }
     let text = Vec::from_slice(alloc, &space.space().header_text(number.0))?;

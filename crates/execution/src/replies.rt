@@ -5,17 +5,17 @@ ghost use Rattle.tuple_codec.specs.OperationView.{outcome_of};
 ghost use Rattle.reply_cache.specs.Replies.{with_reply, AreReplies};
 ghost use Rattle.execution.specs.Touching.{is_touched, TouchesReplies};
 
-use reply_cache::{CLIENTS, ReplyCache};
+use reply_cache::ReplyCache;
 use std::alloc::Global;
 use std::marker::Model;
-use terms::{ClientId, NoMemory, Number, Timestamp};
+use terms::{ClientId, MAX_CLIENTS, NoMemory, Number, Timestamp};
 use tuple_codec::Answer;
 
 /// The last reply to each client, and whose may have changed since the last [`WatchedReplies::untouch`].
 #[derive(Drop)]
 pub struct WatchedReplies {
     replies: ReplyCache,
-    touched: [bool; CLIENTS],
+    touched: [bool; MAX_CLIENTS],
 }
 
 impl Model for WatchedReplies {
@@ -36,7 +36,7 @@ impl WatchedReplies {
     {
         WatchedReplies {
             replies,
-            touched: [true; CLIENTS],
+            touched: [true; MAX_CLIENTS],
         }
     }
 
@@ -69,7 +69,7 @@ impl WatchedReplies {
 
     /// Whether the page of a client, 0 to 255, may differ from that at the last [`WatchedReplies::untouch`].
     pub fn touched(&self, client: usize) -> bool
-        requires { client < CLIENTS }
+        requires { client < MAX_CLIENTS }
         ensures { result ≡ is_touched self.now client }
     {
         self.touched[client]
@@ -80,6 +80,6 @@ impl WatchedReplies {
         ensures replies { self.new.replies ≡ self.old.replies }
         ensures none { (client : ℕ) → client < 256 → is_touched self.new client ≡ false }
     {
-        self.touched = [false; CLIENTS];
+        self.touched = [false; MAX_CLIENTS];
     }
 }

@@ -3,9 +3,9 @@
 ghost use Rattle.std.specs.Prelude.{◌≡◌, ◌≤◌};
 
 use crate::answers::holds;
-use reply_cache::{CLIENTS, ReplyCache};
+use reply_cache::ReplyCache;
 use std::alloc::Global;
-use terms::{ClientId, NoMemory};
+use terms::{ClientId, MAX_CLIENTS, NoMemory};
 use test_bytes::{Verdict, all_hold};
 use tuple_codec::{Answer, Bad};
 use tuple_tree::{Atom, Refusal, Tuple, Value};
@@ -74,7 +74,7 @@ fn read(alloc: Global, pages: &[&[u8]]) -> Result<ReplyCache, Bad> {
 
 fn has_pages(cache: &ReplyCache, pages: &[&[u8]]) -> bool {
     for (number, text) in pages.iter().enumerate() {
-        if number >= CLIENTS || !has_page(cache, client(number as u8), text) {
+        if number >= MAX_CLIENTS || !has_page(cache, client(number as u8), text) {
             return false;
         }
     }
@@ -89,7 +89,7 @@ fn is_read(alloc: Global, pages: &[&[u8]]) -> Result<bool, Bad> {
 
 // The same if all pages are empty except one.
 fn is_page_read(alloc: Global, client: u8, text: &[u8]) -> Result<bool, Bad> {
-    let mut pages: [&[u8]; CLIENTS] = [&[]; CLIENTS];
+    let mut pages: [&[u8]; MAX_CLIENTS] = [&[]; MAX_CLIENTS];
     pages[client as usize] = text;
     is_read(alloc, pages.as_slice())
 }
@@ -229,7 +229,7 @@ fn comes_to(read: Result<bool, Bad>, wanted: Result<bool, Bad>) -> Verdict {
 }
 
 fn reads_back(alloc: Global) -> Verdict {
-    let mut pages: [&[u8]; CLIENTS] = [&[]; CLIENTS];
+    let mut pages: [&[u8]; MAX_CLIENTS] = [&[]; MAX_CLIENTS];
     pages[0] = DONE.as_slice();
     pages[255] = FOUND.as_slice();
     comes_to(is_read(alloc, pages.as_slice()), Ok(true))

@@ -10,11 +10,8 @@ ghost use Rattle.reply_cache.specs.Reading.{EachSpelled, texts_of, AreSomePages}
 use crate::pages::{is_page, put_reply, read_reply};
 use std::alloc::Global;
 use std::marker::Model;
-use terms::{ClientId, NoMemory};
+use terms::{ClientId, MAX_CLIENTS, NoMemory};
 use tuple_codec::{Answer, Bad};
-
-/// There are at most so many clients.
-pub const CLIENTS: usize = 256;
 
 /// The reply to a client's last request.
 #[derive(Drop)]
@@ -133,7 +130,7 @@ impl ReplyCache {
         // The replies with these pages are read, unless memory runs out.
         ensures only { GivesEach Bad.NoMemory (λ c. c) (ArePages (texts_of pages.now)) result }
     {
-        if pages.len() != CLIENTS {
+        if pages.len() != MAX_CLIENTS {
             return Err(Bad::Malformed);
         }
         if !are_pages(pages) {

@@ -14,5 +14,5 @@ mod cache;
 mod laws;
 mod pages;
 
-pub use cache::{CLIENTS, Reply, ReplyCache};
+pub use cache::{Reply, ReplyCache};
 pub use laws::{pages_determine, replies_stay_replies};

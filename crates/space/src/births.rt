@@ -10,6 +10,9 @@ pub const PAGES: usize = 256;
 /// One page has at most so many tuples.
 pub const MAX_ON_PAGE: u8 = 64;
 
+/// A batch has at most 16 requests, and each takes at most as many births as there are pages.
+pub(crate) const BIRTHS_A_BATCH: u64 = 16 * PAGES as u64;
+
 /// The table of pages with no tuple.
 pub fn empty_pages() -> [u8; PAGES]
     ensures none { (page : ℕ) → page < 256 → slice_index result page ≡ 0 }

@@ -5,7 +5,7 @@ ghost use Rattle.std.specs.Int.{w64, to_be_bytes};
 ghost use Rattle.space.specs.Pages.{on_page};
 ghost use Rattle.space.specs.Reading.{IsEntry, IsEntryOf, IsAdded, IsHeader, ReadsStored, ReadsEachStored, ReadsSpelled, ReadsEach, ReadsPage, ReadsEachPage};
 
-use crate::births::{MAX_ON_PAGE, PAGES};
+use crate::births::{BIRTHS_A_BATCH, MAX_ON_PAGE, PAGES};
 use crate::pages::{HEADER_LEN, len_of, version_of};
 use crate::version::Version;
 use byteorder::{BigEndian, ByteOrder};
@@ -17,9 +17,6 @@ use tuple_tree::Tuple;
 
 // The numbers of batches end here.
 const NUMBERS_END: u64 = 1 << 48;
-
-// At most 16 requests, each of which takes at most 256 births.
-const BIRTHS_A_BATCH: u64 = 4096;
 
 // The tuple at the front, and the bytes after it.
 fn read_tuple(alloc: Global, text: &[u8]) -> Result<(Tuple<Global>, &[u8]), Bad>

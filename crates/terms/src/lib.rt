@@ -14,5 +14,5 @@ mod state;
 
 pub use no_memory::NoMemory;
 pub use order::{Mode, Number, Timestamp, View};
-pub use parties::{ClientId, FIRST_CLIENT, Party, ReplicaId};
+pub use parties::{ClientId, FIRST_CLIENT, MAX_CLIENTS, Party, ReplicaId};
 pub use state::{Digest, Level};

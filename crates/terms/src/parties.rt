@@ -5,6 +5,9 @@ ghost use Rattle.std.specs.Prelude.{◌≤◌};
 /// The number of client 0 in frames. Replicas have the numbers below it.
 pub const FIRST_CLIENT: u16 = 256;
 
+/// A configuration has at most so many clients.
+pub const MAX_CLIENTS: usize = 256;
+
 /// A replica. A configuration has up to 10 of them; frames may name more.
 #[derive(Clone, Copy, PartialEq, Eq, Drop)]
 pub struct ReplicaId(pub u8);

@@ -5,6 +5,7 @@ use Rattle.byteorder.specs.Endian.{big_number}
 use Rattle.tuple_tree.specs.Values.{AreBytes}
 use Rattle.tuple_codec.specs.Operations.{IsOperation, IsOutcome}
 use Rattle.tuple_codec.specs.Spelling.{Spells, operation_spelling, outcome_spelling}
+use Rattle.terms.specs.declared.parties.TheConstants.{FIRST_CLIENT}
 use Rattle.terms.specs.declared.order.Mode.{Mode}
 use Rattle.terms.specs.declared.order.Mode.TheVariants as modes
 use Rattle.terms.specs.declared.state.Level.{Level}
@@ -176,7 +177,7 @@ IsPlain (checkpoint number root) = (number < 2 ^ 64) × IsDigest root
 IsPlain (view_change c) = IsViewChange c
 IsPlain (new_view n) = ⊥
 IsPlain (reply client timestamp kind number outcome) =
-    (256 ≤ client) × (client < 2 ^ 16) × (timestamp < 2 ^ 64) × (number < 2 ^ 64)
+    (FIRST_CLIENT ≤ client) × (client < 2 ^ 16) × (timestamp < 2 ^ 64) × (number < 2 ^ 64)
     × IsOutcome outcome
 IsPlain (fetch number level index) = (number < 2 ^ 64) × (index ≤ last_index level)
 IsPlain (meta number level index digests) =

@@ -1,8 +1,8 @@
 -- The plain messages, bodies, authenticators and frames that the Rust values stand for.
-use Rattle.std.specs.Prelude.{ℕ, ◌+◌, List, map, Vec}
+use Rattle.std.specs.Prelude.{ℕ, List, map, Vec}
 use Rattle.std.specs.declared.alloc.Global.{Global}
 use Rattle.tuple_codec.specs.OperationView.{operation_of, outcome_of}
-use Rattle.terms.specs.Parties.{party_number}
+use Rattle.terms.specs.Parties.{party_number, client_party}
 use Rattle.wire_format.specs.declared.messages.CheckpointEntry.{CheckpointEntry}
 use Rattle.wire_format.specs.declared.messages.BatchEntry.{BatchEntry}
 use Rattle.wire_format.specs.declared.messages.Batch.{Batch}
@@ -65,7 +65,7 @@ message_data (messages.Checkpoint m) = checkpoint m.number.0 m.root
 message_data (messages.ViewChange m) = view_change (view_change_data m)
 message_data (messages.NewView m) = new_view (new_view_data m)
 message_data (messages.Reply m) =
-    reply (256 + m.client.number) m.timestamp.0 m.kind m.number.0 (outcome_of m.answer)
+    reply (client_party m.client.number) m.timestamp.0 m.kind m.number.0 (outcome_of m.answer)
 message_data (messages.Fetch m) = fetch m.number.0 m.level m.index
 message_data (messages.Meta m) = meta m.number.0 m.level m.index m.digests.items
 message_data (messages.Page m) = page m.number.0 m.index m.text.items

@@ -1,6 +1,6 @@
 -- The state that batches leave, its pages and its root (Castro and Liskov, TOCS 2002, on normal-case
 -- operation and, of pages and root, on hierarchical state partitions).
-use Rattle.std.specs.Prelude.{ℕ, suc, ◌-◌, Bool, ◌&&◌, List, [], ◌∷◌, ◌++◌, map, nat_lt, ◌==◌, if◌then◌else◌, Option, Some, None, option_and_then, fold}
+use Rattle.std.specs.Prelude.{ℕ, suc, ◌+◌, ◌-◌, Bool, ◌&&◌, List, [], ◌∷◌, ◌++◌, map, nat_lt, ◌==◌, if◌then◌else◌, Option, Some, None, option_and_then, fold}
 use Rattle.std.specs.List.{range_with_len}
 use Rattle.std.specs.Option.{option_map_or}
 use Rattle.tuple_codec.specs.Operations.{Operation}
@@ -12,6 +12,7 @@ use Rattle.protocol.specs.System.Configuration.{Configuration, is_client}
 use Rattle.terms.specs.declared.order.Mode.TheVariants as modes
 use Rattle.wire_format.specs.Messages.{BodyData as Body, request as Request}
 use Rattle.wire_format.specs.Words.{requests_of, said}
+use Rattle.terms.specs.declared.parties.TheConstants.{MAX_CLIENTS}
 use Rattle.protocol.specs.System.Frames.{same_mode}
 use Rattle.reply_cache.specs.Replies.{Kept, Replies, no_replies, last_of, seen_of, with_reply, AreReplies}
 use Rattle.reply_cache.specs.Pages.{reply_text}
@@ -109,12 +110,15 @@ ran_in c number st (frame ∷ frames) =
 
 -- ---- well-formed states
 
--- The state is well formed: its space is one after that many batches, and each of 256 clients has a reply or none.
+-- The state is well formed: its space is one after that many batches, and each client has a reply or none.
 pub record IsReplicatedState (st : State) : Type 0 where
   pub space : IsStateAt st.space st.number
   pub replies : AreReplies st.replies
 
--- ---- pages: 0 to 255 hold tuples, 256 to 511 replies, 512 the header, all others nothing
+-- ---- pages: first those of tuples, then one for the reply to each client, then the header; all others are empty
+
+abbrev pub header_page : ℕ
+header_page = TUPLE_PAGES + MAX_CLIENTS
 
 -- the text of a page
 unfoldable pub page_text : State → ℕ → List ℕ
