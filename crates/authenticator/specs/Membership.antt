@@ -1,6 +1,7 @@
 -- Who takes part, and the seed of their keys. A party goes by its number: replica r has the number r, client c the
 -- number 256 + c.
 use Rattle.std.specs.Prelude.{ℕ, ◌+◌, ◌*◌, Bool, ◌&&◌, nat_lt, nat_le, List}
+use Rattle.terms.specs.declared.parties.TheConstants.{FIRST_CLIENT}
 use Rattle.wire_format.specs.Messages.{MessageData, request, BodyData}
 
 -- a seed, how many replicas may be faulty, and how many clients there are
@@ -17,7 +18,7 @@ abbrev pub is_replica : Membership → ℕ → Bool
 is_replica m party = nat_lt party (replicas m)
 
 abbrev pub is_client : Membership → ℕ → Bool
-is_client m party = nat_le 256 party && nat_lt party (256 + m.clients)
+is_client m party = nat_le FIRST_CLIENT party && nat_lt party (FIRST_CLIENT + m.clients)
 
 -- clients send requests, replicas all other messages
 abbrev pub sends : Membership → ℕ → MessageData → Bool

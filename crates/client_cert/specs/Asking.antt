@@ -2,6 +2,7 @@
 use Rattle.std.specs.Prelude.{◌≡◌, ◌+◌, ◌*◌, ◌≤◌, ℕ, List, length, Vec}
 use Rattle.std.specs.List.{range_with_len}
 use Rattle.std.specs.declared.alloc.Global.{Global}
+use Rattle.terms.specs.Parties.{client_party}
 use Rattle.terms.specs.declared.order.Mode.{Mode}
 use Rattle.terms.specs.declared.order.Timestamp.{Timestamp}
 use Rattle.terms.specs.declared.parties.ClientId.{ClientId}
@@ -24,7 +25,7 @@ AsksWith m me mode timestamp op bytes =
 abbrev pub AsksAs :
     Membership → ClientId → Mode → Timestamp → Operation → Vec ℕ Global → Type 0
 AsksAs m client mode timestamp op frame =
-    AsksWith m (256 + client.number) mode timestamp.0 op frame.items
+    AsksWith m (client_party client.number) mode timestamp.0 op frame.items
 
 -- the body can be sealed for all replicas
 abbrev pub IsSealableForAll : ℕ → Body → Type 0

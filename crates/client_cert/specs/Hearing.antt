@@ -1,6 +1,7 @@
 -- The replies that a client hears in frames. The contracts of private functions use these definitions.
-use Rattle.std.specs.Prelude.{◌≡◌, ℕ, ◌+◌, ◌==◌, ◌&&◌, Bool, List, length, drop, slice_index, nat_le, Option, Some, None, option_and_then, if◌then◌else◌}
+use Rattle.std.specs.Prelude.{◌≡◌, ℕ, ◌==◌, ◌&&◌, Bool, List, length, drop, slice_index, nat_le, Option, Some, None, option_and_then, if◌then◌else◌}
 use Rattle.std.specs.declared.alloc.Global.{Global}
+use Rattle.terms.specs.Parties.{client_party}
 use Rattle.byteorder.specs.Endian.{big_number}
 use Rattle.terms.specs.declared.order.Mode.{Mode}
 use Rattle.terms.specs.declared.order.Mode.TheVariants as modes
@@ -57,7 +58,7 @@ IsAnswerIn text answer = (said : Outcome) → SpellsOutcome text said → outcom
 -- the client hears this reply to its call from the bytes, or none
 abbrev pub HearsReply : Membership → ClientId → Timestamp → List ℕ → Option Heard → Type 0
 HearsReply m client timestamp bytes h =
-    HearsVote (256 + client.number) timestamp.0 (heard m (256 + client.number) bytes) h
+    HearsVote (client_party client.number) timestamp.0 (heard m (client_party client.number) bytes) h
 
 -- the ballot that is kept of a reply
 abbrev pub IsBallotOf : Number → List ℕ → Ballot → Type 0

@@ -3,6 +3,7 @@ use Rattle.std.specs.Prelude.{◌≡◌, ℕ, ◌+◌, ◌*◌, ◌^◌, ◌≤�
 use Rattle.std.specs.Option.{option_map_or}
 use Rattle.std.specs.Map.{lookup}
 use Rattle.std.specs.Coded.{Coded, code_by, coded×, coded_list, coded_option, coded_ℕ, coded_bool}
+use Rattle.terms.specs.Parties.{client_party}
 use Rattle.terms.specs.declared.order.Mode.{Mode}
 use Rattle.terms.specs.declared.order.Mode.TheVariants as modes
 use Rattle.tuple_codec.specs.Operations.{Operation}
@@ -83,7 +84,7 @@ IsSpent s = (is_some s.call ≡ false) × ((s.stopped || nat_le (2 ^ 62) s.calls
 
 -- the party of the client
 abbrev pub me_of : ClientState → ℕ
-me_of s = 256 + s.number
+me_of s = client_party s.number
 
 -- the reply of the replica s
 abbrev pub held : Ballots → ℕ → Option Ballot

@@ -1,5 +1,6 @@
 -- Events keep the fit of state and history.
-use Rattle.std.specs.Prelude.{◌≡◌, ℕ, suc, ◌+◌, false, List, [], ◌∷◌, map, Option, Some, is_some}
+use Rattle.std.specs.Prelude.{◌≡◌, ℕ, suc, false, List, [], ◌∷◌, map, Option, Some, is_some}
+use Rattle.terms.specs.Parties.{client_party}
 use Rattle.terms.specs.declared.order.Mode.{Mode}
 use Rattle.terms.specs.declared.order.Mode.TheVariants as modes
 use Rattle.terms.specs.declared.order.Timestamp.{Timestamp}
@@ -78,7 +79,7 @@ Weighs m me timestamp old bytes new given =
 abbrev pub TurnsTo :
     Membership → ClientId → Timestamp → CallState → List ℕ → CallState → Turned → Type 0
 TurnsTo m client timestamp old bytes new turned =
-    Weighs m (256 + client.number) timestamp.0 old bytes new
+    Weighs m (client_party client.number) timestamp.0 old bytes new
     (reaction_of timestamp.0 new turned)
 
 -- the client changes only its call

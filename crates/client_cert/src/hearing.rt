@@ -1,6 +1,7 @@
 //! The replies that a client hears, in the bytes of their frames.
 
-ghost use Rattle.std.specs.Prelude.{◌≡◌, ◌+◌, ◌≤◌, IfOk, length, drop, slice_index};
+ghost use Rattle.std.specs.Prelude.{◌≡◌, ◌≤◌, IfOk, length, drop, slice_index};
+ghost use Rattle.terms.specs.Parties.{client_party};
 ghost use Rattle.byteorder.specs.Endian.{big_number};
 ghost use Rattle.client_cert.specs.Steps.{TurnsTo};
 ghost use Rattle.client_cert.specs.Hearing.{HearsReply, IsBallotOf, IsAnswerIn, SpellsAnswer, is_for, mode_of};
@@ -93,7 +94,7 @@ fn hear_reply<'b>(
 
 // Whether the bytes have the type of replies, and this client and timestamp in the places of a reply's.
 fn is_for(bytes: &[u8], client: ClientId, timestamp: Timestamp) -> bool
-    ensures { result ≡ is_for (256 + client.number) timestamp.0 bytes.now }
+    ensures { result ≡ is_for (client_party client.number) timestamp.0 bytes.now }
 {
     bytes.len() >= 17
         && bytes[4] == 0x48

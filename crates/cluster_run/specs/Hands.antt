@@ -1,8 +1,9 @@
 -- Hands: the operations of one client, and the answers to them. The contracts of private functions use these.
-use Rattle.std.specs.Prelude.{◌≡◌, ℕ, suc, ◌+◌, ◌-◌, ◌*◌, ◌/◌, ◌%◌, ◌<◌, ◌⊎◌, ◌≢◌, List, length, map, slice_get, Option, Some}
+use Rattle.std.specs.Prelude.{◌≡◌, ℕ, suc, ◌+◌, ◌*◌, ◌/◌, ◌%◌, ◌<◌, ◌⊎◌, ◌≢◌, List, length, map, slice_get, Option, Some}
 use Rattle.std.specs.Option.{option_and_then}
 use Rattle.std.specs.declared.alloc.Global.{Global}
 use Rattle.std.specs.declared.vec.Vec.{Vec}
+use Rattle.terms.specs.Parties.{client_number, client_party}
 use Rattle.tuple_codec.specs.Operations.{Operation, Outcome}
 use Rattle.tuple_codec.specs.OperationView.{operation_of, outcome_of}
 use Rattle.tuple_codec.specs.declared.operations.Answer.{Answer}
@@ -46,12 +47,12 @@ pub record HasCalled (start : Seated) (ops : List Operation) (answers : List Out
   pub calls : last_call now.history ≡ length ops
   pub count : length answers ≡ length ops
   pub each : (j : ℕ) (op : Operation) (answer : Outcome) → slice_get ops j ≡ Some op
-      → slice_get answers j ≡ Some answer → IsAnswered now.history (start.party - 256) (suc j) op answer
+      → slice_get answers j ≡ Some answer → IsAnswered now.history (client_number start.party) (suc j) op answer
 
 -- the client called the operations of its hand, and got these answers
 abbrev pub HasCalledHand : Vec (Op Global) Global → ℕ → Vec (Answer Global) Global → Seated → Type 0
 HasCalledHand hand number answers client =
-    HasCalled (new_seat (256 + number)) (map operation_of hand.items) (map outcome_of answers.items) client
+    HasCalled (new_seat (client_party number)) (map operation_of hand.items) (map outcome_of answers.items) client
 
 -- These are the answers that the client at h, which has the number h, got to hand h.
 pub record HandIsCalled (hands : Hands (Op Global)) (clients : List Seated) (h : ℕ)

@@ -2,6 +2,7 @@
 use Rattle.std.specs.Prelude.{◌≡◌, ℕ, suc, ◌%◌, ◌<◌, ◌≤◌, ◌==◌, Bool, true, false, if◌then◌else◌, List, [], ◌∷◌, ◌++◌, map, Option, Some, None, option_and_then, nat_lt, Vec}
 use Rattle.std.specs.declared.alloc.Global.{Global}
 use Rattle.std.specs.Bool.{then_some}
+use Rattle.terms.specs.declared.parties.TheConstants.{MAX_CLIENTS}
 use Rattle.terms.specs.declared.parties.ClientId.{ClientId}
 use Rattle.terms.specs.declared.parties.Party.TheVariants as parties
 use Rattle.terms.specs.declared.order.Timestamp.{Timestamp}
@@ -95,7 +96,7 @@ above_number number transfer = option_and_then (λ o. then_some (nat_lt number o
 pub record HoldsState (d : DeskData) : Type 0 where
   pub is : IsDesk d
   pub is_state : IsReplicatedState d.executed.state
-  pub clients : d.executed.clients ≤ 256
+  pub clients : d.executed.clients ≤ MAX_CLIENTS
   pub few : AreFew d.snapshots
 
 -- The desk executes the batch of the next number, and tells it. It forgets only requests that ran, or are older.

@@ -1,5 +1,6 @@
 -- Which states a desk keeps (Castro and Liskov, TOCS 2002, on garbage collection).
 use Rattle.std.specs.Prelude.{◌≡◌, ℕ, Bool, ◌%◌, ◌<◌, ◌≤◌, List, [], ◌∷◌, length, slice_index_or, take, ⊤}
+use Rattle.partition_tree.specs.declared.tree.TheConstants.{PAGES}
 use Rattle.wire_format.specs.Lists.{Each, ascends}
 use Rattle.wire_format.specs.Messages.{CheckpointEntryData as CheckpointEntry}
 use Rattle.wire_format.specs.Spelling.{checkpoint_entry_before}
@@ -28,7 +29,7 @@ pub record AreKept (period number : ℕ) (snapshots : List Snapshot) : Type 0 wh
 
 -- No page is longer than a state's can be: 64 tuples of 1,024 bytes, each after the 8 bytes of its birth number.
 abbrev pub HaveShortPages : List (List ℕ) → Type 0
-HaveShortPages pages = (i : ℕ) → i < 1024 → length (slice_index_or pages i []) ≤ 66176
+HaveShortPages pages = (i : ℕ) → i < PAGES → length (slice_index_or pages i []) ≤ 66176
 
 -- The numbers of these checkpoints ascend, as in a view change.
 abbrev pub is_ascending : List CheckpointEntry → Bool

@@ -1,5 +1,6 @@
 -- The desk's answer to bytes with the marks of a read (Castro and Liskov, TOCS 2002, on read-only operations).
-use Rattle.std.specs.Prelude.{◌≡◌, ◌⊎◌, ℕ, ◌+◌, true, false, List, None, Some}
+use Rattle.std.specs.Prelude.{◌≡◌, ◌⊎◌, ℕ, true, false, List, None, Some}
+use Rattle.terms.specs.Parties.{client_party}
 use Rattle.terms.specs.declared.parties.ClientId.{ClientId}
 use Rattle.tuple_codec.specs.Operations.{Operation}
 use Rattle.space.specs.Applying.{is_read_only}
@@ -14,9 +15,9 @@ pub record AnswersRead (d : DeskData) (bytes : List ℕ) (before after : List Ou
   pub client : ClientId
   pub timestamp : ℕ
   pub op : Operation
-  pub hears : heard d.membership d.me bytes ≡ Some (read_from (256 + client.number) timestamp op)
+  pub hears : heard d.membership d.me bytes ≡ Some (read_from (client_party client.number) timestamp op)
   pub is_read : is_read_only op ≡ true
-  pub says : SaysTo d client (read_reply d.executed.state (256 + client.number) timestamp op) before after
+  pub says : SaysTo d client (read_reply d.executed.state (client_party client.number) timestamp op) before after
 
 -- The bytes are not authentic, or a request for something that is no read.
 abbrev pub HearsNoRead : DeskData → List ℕ → Type 0

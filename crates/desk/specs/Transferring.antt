@@ -1,5 +1,6 @@
 -- How an open transfer goes on (Castro and Liskov, TOCS 2002, on state transfer).
 use Rattle.std.specs.Prelude.{◌≡◌, ◌⊎◌, ◌<◌, ℕ, Bool, true, false, length, Option, Some, None}
+use Rattle.partition_tree.specs.declared.tree.TheConstants.{PAGES}
 use Rattle.sha2.specs.Sha256.{sha256}
 use Rattle.wire_format.specs.Messages.{CheckpointEntryData as CheckpointEntry, meta as MetaMessage}
 use Rattle.wire_format.specs.Spelling.{IsMessage}
@@ -46,7 +47,7 @@ TakesDigestsOf old meta new false = (new ≡ old) × AreOtherDigests old meta
 
 -- there are 1,024 pages
 abbrev pub AreAllPages : TransferData → Type 0
-AreAllPages t = (length t.held ≡ 1024) × (length t.fetched ≡ 1024)
+AreAllPages t = (length t.held ≡ PAGES) × (length t.fetched ≡ PAGES)
 
 -- what a page replaced, and where the transfer rested before
 abbrev pub IsTakenFrom : OpenData → ℕ → Taken → Type 0
@@ -58,7 +59,7 @@ TakesPageOf old page new (Some taken) =
     (page.number.0 ≡ old.transfer.number) × (old.transfer.asked ≡ page_place page.index)
     × (wanted old.transfer (page_place page.index) ≡ Some (sha256 page.text.items))
     × (new ≡ record old { transfer = with_page old.transfer page.index page.text.items })
-    × IsTakenFrom old page.index taken × AreAllPages old.transfer × (page.index < 1024)
+    × IsTakenFrom old page.index taken × AreAllPages old.transfer × (page.index < PAGES)
 TakesPageOf old page new None = (new ≡ old) × IsOtherPage old page
 
 -- the transfer gives back what it took

@@ -1,5 +1,6 @@
 -- The test of a configuration. The contracts of private functions use it.
 use Rattle.std.specs.Prelude.{ℕ, Bool, true, ◌&&◌, not, List, [], ◌∷◌, length, nat_le, nat_lt}
+use Rattle.terms.specs.declared.parties.TheConstants.{MAX_CLIENTS}
 use Rattle.quorum.specs.Quorum.{member}
 use Rattle.protocol.specs.System.Configuration.{Configuration, replicas}
 use Rattle.events.specs.ConfigView.{configuration_of}
@@ -15,7 +16,7 @@ is_within most n = nat_le 1 n && nat_le n most
 -- the configuration is valid, except perhaps for its seed
 abbrev pub is_configuration : Configuration → Bool
 is_configuration c =
-    ((((is_within 3 c.faults && is_within 256 c.clients) && is_within 16 c.period)
+    ((((is_within 3 c.faults && is_within MAX_CLIENTS c.clients) && is_within 16 c.period)
     && nat_le (length c.faulty_replicas) c.faults)
     && each_once (replicas c) c.faulty_replicas)
     && each_once c.clients c.faulty_clients

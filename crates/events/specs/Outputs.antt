@@ -1,7 +1,7 @@
 -- The outputs of a step as entries, how an event extends a history, and to whom its frames go.
-use Rattle.std.specs.Prelude.{◌≡◌, ℕ, ◌-◌, List, [], ◌∷◌, map, ⊤}
+use Rattle.std.specs.Prelude.{◌≡◌, ℕ, List, [], ◌∷◌, map, ⊤}
 use Rattle.std.specs.Option.{option_map_or}
-use Rattle.terms.specs.Parties.{party_number}
+use Rattle.terms.specs.Parties.{party_number, client_number}
 use Rattle.wire_format.specs.Lists.{Each}
 use Rattle.wire_format.specs.Words.{frame_of}
 use Rattle.events.specs.declared.output.Output.{Output}
@@ -17,7 +17,7 @@ abbrev pub entry_of : ℕ → Output → Entry
 entry_of me (outputs.Executed number batch) = Executed me number.0 batch
 entry_of me (outputs.Installed number root) = Installed me number.0 root
 entry_of me (outputs.Send receivers frame) = Sent me frame
-entry_of me (outputs.Accepted timestamp answer) = Accepted (me - 256) timestamp.0 (outcome_of answer)
+entry_of me (outputs.Accepted timestamp answer) = Accepted (client_number me) timestamp.0 (outcome_of answer)
 
 -- the history after a list of entries, the oldest first
 abbrev pub after_entries : List Entry → List Entry → List Entry

@@ -1,6 +1,7 @@
 -- Small histories that the definitions accept, with frames left symbolic: their spelling and their authenticity are
 -- given.
-use Rattle.std.specs.Prelude.{◌≡◌, ◌≢◌, ℕ, ◌+◌, true, false, List, [], ◌∷◌, Some}
+use Rattle.std.specs.Prelude.{◌≡◌, ◌≢◌, ℕ, true, false, List, [], ◌∷◌, Some}
+use Rattle.terms.specs.Parties.{client_party}
 use Rattle.sha2.specs.Sha256.{sha256}
 use Rattle.tuple_codec.specs.Operations.{Operation, IsOperation}
 use Rattle.protocol.specs.System.Configuration.{Configuration, IsConfiguration, is_correct_client, members}
@@ -62,9 +63,9 @@ FirstBatchExecutes =
 abbrev pub FirstCallIsRun : Type 0
 FirstCallIsRun =
     (c : Configuration) → IsConfiguration c → (k : ℕ) (op : Operation) (request : List ℕ)
-    → is_correct_client c (256 + k) ≡ true → IsOperation op
-    → IsRequest c (256 + k) (first_mode op) (record { timestamp = 1; op = op }) request
-    → IsRun c (Sent (256 + k) request ∷ Invoke k 1 op ∷ [])
+    → is_correct_client c (client_party k) ≡ true → IsOperation op
+    → IsRequest c (client_party k) (first_mode op) (record { timestamp = 1; op = op }) request
+    → IsRun c (Sent (client_party k) request ∷ Invoke k 1 op ∷ [])
 
 -- ---- over a view change
 

@@ -1,6 +1,7 @@
 -- Small histories in which a replica answers, and which the definitions accept, with frames left symbolic: their
 -- spelling and their authenticity are given.
-use Rattle.std.specs.Prelude.{◌≡◌, ℕ, ◌-◌, true, List, [], ◌∷◌, Some}
+use Rattle.std.specs.Prelude.{◌≡◌, ℕ, true, List, [], ◌∷◌, Some}
+use Rattle.terms.specs.Parties.{client_number}
 use Rattle.tuple_codec.specs.Operations.{Operation}
 use Rattle.space.specs.Applying.{no_tuples, outcome, is_read_only}
 use Rattle.terms.specs.declared.order.Mode.TheVariants as modes
@@ -28,7 +29,7 @@ FirstReadIsAnswered =
     (clients : ℕ) (seed : List ℕ) (me client timestamp : ℕ) (op : Operation) (read reply : List ℕ)
     → heard (members (four clients seed)) me read
     ≡ Some (record { sender = client; message = Request timestamp modes.ReadOnly op }) → is_read_only op ≡ true
-    → IsAnswer (four clients seed) me client (Reply client timestamp modes.ReadOnly 0 (outcome no_tuples (client - 256) op)) reply
+    → IsAnswer (four clients seed) me client (Reply client timestamp modes.ReadOnly 0 (outcome no_tuples (client_number client) op)) reply
     → IsReplica (four clients seed) me (Sent me reply ∷ Got me read ∷ [])
 
 -- So is one that gets a fetch of the root of the opening state, and answers it with the digests below.

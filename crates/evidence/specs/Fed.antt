@@ -1,6 +1,7 @@
 -- What a schedule feeds: each step that may come, with the outputs after it. The worlds are those of the schedule's
 -- definition; what a step needs is said here in words of its own.
-use Rattle.std.specs.Prelude.{◌≡◌, ℕ, ◌+◌, ◌<◌, true, false, List, [], ◌∷◌, ◌++◌, slice_get, Some, None, ⊤}
+use Rattle.std.specs.Prelude.{◌≡◌, ℕ, ◌<◌, true, false, List, [], ◌∷◌, ◌++◌, slice_get, Some, None, ⊤}
+use Rattle.terms.specs.Parties.{client_party}
 use Rattle.tuple_codec.specs.Operations.{Operation, IsOperation}
 use Rattle.protocol.specs.System.Configuration.{Configuration, is_correct, is_correct_client}
 use Rattle.protocol.specs.System.Trace.{Entry, history_of, is_output, Has, AreOutputs}
@@ -16,7 +17,7 @@ use Rattle.wire_format.specs.Lists.{Each}
 abbrev pub CallsAreFed : Type 0
 CallsAreFed =
     (c : Configuration) (steps : List Step) (k timestamp : ℕ) (op : Operation) (outputs trace : List Entry)
-    → Feeds c steps trace → is_correct_client c (256 + k) ≡ true → open_call (history_of (256 + k) trace) ≡ None
+    → Feeds c steps trace → is_correct_client c (client_party k) ≡ true → open_call (history_of (client_party k) trace) ≡ None
     → IsOperation op → AreOutputs outputs
     → Feeds c (steps ++ calls k op ∷ []) (outputs ++ Invoke k timestamp op ∷ trace)
 

@@ -1,6 +1,7 @@
 -- Three reads beside the first operation of client 0: clients 1 and 2 call theirs before it, client 3 after it. What
 -- they read, and what the replicas answer, is left open.
-use Rattle.std.specs.Prelude.{◌≡◌, ℕ, ◌+◌, ◌<◌, List, [], ◌∷◌, ◌++◌, reverse, Some}
+use Rattle.std.specs.Prelude.{◌≡◌, ℕ, ◌<◌, List, [], ◌∷◌, ◌++◌, reverse, Some}
+use Rattle.terms.specs.Parties.{client_party}
 use Rattle.tuple_codec.specs.Operations.{Operation, Outcome}
 use Rattle.terms.specs.declared.order.Mode.TheVariants as modes
 use Rattle.wire_format.specs.Messages.{reply as Reply}
@@ -22,19 +23,19 @@ pub record Read : Type 0 where
 -- Each reply is read-only, with the number 1, and the client hears it.
 abbrev pub IsReadOf : Configuration → ℕ → Read → Type 0
 IsReadOf c k read =
-    (r : ℕ) → r < 4 → heard (members c) (256 + k) (read.reply r)
-    ≡ Some (record { sender = r; message = Reply (256 + k) 1 modes.ReadOnly 1 read.answer })
+    (r : ℕ) → r < 4 → heard (members c) (client_party k) (read.reply r)
+    ≡ Some (record { sender = r; message = Reply (client_party k) 1 modes.ReadOnly 1 read.answer })
 
 -- the client calls its read and asks for it
 abbrev pub called : ℕ → Read → List Entry
-called k read = Invoke k 1 read.op ∷ Sent (256 + k) read.request ∷ []
+called k read = Invoke k 1 read.op ∷ Sent (client_party k) read.request ∷ []
 
 -- three replicas answer, and the client accepts
 abbrev pub answered : ℕ → Read → List Entry
 answered k read =
     Got 0 read.request ∷ Sent 0 (read.reply 0) ∷ Got 1 read.request ∷ Sent 1 (read.reply 1) ∷ Got 2 read.request
     ∷ Sent 2 (read.reply 2)
-    ∷ Got (256 + k) (read.reply 0) ∷ Got (256 + k) (read.reply 1) ∷ Got (256 + k) (read.reply 2)
+    ∷ Got (client_party k) (read.reply 0) ∷ Got (client_party k) (read.reply 1) ∷ Got (client_party k) (read.reply 2)
     ∷ Accepted k 1 read.answer
     ∷ []
 
@@ -47,7 +48,7 @@ reads_trace op batch w read =
 -- a client's read as an item at a position
 abbrev pub read_item : ℕ → Read → ℕ → Item
 read_item k read position =
-    record { client = 256 + k; timestamp = 1; op = read.op; answer = read.answer; position = position }
+    record { client = client_party k; timestamp = 1; op = read.op; answer = read.answer; position = position }
 
 -- Its points. The operation has its point where the third replica executes it. The reads that were called before it
 -- have theirs there too, after it and by client. The read that was called after it has its point where it is called.

@@ -3,6 +3,8 @@
 use Rattle.std.specs.Prelude.{◌≡◌, ◌≢◌, ◌↔◌, ℕ, suc, ◌+◌, ◌<◌, ◌⊎◌, Bool, true, false, not, List, [], ◌∷◌, length, Option, Some, None, ⊤, All, AllPairs}
 use Rattle.std.specs.List.{concat}
 use Rattle.std.specs.Option.{option_map_or}
+use Rattle.terms.specs.Parties.{client_party}
+use Rattle.terms.specs.declared.parties.TheConstants.{MAX_CLIENTS}
 use Rattle.tuple_codec.specs.Operations.{Operation, IsOperation}
 use Rattle.partition_tree.specs.Digests.{inner_digests, page_digests}
 use Rattle.wire_format.specs.Messages.{BodyData as Body, MessageData as Message, pre_prepare as PrePrepare, new_view as NewView, meta as Meta, page as Page}
@@ -38,7 +40,7 @@ abbrev pub WidestIsValid : Type 0
 WidestIsValid =
     (seed faulty_replicas faulty_clients : List ℕ) → length seed ≡ 32
     → length faulty_replicas ≡ 3 → All (λ r. r < 10) faulty_replicas → AllPairs (λ r s. r ≢ s) faulty_replicas
-    → All (λ k. k < 256) faulty_clients → AllPairs (λ k l. k ≢ l) faulty_clients
+    → All (λ k. k < MAX_CLIENTS) faulty_clients → AllPairs (λ k l. k ≢ l) faulty_clients
     → IsConfiguration (widest seed faulty_replicas faulty_clients)
 
 -- Four replicas and one client, none of them faulty, and the shortest period.
@@ -60,14 +62,14 @@ ReplicasAreCorrect =
 abbrev pub ClientsAreCorrect : Type 0
 ClientsAreCorrect =
     (c : Configuration) (k : ℕ)
-    → (is_correct_client c (256 + k) ≡ true) ↔ ((k < c.clients) × (Has (λ l. l ≡ k) c.faulty_clients → ⊥))
+    → (is_correct_client c (client_party k) ≡ true) ↔ ((k < c.clients) × (Has (λ l. l ≡ k) c.faulty_clients → ⊥))
 
 -- a correct party is one of the two.
 abbrev pub CorrectAreBoth : Type 0
 CorrectAreBoth =
     (c : Configuration) (p : ℕ)
     → (is_correct c p ≡ true) ↔
-    ((is_correct_replica c p ≡ true) ⊎ ((k : ℕ) × (p ≡ 256 + k) × (is_correct_client c (256 + k) ≡ true)))
+    ((is_correct_replica c p ≡ true) ⊎ ((k : ℕ) × (p ≡ client_party k) × (is_correct_client c (client_party k) ≡ true)))
 
 -- ---- primaries
 
@@ -109,9 +111,9 @@ ReplicasGoOn =
 abbrev pub RunsTakeCalls : Type 0
 RunsTakeCalls =
     (c : Configuration) → IsConfiguration c → (trace : List Entry) → IsRun c trace → (k : ℕ) (op : Operation)
-    → is_correct_client c (256 + k) ≡ true
-    → IsOperation op → open_call (history_of (256 + k) trace) ≡ None
-    → IsRun c (Invoke k (suc (last_call (history_of (256 + k) trace))) op ∷ trace)
+    → is_correct_client c (client_party k) ≡ true
+    → IsOperation op → open_call (history_of (client_party k) trace) ≡ None
+    → IsRun c (Invoke k (suc (last_call (history_of (client_party k) trace))) op ∷ trace)
 
 -- ---- bytes that a party may receive in an unforged trace
 

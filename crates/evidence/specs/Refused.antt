@@ -1,5 +1,6 @@
 -- Small histories that the definitions refuse: what wrong replicas, primaries and clients would make.
 use Rattle.std.specs.Prelude.{◌≡◌, ◌≢◌, ℕ, suc, ◌+◌, ◌-◌, ◌*◌, ◌%◌, ◌^◌, ◌≤◌, ◌<◌, ◌⊎◌, true, false, Bool, List, [], ◌∷◌, ◌++◌, length, map, slice_get, slice_index_or, Some, None, fold, ⊤, All}
+use Rattle.terms.specs.Parties.{client_number, client_party}
 use Rattle.sha2.specs.Sha256.{sha256}
 use Rattle.partition_tree.specs.Digests.{inner_digest, digest_of_children, root_of as root_of_pages}
 use Rattle.tuple_codec.specs.Operations.{Operation, Outcome}
@@ -183,7 +184,7 @@ ReadsWhatWasAsked =
     → SafeReplica c me (Sent me bytes ∷ past)
     → (op : Operation) × (is_read_only op ≡ true)
     × Once (Hears c me (record { sender = client; message = Request timestamp modes.ReadOnly op })) past
-    × (point : Point) × HistoryReaches c me past point × (answer ≡ outcome (tuples point.state) (client - 256) op)
+    × (point : Point) × HistoryReaches c me past point × (answer ≡ outcome (tuples point.state) (client_number client) op)
 
 -- An execution that skips a number, or goes back.
 abbrev pub ExecutesNext : Type 0
@@ -263,7 +264,7 @@ GivesAskedPages =
 -- the reply to the client k that gives its kept reply
 abbrev pub IsReplyOf : ℕ → Kept → ℕ → ℕ → ℕ → Outcome → Type 0
 IsReplyOf k kept client timestamp number answer =
-    (client ≡ 256 + k) × (kept.timestamp ≡ timestamp) × (kept.number ≡ number) × (kept.outcome ≡ answer)
+    (client ≡ client_party k) × (kept.timestamp ≡ timestamp) × (kept.number ≡ number) × (kept.outcome ≡ answer)
 
 -- An ordered reply, if no request ran in the event with that client, timestamp, number and answer, and none is kept.
 abbrev pub RepliesWhatRan : Type 0
@@ -297,7 +298,7 @@ RepliesOfExecuted =
     (c : Configuration) (me client timestamp number : ℕ) (answer : Outcome) (bytes : List ℕ) (past : List Entry)
     → said bytes ≡ Some (record { sender = me; message = Reply client timestamp modes.Ordered number answer })
     → Always NoInstallation past → SafeReplica c me (Sent me bytes ∷ past)
-    → (k : ℕ) × (client ≡ 256 + k) × Once (ExecutesRequest c number k timestamp) past
+    → (k : ℕ) × (client ≡ client_party k) × Once (ExecutesRequest c number k timestamp) past
 
 -- ---- whom a frame is for
 
@@ -473,7 +474,7 @@ AnswersReads =
     (outputs past : List Entry)
     → heard (members c) me bytes ≡ Some (record { sender = client; message = Request timestamp modes.ReadOnly op })
     → is_read_only op ≡ true
-    → AtEachPoint c me past (λ point. outcome (tuples point.state) (client - 256) op ≡ answer)
+    → AtEachPoint c me past (λ point. outcome (tuples point.state) (client_number client) op ≡ answer)
     → GoesOn c me outputs (Got me bytes) past
     → SendsMessage me (Reply client timestamp modes.ReadOnly (newest_number past) answer) outputs
 
@@ -528,7 +529,7 @@ InstallsFetched =
 abbrev pub AnswersAgain : Type 0
 AnswersAgain =
     (c : Configuration) (me k : ℕ) (op : Operation) (kept : Kept) (bytes : List ℕ) (outputs past : List Entry)
-    → heard (members c) me bytes ≡ Some (record { sender = 256 + k; message = Request kept.timestamp modes.Ordered op })
+    → heard (members c) me bytes ≡ Some (record { sender = client_party k; message = Request kept.timestamp modes.Ordered op })
     → AtEachPoint c me past (λ point. kept_of point.state k ≡ Some kept) → GoesOn c me outputs (Got me bytes) past
     → SendsMessage me (reply_of k kept) outputs
 

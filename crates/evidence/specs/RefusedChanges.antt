@@ -1,5 +1,7 @@
 -- Small histories that the definitions of view changes, calls, dropped inputs and waiting requests refuse.
 use Rattle.std.specs.Prelude.{◌≡◌, ◌≢◌, ℕ, suc, ◌+◌, ◌*◌, ◌/◌, ◌%◌, ◌^◌, ◌≤◌, ◌<◌, ◌⊎◌, Bool, true, false, not, ◌&&◌, ◌==◌, nat_lt, max, List, [], ◌∷◌, ◌++◌, slice_get, Some, None}
+use Rattle.terms.specs.Parties.{client_party}
+use Rattle.terms.specs.declared.parties.TheConstants.{FIRST_CLIENT}
 use Rattle.sha2.specs.Sha256.{sha256}
 use Rattle.quorum.specs.Quorum.{count_below}
 use Rattle.tuple_codec.specs.Operations.{Operation, IsOperation}
@@ -166,14 +168,14 @@ DropsWrites =
 abbrev pub DropsRequestsOfReplicas : Type 0
 DropsRequestsOfReplicas =
     (c : Configuration) (me s timestamp : ℕ) (op : Operation) (bytes : List ℕ) (past : List Entry)
-    → s < 256 → Answers c me s (Request timestamp modes.Ordered op) bytes past → ⊥
+    → s < FIRST_CLIENT → Answers c me s (Request timestamp modes.Ordered op) bytes past → ⊥
 
 -- An ordered request older than the client's last.
 abbrev pub DropsOldRequests : Type 0
 DropsOldRequests =
     (c : Configuration) (me k timestamp : ℕ) (op : Operation) (bytes : List ℕ) (past : List Entry)
     → AtEachPoint c me past (λ point. timestamp < last_time point.state k)
-    → Answers c me (256 + k) (Request timestamp modes.Ordered op) bytes past → ⊥
+    → Answers c me (client_party k) (Request timestamp modes.Ordered op) bytes past → ⊥
 
 -- An ordered request older than one of the client's that waits, or another of its timestamp, and not the last that ran.
 abbrev pub DropsPassedRequests : Type 0
@@ -183,7 +185,7 @@ DropsPassedRequests =
     (λ point. (last_time point.state k ≢ timestamp)
     × Has (λ call. (call.client ≡ k) × (timestamp ≤ call.timestamp)
     × (call.timestamp ≡ timestamp → call.op ≢ op)) point.waiting)
-    → Answers c me (256 + k) (Request timestamp modes.Ordered op) bytes past → ⊥
+    → Answers c me (client_party k) (Request timestamp modes.Ordered op) bytes past → ⊥
 
 -- A pre-prepare by another than the view's primary, one while not active in the view, one outside the marks, and a
 -- second one for a number that is logged.
@@ -345,7 +347,7 @@ DropsOtherPages =
 abbrev pub WaitsOnceGot : Type 0
 WaitsOnceGot =
     (c : Configuration) (me k timestamp : ℕ) (op : Operation) (bytes : List ℕ) (past : List Entry)
-    → heard (members c) me bytes ≡ Some (record { sender = 256 + k; message = Request timestamp modes.Ordered op })
+    → heard (members c) me bytes ≡ Some (record { sender = client_party k; message = Request timestamp modes.Ordered op })
     → k < c.clients
     → AtEachPoint c me past
     (λ point. (last_time point.state k < timestamp)

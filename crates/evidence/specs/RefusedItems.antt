@@ -1,5 +1,6 @@
 -- What the definitions of a linear list of items refuse, clause by clause, and two traces that are not linearizable.
-use Rattle.std.specs.Prelude.{◌≡◌, ◌≢◌, ℕ, ◌+◌, ◌≤◌, ◌<◌, true, false, List, [], ◌∷◌, ◌++◌, length, slice_get, Some}
+use Rattle.std.specs.Prelude.{◌≡◌, ◌≢◌, ℕ, ◌≤◌, ◌<◌, true, false, List, [], ◌∷◌, ◌++◌, length, slice_get, Some}
+use Rattle.terms.specs.Parties.{client_party}
 use Rattle.tuple_tree.specs.Values.{TupleTree, TemplateTree}
 use Rattle.tuple_codec.specs.Operations.{out, rdp, Outcome, done, found, absent}
 use Rattle.template_match.specs.Tests.{is_match}
@@ -33,8 +34,8 @@ abbrev pub ListsWhatIsAccepted : Type 0
 ListsWhatIsAccepted =
     (c : Configuration) (items : List Item) (trace : List Entry) (client timestamp : ℕ) (answer : Outcome)
     → Covers c items trace
-    → is_correct_client c (256 + client) ≡ true → Has (λ e. e ≡ Accepted client timestamp answer) trace
-    → Has (λ (item : Item). (item.client ≡ 256 + client) × (item.timestamp ≡ timestamp) × (item.answer ≡ answer)
+    → is_correct_client c (client_party client) ≡ true → Has (λ e. e ≡ Accepted client timestamp answer) trace
+    → Has (λ (item : Item). (item.client ≡ client_party client) × (item.timestamp ≡ timestamp) × (item.answer ≡ answer)
     × Has (λ e. e ≡ Invoke client timestamp item.op) trace) items
 
 -- A list with an item of a correct client that it did not call.
@@ -42,7 +43,7 @@ abbrev pub ListsWhatIsCalled : Type 0
 ListsWhatIsCalled =
     (c : Configuration) (items : List Item) (trace : List Entry) (item : Item) (client : ℕ) → Covers c items trace
     → Has (λ x. x ≡ item) items
-    → item.client ≡ 256 + client → is_correct_client c item.client ≡ true
+    → item.client ≡ client_party client → is_correct_client c item.client ≡ true
     → Has (λ e. e ≡ Invoke client item.timestamp item.op) trace
 
 -- a correct replica got the item's ordered request authentic to itself, alone or carried
@@ -81,7 +82,7 @@ abbrev pub PlacesBehindCalls : Type 0
 PlacesBehindCalls =
     (c : Configuration) (items : List Item) (trace : List Entry) (item : Item) (client : ℕ) → Placed c items trace
     → Has (λ x. x ≡ item) items
-    → item.client ≡ 256 + client → is_correct_client c item.client ≡ true
+    → item.client ≡ client_party client → is_correct_client c item.client ≡ true
     → Once (λ past e. (e ≡ Invoke client item.timestamp item.op) × (length past ≤ item.position)) trace
 
 -- A list with an item of a correct client after its acceptance.
@@ -89,7 +90,7 @@ abbrev pub PlacesBeforeAcceptances : Type 0
 PlacesBeforeAcceptances =
     (c : Configuration) (items : List Item) (later past : List Entry) (item : Item) (client : ℕ) (answer : Outcome)
     → Placed c items (later ++ Accepted client item.timestamp answer ∷ past) → Has (λ x. x ≡ item) items
-    → item.client ≡ 256 + client → is_correct_client c item.client ≡ true → item.position ≤ length past
+    → item.client ≡ client_party client → is_correct_client c item.client ≡ true → item.position ≤ length past
 
 -- ---- linear
 
@@ -103,7 +104,7 @@ LinearIsAllThree =
 abbrev pub WritesAreSeen : Type 0
 WritesAreSeen =
     (c : Configuration) (writer reader : ℕ) (t : TupleTree) (p : TemplateTree) → writer ≢ reader
-    → is_correct_client c (256 + writer) ≡ true → is_correct_client c (256 + reader) ≡ true → is_match p t ≡ true
+    → is_correct_client c (client_party writer) ≡ true → is_correct_client c (client_party reader) ≡ true → is_match p t ≡ true
     → Linear c (Accepted reader 1 absent ∷ Invoke reader 1 (rdp p) ∷ Accepted writer 1 done ∷ Invoke writer 1 (out t)
     ∷ []) → ⊥
 
@@ -111,6 +112,6 @@ WritesAreSeen =
 abbrev pub ReadsAreNotEarly : Type 0
 ReadsAreNotEarly =
     (c : Configuration) (writer reader : ℕ) (t : TupleTree) (p : TemplateTree) → writer ≢ reader
-    → is_correct_client c (256 + writer) ≡ true → is_correct_client c (256 + reader) ≡ true
+    → is_correct_client c (client_party writer) ≡ true → is_correct_client c (client_party reader) ≡ true
     → Linear c (Accepted writer 1 done ∷ Invoke writer 1 (out t) ∷ Accepted reader 1 (found t) ∷ Invoke reader 1 (rdp p)
     ∷ []) → ⊥

@@ -1,5 +1,6 @@
 -- A waiting request comes again, and a correct replica does not send again what it sent.
-use Rattle.std.specs.Prelude.{◌≡◌, ℕ, ◌+◌, ◌<◌, true, List, Some}
+use Rattle.std.specs.Prelude.{◌≡◌, ℕ, ◌<◌, true, List, Some}
+use Rattle.terms.specs.Parties.{client_party}
 use Rattle.terms.specs.declared.order.Mode.TheVariants as modes
 use Rattle.wire_format.specs.Messages.{ViewChangeData, NewViewData, CheckpointEntryData as CheckpointEntry, request as Request, pre_prepare as PrePrepare, prepare as Prepare, commit as Commit, checkpoint as Checkpoint, view_change as ViewChange, new_view as NewView}
 use Rattle.signing.specs.Heard.{heard}
@@ -15,7 +16,7 @@ use Rattle.evidence.specs.Refused.{AtEachPoint, GoesOn}
 pub record GetsAgain (c : Configuration) (me : ℕ) (bytes : List ℕ) (outputs past : List Entry) : Type 0 where
   pub call : Call
   pub hears : heard (members c) me bytes
-      ≡ Some (record { sender = 256 + call.client; message = Request call.timestamp modes.Ordered call.op })
+      ≡ Some (record { sender = client_party call.client; message = Request call.timestamp modes.Ordered call.op })
   pub waits : AtEachPoint c me past (λ point. Has (λ x. x ≡ call) point.waiting)
   pub goes : GoesOn c me outputs (Got me bytes) past
 

@@ -1,5 +1,6 @@
 -- What the definitions of reports and of a schedule's steps refuse, and the definition of a signed frame.
-use Rattle.std.specs.Prelude.{◌≡◌, ◌≢◌, ℕ, ◌+◌, ◌≤◌, ◌<◌, ◌⊎◌, true, false, List, [], ◌∷◌, ◌++◌, length, Some, None, All, AllPairs, ⊤}
+use Rattle.std.specs.Prelude.{◌≡◌, ◌≢◌, ℕ, ◌≤◌, ◌<◌, ◌⊎◌, true, false, List, [], ◌∷◌, ◌++◌, length, Some, None, All, AllPairs, ⊤}
+use Rattle.terms.specs.Parties.{client_party}
 use Rattle.tuple_codec.specs.Operations.{Operation, IsOperation}
 use Rattle.wire_format.specs.Messages.{BodyData as Body, MessageData as Message, FrameData as Frame, signature}
 use Rattle.wire_format.specs.Spelling.{IsMessage, is_signed, frame_limit, body_spelling}
@@ -79,7 +80,7 @@ FirstOperationIsReported =
 -- limits.
 abbrev pub MayBeFed : Configuration → List Entry → Entry → Type 0
 MayBeFed c past (Invoke k timestamp op) =
-    (is_correct_client c (256 + k) ≡ true) × (open_call (history_of (256 + k) past) ≡ None) × IsOperation op
+    (is_correct_client c (client_party k) ≡ true) × (open_call (history_of (client_party k) past) ≡ None) × IsOperation op
 MayBeFed c past (Got p bytes) = is_correct c p ≡ true
 MayBeFed c past (Tick p) = is_correct c p ≡ true
 MayBeFed c past _ = ⊤
@@ -148,7 +149,7 @@ SignedIsNewest =
 -- a step that may come after the trace, with these frames made
 abbrev pub MayCome : Configuration → List Made → List Entry → Step → Type 0
 MayCome c frames trace (calls k op) =
-    (is_correct_client c (256 + k) ≡ true) × (open_call (history_of (256 + k) trace) ≡ None) × IsOperation op
+    (is_correct_client c (client_party k) ≡ true) × (open_call (history_of (client_party k) trace) ≡ None) × IsOperation op
 MayCome c frames trace (deliver frame party) = (frame < length frames) × (is_correct c party ≡ true)
 MayCome c frames trace (feed party text) = is_correct c party ≡ true
 MayCome c frames trace (ticks party) = is_correct c party ≡ true

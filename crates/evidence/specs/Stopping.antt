@@ -1,5 +1,6 @@
 -- A party may stop: after any history of a correct one, it takes inputs and gives no output.
-use Rattle.std.specs.Prelude.{◌≡◌, ℕ, suc, ◌+◌, List, ◌∷◌, None}
+use Rattle.std.specs.Prelude.{◌≡◌, ℕ, suc, List, ◌∷◌, None}
+use Rattle.terms.specs.Parties.{client_party}
 use Rattle.tuple_codec.specs.Operations.{Operation, IsOperation}
 use Rattle.protocol.specs.System.Configuration.{Configuration}
 use Rattle.protocol.specs.System.Trace.{Entry}
@@ -14,7 +15,7 @@ TakesInputs me Is past = ((bytes : List ℕ) → Is (Got me bytes ∷ past)) × 
 -- the client calls, if no call is open
 abbrev pub TakesCalls : Configuration → ℕ → List Entry → Type 0
 TakesCalls c me past =
-    (k : ℕ) (op : Operation) → me ≡ 256 + k → open_call past ≡ None → IsOperation op
+    (k : ℕ) (op : Operation) → me ≡ client_party k → open_call past ≡ None → IsOperation op
     → IsClient c me (Invoke k (suc (last_call past)) op ∷ past)
 
 -- A correct replica's history stays one if the replica takes an input and gives nothing: it stopped.

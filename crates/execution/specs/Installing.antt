@@ -1,6 +1,8 @@
 -- The state that has given pages, and whether it may replace another.
 use Rattle.std.specs.Prelude.{◌≡◌, ℕ, ◌+◌, ◌≤◌, ◌<◌, List, [], length, slice_index_or}
-use Rattle.protocol.specs.Replica.State.{State, IsReplicatedState, last_time, pages_of}
+use Rattle.partition_tree.specs.declared.tree.TheConstants.{PAGES}
+use Rattle.terms.specs.declared.parties.TheConstants.{MAX_CLIENTS}
+use Rattle.protocol.specs.Replica.State.{State, IsReplicatedState, last_time, pages_of, header_page}
 
 -- The state has this number and these pages.
 pub record HasPagesAt (n : ℕ) (texts : List (List ℕ)) (st : State) : Type 0 where
@@ -24,9 +26,9 @@ AreNoStates number pages = (st : State) → HasPagesAt number pages st → ⊥
 
 -- These are the texts of the 256 pages from the first on.
 pub record AreTexts (pages : List (List ℕ)) (first : ℕ) (texts : List (List ℕ)) : Type 0 where
-  pub all : length texts ≡ 256
-  pub each : (i : ℕ) → i < 256 → slice_index_or texts i [] ≡ slice_index_or pages (first + i) []
+  pub all : length texts ≡ MAX_CLIENTS
+  pub each : (i : ℕ) → i < MAX_CLIENTS → slice_index_or texts i [] ≡ slice_index_or pages (first + i) []
 
 -- The pages after the header have no text.
 abbrev pub NoneBehind : List (List ℕ) → Type 0
-NoneBehind pages = (page : ℕ) → 512 < page → page < 1024 → slice_index_or pages page [] ≡ []
+NoneBehind pages = (page : ℕ) → header_page < page → page < PAGES → slice_index_or pages page [] ≡ []

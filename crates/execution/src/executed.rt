@@ -8,6 +8,7 @@ ghost use Rattle.execution.specs.Installing.{HasPagesAt, NoneFalls, NoneReplaces
 ghost use Rattle.execution.specs.contracts.executed.Executed.{the_row};
 ghost use Rattle.std.specs.Borrow.{sem};
 ghost use Rattle.std.specs.Io.BufRead.{Rests};
+ghost use Rattle.terms.specs.declared.parties.TheConstants.{MAX_CLIENTS};
 
 use crate::installing::{none_falls, read_pages};
 use crate::pages::renew;
@@ -53,7 +54,7 @@ impl Model for Executed {
 impl Executed {
     /// The state before the first batch, with so many clients. NoMemory if memory runs out.
     pub fn new(alloc: Global, clients: u16) -> Result<Executed, NoMemory>
-        requires { clients ≤ 256 }
+        requires { clients ≤ MAX_CLIENTS }
         ensures { IfOk result (λ e. e ≡ record { state = opening; clients = clients }) }
     {
         let tree = Tree::new(alloc)?;
@@ -78,7 +79,7 @@ impl Executed {
     /// How many clients there are.
     pub fn clients(&self) -> u16
         ensures value { result ≡ self.now.clients }
-        ensures most { result ≤ 256 }
+        ensures most { result ≤ MAX_CLIENTS }
     {
         self.clients
     }

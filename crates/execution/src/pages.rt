@@ -106,7 +106,7 @@ fn text_of(
     index: usize,
 ) -> Result<Vec<u8>, NoMemory>
     requires index { index < TEXTS }
-    requires written { index < 256 → IsWrittenAs space.now index (slice_index_or tree.now index []) }
+    requires written { index < TUPLE_PAGES → IsWrittenAs space.now index (slice_index_or tree.now index []) }
     ensures { IfOk result (λ text.
         text.items ≡ page_text (state_with number.0 space.now.state replies.now) index) }
 {

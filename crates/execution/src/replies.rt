@@ -32,7 +32,7 @@ impl WatchedReplies {
     /// Replies, all of them touched. Takes no memory.
     pub fn of(replies: ReplyCache) -> WatchedReplies
         ensures replies { result.replies ≡ replies }
-        ensures all { (client : ℕ) → client < 256 → is_touched result client ≡ true }
+        ensures all { (client : ℕ) → client < MAX_CLIENTS → is_touched result client ≡ true }
     {
         WatchedReplies {
             replies,
@@ -55,7 +55,7 @@ impl WatchedReplies {
         number: Number,
         answer: Answer<Global>,
     ) -> Result<(), NoMemory>
-        requires client { client.number < 256 }
+        requires client { client.number < MAX_CLIENTS }
         requires timestamp { 1 ≤ timestamp.0 }
         ensures ok { OnOk result (self.new.replies ≡ with_reply self.old.replies client.number
             (record { timestamp = timestamp.0; number = number.0; outcome = outcome_of answer })) }
@@ -78,7 +78,7 @@ impl WatchedReplies {
     /// Begins anew: no page is touched.
     pub fn untouch(&mut self)
         ensures replies { self.new.replies ≡ self.old.replies }
-        ensures none { (client : ℕ) → client < 256 → is_touched self.new client ≡ false }
+        ensures none { (client : ℕ) → client < MAX_CLIENTS → is_touched self.new client ≡ false }
     {
         self.touched = [false; MAX_CLIENTS];
     }

@@ -1,6 +1,8 @@
 //! Running the requests of a batch.
 
 ghost use Rattle.std.specs.Prelude.{◌+◌, ◌*◌, ◌^◌, ◌<◌, ◌≤◌, map, length, OnOk};
+ghost use Rattle.space.specs.declared.births.TheConstants.{PAGES as TUPLE_PAGES};
+ghost use Rattle.terms.specs.declared.parties.TheConstants.{MAX_CLIENTS};
 ghost use Rattle.wire.specs.Headers.{IsFrame};
 ghost use Rattle.wire_format.specs.Lists.{Each};
 ghost use Rattle.execution.specs.Running.{so_far, Runs, RunsAll};
@@ -38,10 +40,10 @@ fn run_frame(
 ) -> Result<(), NoMemory>
     requires frame { IsFrame frame.now }
     requires births { space.old.state.next < 2 ^ 62 }
-    requires clients { clients ≤ 256 }
+    requires clients { clients ≤ MAX_CLIENTS }
     ensures runs { OnOk result (Runs clients number.0 frame.now
         (so_far space.old replies.old ran.old.items) (so_far space.new replies.new ran.new.items)) }
-    ensures births { space.new.state.next ≤ space.old.state.next + 256 }
+    ensures births { space.new.state.next ≤ space.old.state.next + TUPLE_PAGES }
     ensures changes { Changes space.old replies.old space.new replies.new }
 {
     let Some(call) = read_call(arena, frame, clients)? else {
@@ -74,11 +76,11 @@ pub fn run_frames(
     frames: &[&[u8]],
 ) -> Result<(), NoMemory>
     requires frames { Each IsFrame (map (λ frame. frame.now) frames.now) }
-    requires births { space.old.state.next + 256 * length frames.now < 2 ^ 62 }
-    requires clients { clients ≤ 256 }
+    requires births { space.old.state.next + TUPLE_PAGES * length frames.now < 2 ^ 62 }
+    requires clients { clients ≤ MAX_CLIENTS }
     ensures runs { OnOk result (RunsAll clients number.0 (map (λ frame. frame.now) frames.now)
         (so_far space.old replies.old ran.old.items) (so_far space.new replies.new ran.new.items)) }
-    ensures births { space.new.state.next ≤ space.old.state.next + 256 * length frames.now }
+    ensures births { space.new.state.next ≤ space.old.state.next + TUPLE_PAGES * length frames.now }
     ensures changes { Changes space.old replies.old space.new replies.new }
 {
     let arena = Bump::new(alloc);

@@ -1,6 +1,7 @@
 -- The histories of a cluster's parties, and the events that lengthen them. The newest entry stands first.
 use Rattle.std.specs.Prelude.{◌≡◌, ℕ, true, false, List, [], ◌∷◌, ◌++◌, filter}
 use Rattle.std.specs.List.{range_with_len}
+use Rattle.terms.specs.declared.parties.TheConstants.{FIRST_CLIENT}
 use Rattle.wire_format.specs.Lists.{Each}
 use Rattle.protocol.specs.System.Configuration.{Configuration, replicas, is_correct, is_correct_replica, is_correct_client}
 use Rattle.protocol.specs.System.Trace.{Entry, party_of, is_output}
@@ -21,7 +22,7 @@ abbrev pub correct_replicas : Configuration → List ℕ
 correct_replicas c = correct_of c (range_with_len 0 (replicas c))
 
 abbrev pub correct_parties : Configuration → List ℕ
-correct_parties c = correct_replicas c ++ correct_of c (range_with_len 256 c.clients)
+correct_parties c = correct_replicas c ++ correct_of c (range_with_len FIRST_CLIENT c.clients)
 
 -- an output of the party
 abbrev pub IsOutputOf : ℕ → Entry → Type 0

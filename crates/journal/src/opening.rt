@@ -95,7 +95,7 @@ fn add_order_share<N: Naming>(
     shares: &mut Vec<OrderShare<N>>,
 ) -> Result<(), NoMemory>
     requires config { config.now ≡ N.config }
-    requires replica { number < 256 }
+    requires replica { number < FIRST_CLIENT }
     requires seen { IfSome seen.now (λ front. front ≡ []) }
     ensures { AddsShares config.now (number ∷ []) shares.old.items shares.new.items result }
 {

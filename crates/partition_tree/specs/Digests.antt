@@ -3,6 +3,7 @@
 -- the pages are the list of their texts.
 use Rattle.std.specs.Prelude.{ℕ, ◌*◌, List, [], map, take, drop, replicate}
 use Rattle.std.specs.List.{concat, range_with_len}
+use Rattle.partition_tree.specs.declared.tree.TheConstants.{PAGES}
 use Rattle.sha2.specs.Sha256.{sha256}
 
 -- The digest of a part: that of its children's digests in order, one after another.
@@ -27,4 +28,4 @@ root_of pages = digest_of_children (inner_digests pages)
 
 -- The pages of a new tree.
 unfoldable pub empty_pages : List (List ℕ)
-empty_pages = replicate 1024 []
+empty_pages = replicate PAGES []

@@ -1,5 +1,6 @@
 -- The model of the program's points.
-use Rattle.std.specs.Prelude.{◌+◌, List, map}
+use Rattle.std.specs.Prelude.{List, map}
+use Rattle.terms.specs.Parties.{client_party}
 use Rattle.tuple_codec.specs.OperationView.{operation_of, outcome_of}
 use Rattle.protocol.specs.Space.Linear.{Item, Placing}
 use Rattle.points.specs.declared.point.Point.{Point}
@@ -9,7 +10,7 @@ use Rattle.points.specs.declared.point.Placed.{Placed}
 abbrev pub item_of : Point → Item
 item_of p =
     record {
-      client = 256 + p.client.number;
+      client = client_party p.client.number;
       timestamp = p.timestamp.0;
       op = operation_of p.op;
       answer = outcome_of p.answer;

@@ -1,10 +1,12 @@
 -- Words of the private functions that find the reads: a scan's notes on each client.
-use Rattle.std.specs.Prelude.{◌≡◌, ℕ, ◌+◌, ◌<◌, ◌==◌, Bool, ◌&&◌, List, [], ◌∷◌, length, max, if◌then◌else◌, Option, Some, None, option_and_then, option_map}
+use Rattle.std.specs.Prelude.{◌≡◌, ℕ, ◌<◌, ◌==◌, Bool, ◌&&◌, List, [], ◌∷◌, length, max, if◌then◌else◌, Option, Some, None, option_and_then, option_map}
 use Rattle.std.specs.Bool.{then_some}
 use Rattle.std.specs.Map.{lookup}
 use Rattle.std.specs.Option.{option_map_or}
 use Rattle.std.specs.Ordering.{nat_cmp}
 use Rattle.std.specs.BTreeMap.{is_at}
+use Rattle.terms.specs.declared.parties.TheConstants.{FIRST_CLIENT}
+use Rattle.terms.specs.Parties.{client_party}
 use Rattle.terms.specs.declared.order.Mode.TheVariants as modes
 use Rattle.tuple_codec.specs.Operations.{Outcome}
 use Rattle.tuple_codec.specs.OperationView.{operation_of}
@@ -79,7 +81,7 @@ seat_read m at p timestamp answer seat =
 -- the read that an entry ends
 abbrev pub entry_read : Membership → (ℕ → ℕ) → List Entry → Entry → Option Placing
 entry_read m at past (Accepted client timestamp answer) =
-    seat_read m at (256 + client) timestamp answer (seat_of (256 + client) past)
+    seat_read m at (client_party client) timestamp answer (seat_of (client_party client) past)
 entry_read m at past _ = None
 
 -- a list with one more read, if there is one
@@ -112,12 +114,12 @@ seat_at seats client = option_map_or seat_data (lookup (is_at (nat_cmp client)) 
 
 -- the seats are those of the past
 abbrev pub AreSeats : List Entry → List (ℕ × Seat) → Type 0
-AreSeats past seats = (client : ℕ) → seat_at seats client ≡ seat_of (256 + client) past
+AreSeats past seats = (client : ℕ) → seat_at seats client ≡ seat_of (client_party client) past
 
 -- the party is this client, or none
 abbrev pub IsClientIn : ℕ → Option ℕ → Type 0
-IsClientIn party None = party < 256
-IsClientIn party (Some client) = party ≡ 256 + client
+IsClientIn party None = party < FIRST_CLIENT
+IsClientIn party (Some client) = party ≡ client_party client
 
 -- the entry is of this client, or of none
 abbrev pub IsClientOf : Entry → Option ℕ → Type 0

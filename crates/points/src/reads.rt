@@ -1,6 +1,7 @@
 //! The reads that clients accepted by read-only replies.
 
-ghost use Rattle.std.specs.Prelude.{◌≡◌, ◌+◌, ◌^◌, ◌==◌, IfOk, IsFalse, OnOk, option_map, reverse, slice_index};
+ghost use Rattle.std.specs.Prelude.{◌≡◌, ◌^◌, ◌==◌, IfOk, IsFalse, OnOk, option_map, reverse, slice_index};
+ghost use Rattle.terms.specs.Parties.{client_party};
 ghost use Rattle.tuple_codec.specs.OperationView.{outcome_of};
 ghost use Rattle.wire_format.specs.Views.{body_data};
 ghost use Rattle.signing.specs.Heard.{heard};
@@ -129,7 +130,7 @@ fn read_at(
     requires keys { publics.now ≡ ring.old.seed }
     ensures read { IfOk result (λ read. option_map placing_of read
         ≡ seat_read ring.old (position_in (reverse places.now.rises.items))
-        (256 + client.number) timestamp.0 (outcome_of answer.now) (seat_data seat.entry)) }
+        (client_party client.number) timestamp.0 (outcome_of answer.now) (seat_data seat.entry)) }
     ensures same { ring.new ≡ ring.old }
 {
     let Some(call) = seat.call else {
@@ -168,7 +169,7 @@ fn read_number(
 ) -> Result<Option<Number>, NoMemory>
     requires keys { publics.now ≡ ring.old.seed }
     ensures number { IfOk result (λ number. option_map (λ n. n.0) number
-        ≡ read_number ring.old (256 + client.number) timestamp.0 bytes.now) }
+        ≡ read_number ring.old (client_party client.number) timestamp.0 bytes.now) }
     ensures same { ring.new ≡ ring.old }
 {
     if !has_read_kind(bytes) {
@@ -199,7 +200,7 @@ fn hear_body(
     bytes: &[u8],
 ) -> Result<Option<Body>, NoMemory>
     requires keys { publics.now ≡ ring.old.seed }
-    ensures heard { IfOk result (λ body. heard ring.old (256 + client.number) bytes.now
+    ensures heard { IfOk result (λ body. heard ring.old (client_party client.number) bytes.now
         ≡ option_map body_data body) }
     ensures same { ring.new ≡ ring.old }
 {
@@ -217,7 +218,7 @@ fn hear_body(
 
 fn number_in(body: Body, client: ClientId, timestamp: Timestamp) -> Option<Number>
     ensures { option_map (λ n. n.0) result
-        ≡ number_in (256 + client.number) timestamp.0 (body_data body) }
+        ≡ number_in (client_party client.number) timestamp.0 (body_data body) }
 {
     let Body { sender: _, message } = body;
     match message {

@@ -1,6 +1,7 @@
 //! Running batches, on a state without pages.
 
 ghost use Rattle.std.specs.Prelude.{◌≡◌, ◌≤◌, IfOk, OnOk, map, reverse};
+ghost use Rattle.terms.specs.declared.parties.TheConstants.{MAX_CLIENTS};
 ghost use Rattle.wire.specs.Headers.{IsFrame};
 ghost use Rattle.wire_format.specs.Lists.{Each};
 ghost use Rattle.wire_format.specs.Words.{requests_of};
@@ -36,7 +37,7 @@ pub(crate) fn run_batches(
     places: &Places,
     batches: BTreeMap<u64, &[u8]>,
 ) -> Result<Vec<Placed>, NoMemory>
-    requires few { clients ≤ 256 }
+    requires few { clients ≤ MAX_CLIENTS }
     requires ascends { AscendsFrom 1 (numbered_of batches.entries) }
     ensures { IfOk result (λ found. RunsEach clients (reverse places.now.rises.items)
         (numbered_of batches.entry.entries) (placings_of found.items)) }
@@ -65,7 +66,7 @@ fn run_batch(
     turn: Turn,
     batch: &[u8],
 ) -> Result<(), NoMemory>
-    requires few { turn.clients ≤ 256 }
+    requires few { turn.clients ≤ MAX_CLIENTS }
     ensures { OnOk result (RunsAll turn (requests_of batch.now)
         (so_far space.old replies.old found.old.items)
         (so_far space.new replies.new found.new.items)) }
@@ -83,7 +84,7 @@ fn run_frames(
     frames: &[&[u8]],
 ) -> Result<(), NoMemory>
     requires frames { Each IsFrame (map (λ frame. frame.now) frames.now) }
-    requires few { turn.clients ≤ 256 }
+    requires few { turn.clients ≤ MAX_CLIENTS }
     ensures { OnOk result (RunsAll turn (map (λ frame. frame.now) frames.now)
         (so_far space.old replies.old found.old.items)
         (so_far space.new replies.new found.new.items)) }
@@ -104,7 +105,7 @@ fn run_frame(
     frame: &[u8],
 ) -> Result<(), NoMemory>
     requires frame { IsFrame frame.now }
-    requires few { turn.clients ≤ 256 }
+    requires few { turn.clients ≤ MAX_CLIENTS }
     ensures { OnOk result (Runs turn frame.now
         (so_far space.old replies.old found.old.items)
         (so_far space.new replies.new found.new.items)) }

@@ -1,5 +1,6 @@
 -- The body of a reply.
-use Rattle.std.specs.Prelude.{◌≡◌, ◌+◌}
+use Rattle.std.specs.Prelude.{◌≡◌}
+use Rattle.terms.specs.Parties.{client_party}
 use Rattle.terms.specs.declared.order.Mode.{Mode}
 use Rattle.terms.specs.declared.order.Number.{Number}
 use Rattle.terms.specs.declared.order.Timestamp.{Timestamp}
@@ -10,4 +11,4 @@ use Rattle.wire_format.specs.Messages.{MessageData as Message, reply}
 -- the message is the reply to this client's request
 abbrev pub IsReply : ClientId → Timestamp → Mode → Number → Outcome → Message → Type 0
 IsReply client timestamp mode number outcome message =
-    message ≡ reply (256 + client.number) timestamp.0 mode number.0 outcome
+    message ≡ reply (client_party client.number) timestamp.0 mode number.0 outcome

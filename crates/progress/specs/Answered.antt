@@ -1,6 +1,7 @@
 -- A call that enough correct replicas executed is answered: its client accepts, once it asks again and all is delivered
 -- (Castro and Liskov, TOCS 2002, on the client and on the last reply that replicas keep).
 use Rattle.std.specs.Prelude.{◌≡◌, ℕ, ◌+◌, ◌*◌, ◌≤◌, Bool, true, List, [], ◌++◌, Some}
+use Rattle.terms.specs.Parties.{client_party}
 use Rattle.quorum.specs.Quorum.{count_below}
 use Rattle.tuple_codec.specs.Operations.{Outcome}
 use Rattle.terms.specs.declared.order.Mode.TheVariants as modes
@@ -55,10 +56,10 @@ abbrev pub ExecutedCallsAreAccepted : Type 0
 ExecutedCallsAreAccepted =
     (c : Configuration) → IsConfiguration c → (later start : List Entry) → IsRun c (later ++ start)
     → OnlyTheseStopped c [] (later ++ start) → Unforged c (later ++ start) → NoCollision c (later ++ start)
-    → (k : ℕ) (call : OpenCall) (keeps : ℕ → Bool) → is_correct_client c (256 + k) ≡ true
-    → open_call (history_of (256 + k) start) ≡ Some call
+    → (k : ℕ) (call : OpenCall) (keeps : ℕ → Bool) → is_correct_client c (client_party k) ≡ true
+    → open_call (history_of (client_party k) start) ≡ Some call
     → 2 * c.faults + 1 ≤ count_below keeps (replicas c)
     → ((r : ℕ) → keeps r ≡ true
     → (is_correct_replica c r ≡ true) × KeepsReply c r (history_of r start) k call.timestamp)
-    → HasEntry (Tick (256 + k)) later → AllDelivered c later
+    → HasEntry (Tick (client_party k)) later → AllDelivered c later
     → (answer : Outcome) × HasEntry (Accepted k call.timestamp answer) later

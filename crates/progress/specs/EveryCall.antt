@@ -1,5 +1,6 @@
 -- The first view as a whole: if it goes on, every open call of a correct client is accepted.
 use Rattle.std.specs.Prelude.{◌≡◌, ℕ, suc, ◌+◌, ◌≤◌, true, List, [], ◌++◌, Some}
+use Rattle.terms.specs.Parties.{client_party}
 use Rattle.tuple_codec.specs.Operations.{Outcome}
 use Rattle.wire_format.specs.Messages.{pre_prepare as PrePrepare}
 use Rattle.protocol.specs.System.Configuration.{Configuration, IsConfiguration, primary, span, is_correct_replica, is_correct_client}
@@ -38,7 +39,7 @@ EveryCallIsAccepted =
     → IsRun c (again ++ (later ++ start)) → OnlyTheseStopped c [] (again ++ (later ++ start))
     → Unforged c (again ++ (later ++ start)) → NoCollision c (again ++ (later ++ start))
     → FirstViewGoesOn c later start → AllRedelivered c later start
-    → (k : ℕ) (call : OpenCall) → is_correct_client c (256 + k) ≡ true
-    → open_call (history_of (256 + k) start) ≡ Some call
-    → HasEntry (Tick (256 + k)) later → HasEntry (Tick (256 + k)) again → AllDelivered c again
+    → (k : ℕ) (call : OpenCall) → is_correct_client c (client_party k) ≡ true
+    → open_call (history_of (client_party k) start) ≡ Some call
+    → HasEntry (Tick (client_party k)) later → HasEntry (Tick (client_party k)) again → AllDelivered c again
     → (answer : Outcome) × HasEntry (Accepted k call.timestamp answer) (again ++ later)

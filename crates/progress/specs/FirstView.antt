@@ -1,6 +1,7 @@
 -- If no view changes at all, numbers may leave the marks, as checkpoints become stable: each correct replica still
 -- executes all numbers that the primary assigned.
 use Rattle.std.specs.Prelude.{◌≡◌, ℕ, ◌+◌, ◌≤◌, ◌<◌, true, List, [], ◌++◌, Some}
+use Rattle.terms.specs.Parties.{client_party}
 use Rattle.tuple_codec.specs.Operations.{Outcome}
 use Rattle.wire_format.specs.Messages.{pre_prepare as PrePrepare}
 use Rattle.protocol.specs.System.Configuration.{Configuration, IsConfiguration, primary, span, is_number, is_correct_replica, is_correct_client}
@@ -56,8 +57,8 @@ FirstCallsAreAccepted =
     → ((q : ℕ) → is_correct_replica c q ≡ true → is_active_in c (history_of q (later ++ start)) 0 ≡ true)
     → NoneInstalls c (later ++ start) → AllRedelivered c later start
     → ((r i : ℕ) → is_correct_replica c r ≡ true → reached start r < i → i ≤ m → IsGivenFirst c i later start)
-    → (k : ℕ) (call : OpenCall) → is_correct_client c (256 + k) ≡ true
-    → open_call (history_of (256 + k) start) ≡ Some call
+    → (k : ℕ) (call : OpenCall) → is_correct_client c (client_party k) ≡ true
+    → open_call (history_of (client_party k) start) ≡ Some call
     → (i : ℕ) → 1 ≤ i → i ≤ m → (given : IsGivenFirst c i later start) → HasRequest c k call.timestamp given.batch
-    → HasEntry (Tick (256 + k)) again → AllDelivered c again
+    → HasEntry (Tick (client_party k)) again → AllDelivered c again
     → (answer : Outcome) × HasEntry (Accepted k call.timestamp answer) (again ++ later)

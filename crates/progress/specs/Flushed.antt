@@ -1,5 +1,6 @@
 -- The same as schedules: a flush delivers all that is left, so a tick of the client and a flush are enough.
 use Rattle.std.specs.Prelude.{◌≡◌, ℕ, ◌+◌, ◌*◌, ◌≤◌, Bool, true, List, [], ◌∷◌, ◌++◌, reverse, Some}
+use Rattle.terms.specs.Parties.{client_party}
 use Rattle.quorum.specs.Quorum.{count_below}
 use Rattle.tuple_codec.specs.Operations.{Outcome}
 use Rattle.protocol.specs.System.Configuration.{Configuration, IsConfiguration, replicas, is_correct_replica, is_correct_client}
@@ -33,7 +34,7 @@ FlushesDeliverAll =
 
 -- The world that a tick of the client and a flush make.
 abbrev pub AsksAndFlushes : Configuration → ℕ → World → List Entry → World → Type 0
-AsksAndFlushes c client w entries v = StepsLead c w (ticks (256 + client) ∷ flush ∷ []) entries v
+AsksAndFlushes c client w entries v = StepsLead c w (ticks (client_party client) ∷ flush ∷ []) entries v
 
 -- From any world that is reached, let a correct client have a call open to which 2f + 1 correct replicas keep the
 -- reply. The client's tick and a flush make it accept, if nobody has stopped at the end.
@@ -42,7 +43,7 @@ FlushesBringAnswers =
     (c : Configuration) → IsConfiguration c → (w v : World) (entries : List Entry) → IsReached c w
     → (k : ℕ) (call : OpenCall) (keeps : ℕ → Bool) → AsksAndFlushes c k w entries v
     → IsRun c v.past → OnlyTheseStopped c [] v.past → Unforged c v.past → NoCollision c v.past
-    → is_correct_client c (256 + k) ≡ true → open_call (history_of (256 + k) w.past) ≡ Some call
+    → is_correct_client c (client_party k) ≡ true → open_call (history_of (client_party k) w.past) ≡ Some call
     → 2 * c.faults + 1 ≤ count_below keeps (replicas c)
     → ((r : ℕ) → keeps r ≡ true
     → (is_correct_replica c r ≡ true) × KeepsReply c r (history_of r w.past) k call.timestamp)

@@ -1,5 +1,6 @@
 -- Any view as a whole: if it goes on after it was entered, every open call of a correct client is accepted.
-use Rattle.std.specs.Prelude.{◌≡◌, ℕ, suc, ◌+◌, ◌≤◌, ◌<◌, ◌⊎◌, true, List, [], ◌++◌, Some, is_some}
+use Rattle.std.specs.Prelude.{◌≡◌, ℕ, suc, ◌≤◌, ◌<◌, ◌⊎◌, true, List, [], ◌++◌, Some, is_some}
+use Rattle.terms.specs.Parties.{client_party}
 use Rattle.tuple_codec.specs.Operations.{Outcome}
 use Rattle.protocol.specs.System.Configuration.{Configuration, IsConfiguration, primary, is_correct_replica, is_correct_client}
 use Rattle.protocol.specs.System.Trace.{Entry, history_of, Once, Unforged}
@@ -55,7 +56,7 @@ CallsOutliveChanges =
     → Unforged c (again ++ (later ++ start)) → NoCollision c (again ++ (later ++ start))
     → (v mark : ℕ) (root : List ℕ) → IsNextView c start v mark root → AllDelivered c start
     → ViewGoesOn c v later start → AllRedelivered c later start
-    → (k : ℕ) (call : OpenCall) → is_correct_client c (256 + k) ≡ true
-    → open_call (history_of (256 + k) start) ≡ Some call
-    → HasEntry (Tick (256 + k)) later → HasEntry (Tick (256 + k)) again → AllDelivered c again
+    → (k : ℕ) (call : OpenCall) → is_correct_client c (client_party k) ≡ true
+    → open_call (history_of (client_party k) start) ≡ Some call
+    → HasEntry (Tick (client_party k)) later → HasEntry (Tick (client_party k)) again → AllDelivered c again
     → (answer : Outcome) × HasEntry (Accepted k call.timestamp answer) (again ++ later)

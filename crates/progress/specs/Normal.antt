@@ -1,6 +1,7 @@
 -- The normal case (Castro and Liskov, TOCS 2002): each correct replica executes the batch that the correct primary of a
 -- view assigns to the next number, once all that is sent is delivered.
-use Rattle.std.specs.Prelude.{◌≡◌, ℕ, suc, ◌+◌, ◌≤◌, true, List, [], ◌++◌, Some, None}
+use Rattle.std.specs.Prelude.{◌≡◌, ℕ, suc, ◌≤◌, true, List, [], ◌++◌, Some, None}
+use Rattle.terms.specs.Parties.{client_party}
 use Rattle.tuple_codec.specs.Operations.{Outcome}
 use Rattle.protocol.specs.System.Configuration.{Configuration, IsConfiguration, primary, is_correct_replica, is_correct_client}
 use Rattle.protocol.specs.System.Trace.{Entry, history_of, Unforged}
@@ -42,8 +43,8 @@ NextBatchesAreExecuted =
 abbrev pub CorrectRequestsAreGenuine : Type 0
 CorrectRequestsAreGenuine =
     (c : Configuration) → IsConfiguration c → (batch : List ℕ)
-    → Each (λ frame. (k : ℕ) × (call : OpenCall) × (is_correct_client c (256 + k) ≡ true)
-    × IsRequest c (256 + k) modes.Ordered call frame) (requests_of batch)
+    → Each (λ frame. (k : ℕ) × (call : OpenCall) × (is_correct_client c (client_party k) ≡ true)
+    × IsRequest c (client_party k) modes.Ordered call frame) (requests_of batch)
     → (r : ℕ) → is_correct_replica c r ≡ true → are_genuine c r batch ≡ true
 
 -- As above, with a request of a correct client's open call in the batch. Then the client asks again, as time goes by,
@@ -58,7 +59,7 @@ NormalCallsAreAccepted =
     → ((r : ℕ) → is_correct_replica c r ≡ true → IsSteady c v i later start r × (are_genuine c r batch ≡ true))
     → AllDelivered c later
     → logged c (primary c v) (history_of (primary c v) (later ++ start)) v i ≡ Some batch
-    → (k : ℕ) (call : OpenCall) → is_correct_client c (256 + k) ≡ true
-    → open_call (history_of (256 + k) start) ≡ Some call → HasRequest c k call.timestamp batch
-    → HasEntry (Tick (256 + k)) again → AllDelivered c again
+    → (k : ℕ) (call : OpenCall) → is_correct_client c (client_party k) ≡ true
+    → open_call (history_of (client_party k) start) ≡ Some call → HasRequest c k call.timestamp batch
+    → HasEntry (Tick (client_party k)) again → AllDelivered c again
     → (answer : Outcome) × HasEntry (Accepted k call.timestamp answer) (again ++ later)

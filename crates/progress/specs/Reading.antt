@@ -1,6 +1,7 @@
 -- A read that 2f + 1 correct replicas answer alike is accepted at once, without an ordered request (Castro and Liskov,
 -- TOCS 2002, on read-only operations).
 use Rattle.std.specs.Prelude.{◌≡◌, ℕ, ◌+◌, ◌*◌, ◌≤◌, Bool, true, List, [], ◌∷◌, ◌++◌}
+use Rattle.terms.specs.Parties.{client_party}
 use Rattle.quorum.specs.Quorum.{count_below}
 use Rattle.tuple_codec.specs.Operations.{Operation, Outcome}
 use Rattle.space.specs.Applying.{is_read_only}
@@ -23,7 +24,7 @@ ReadsAreAccepted =
     (c : Configuration) → IsConfiguration c → (k t n : ℕ) (op : Operation) (later start : List Entry)
     → IsRun c (later ++ Invoke k t op ∷ start) → OnlyTheseStopped c [] (later ++ Invoke k t op ∷ start)
     → Unforged c (later ++ Invoke k t op ∷ start) → NoCollision c (later ++ Invoke k t op ∷ start)
-    → is_correct_client c (256 + k) ≡ true → is_read_only op ≡ true
+    → is_correct_client c (client_party k) ≡ true → is_read_only op ≡ true
     → (answers : ℕ → Bool) → 2 * c.faults + 1 ≤ count_below answers (replicas c)
     → ((r : ℕ) → answers r ≡ true
     → (is_correct_replica c r ≡ true) × StaysAt n later (Invoke k t op ∷ start) r)

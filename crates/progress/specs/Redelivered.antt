@@ -1,6 +1,7 @@
 -- Lost frames may be sent again: if all frames that correct parties ever sent are delivered again, each correct replica
 -- executes all numbers that the primary assigned, whatever it missed.
-use Rattle.std.specs.Prelude.{◌≡◌, ℕ, suc, ◌+◌, ◌≤◌, ◌<◌, true, List, [], ◌∷◌, ◌++◌, reverse, filter, map, Some}
+use Rattle.std.specs.Prelude.{◌≡◌, ℕ, suc, ◌≤◌, ◌<◌, true, List, [], ◌∷◌, ◌++◌, reverse, filter, map, Some}
+use Rattle.terms.specs.Parties.{client_party}
 use Rattle.tuple_codec.specs.Operations.{Outcome}
 use Rattle.wire_format.specs.Messages.{pre_prepare as PrePrepare}
 use Rattle.protocol.specs.System.Configuration.{Configuration, IsConfiguration, primary, is_correct, is_correct_replica, is_correct_client}
@@ -85,10 +86,10 @@ GivenCallsAreAccepted =
     → (v m : ℕ) → is_correct_replica c (primary c v) ≡ true
     → ((q : ℕ) → is_correct_replica c q ≡ true → StaysActive c v later start q) → AllRedelivered c later start
     → ((r i : ℕ) → is_correct_replica c r ≡ true → reached start r < i → i ≤ m → IsGiven c v i later start)
-    → (k : ℕ) (call : OpenCall) → is_correct_client c (256 + k) ≡ true
-    → open_call (history_of (256 + k) start) ≡ Some call
+    → (k : ℕ) (call : OpenCall) → is_correct_client c (client_party k) ≡ true
+    → open_call (history_of (client_party k) start) ≡ Some call
     → (i : ℕ) → 1 ≤ i → i ≤ m → (given : IsGiven c v i later start) → HasRequest c k call.timestamp given.batch
-    → HasEntry (Tick (256 + k)) again → AllDelivered c again
+    → HasEntry (Tick (client_party k)) again → AllDelivered c again
     → (answer : Outcome) × HasEntry (Accepted k call.timestamp answer) (again ++ later)
 
 -- The same as a schedule, from any world that is reached and whose next entry is an input: all frames are delivered
@@ -103,7 +104,7 @@ RedeliveriesBringAnswers =
     → (v m : ℕ) → is_correct_replica c (primary c v) ≡ true
     → ((q : ℕ) → is_correct_replica c q ≡ true → StaysActive c v (reverse first) w.past q)
     → ((r i : ℕ) → is_correct_replica c r ≡ true → reached w.past r < i → i ≤ m → IsGiven c v i (reverse first) w.past)
-    → is_correct_client c (256 + k) ≡ true → open_call (history_of (256 + k) w.past) ≡ Some call
+    → is_correct_client c (client_party k) ≡ true → open_call (history_of (client_party k) w.past) ≡ Some call
     → (i : ℕ) → 1 ≤ i → i ≤ m → (given : IsGiven c v i (reverse first) w.past)
     → HasRequest c k call.timestamp given.batch
     → (answer : Outcome) × HasEntry (Accepted k call.timestamp answer) (first ++ more)

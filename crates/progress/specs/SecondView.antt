@@ -1,5 +1,6 @@
 -- The second view as a whole: if it goes on after a silent first one, every open call of a correct client is accepted.
 use Rattle.std.specs.Prelude.{◌≡◌, ℕ, suc, ◌+◌, ◌≤◌, true, List, [], ◌++◌, Some}
+use Rattle.terms.specs.Parties.{client_party}
 use Rattle.tuple_codec.specs.Operations.{Outcome}
 use Rattle.wire_format.specs.Messages.{NewViewData, pre_prepare as PrePrepare}
 use Rattle.protocol.specs.System.Configuration.{Configuration, IsConfiguration, primary, span, is_faulty_replica, is_correct_replica, is_correct_client}
@@ -46,9 +47,9 @@ SecondCallsAreAccepted =
     → Unforged c (again ++ (later ++ start)) → NoCollision c (again ++ (later ++ start))
     → SecondGoesOn c later start → ((q : ℕ) → is_correct_replica c q ≡ true → StaysActive c 1 later start q)
     → AllRedelivered c later start
-    → (k : ℕ) (call : OpenCall) → is_correct_client c (256 + k) ≡ true
-    → open_call (history_of (256 + k) start) ≡ Some call
-    → HasEntry (Tick (256 + k)) later → HasEntry (Tick (256 + k)) again → AllDelivered c again
+    → (k : ℕ) (call : OpenCall) → is_correct_client c (client_party k) ≡ true
+    → open_call (history_of (client_party k) start) ≡ Some call
+    → HasEntry (Tick (client_party k)) later → HasEntry (Tick (client_party k)) again → AllDelivered c again
     → (answer : Outcome) × HasEntry (Accepted k call.timestamp answer) (again ++ later)
 
 -- The faulty replicas are silent, the first view's primary among them, and the second one's primary is correct. No
@@ -76,10 +77,10 @@ CallsOutliveSilence =
     → Unforged c (again ++ (later ++ (ticks ++ (asks ++ start))))
     → NoCollision c (again ++ (later ++ (ticks ++ (asks ++ start))))
     → FaultyAreSilent c (later ++ (ticks ++ (asks ++ start))) → SecondHasRoom c later (ticks ++ (asks ++ start))
-    → (k : ℕ) (call : OpenCall) → is_correct_client c (256 + k) ≡ true
-    → open_call (history_of (256 + k) start) ≡ Some call
-    → HasEntry (Tick (256 + k)) asks → AllDelivered c asks
+    → (k : ℕ) (call : OpenCall) → is_correct_client c (client_party k) ≡ true
+    → open_call (history_of (client_party k) start) ≡ Some call
+    → HasEntry (Tick (client_party k)) asks → AllDelivered c asks
     → ((q : ℕ) → is_correct_replica c q ≡ true → TicksOrLeft q ticks (asks ++ start)) → AllDelivered c (ticks ++ (asks ++ start))
-    → HasEntry (Tick (256 + k)) later → AllRedelivered c later (ticks ++ (asks ++ start))
-    → HasEntry (Tick (256 + k)) again → AllDelivered c again
+    → HasEntry (Tick (client_party k)) later → AllRedelivered c later (ticks ++ (asks ++ start))
+    → HasEntry (Tick (client_party k)) again → AllDelivered c again
     → (answer : Outcome) × HasEntry (Accepted k call.timestamp answer) (again ++ (later ++ (ticks ++ asks)))

@@ -1,6 +1,7 @@
 -- A request that reaches the correct primary of a view gets a number, while one is free (Castro and Liskov, TOCS 2002,
 -- on normal-case operation).
-use Rattle.std.specs.Prelude.{◌≡◌, ℕ, ◌+◌, ◌⊎◌, true, List, [], ◌++◌, Some}
+use Rattle.std.specs.Prelude.{◌≡◌, ℕ, ◌⊎◌, true, List, [], ◌++◌, Some}
+use Rattle.terms.specs.Parties.{client_party}
 use Rattle.tuple_codec.specs.Operations.{Outcome}
 use Rattle.protocol.specs.System.Configuration.{Configuration, IsConfiguration, primary, is_correct_replica, is_correct_client}
 use Rattle.protocol.specs.System.Trace.{Entry, history_of, Unforged}
@@ -30,9 +31,9 @@ abbrev pub OpenCallsAreNumbered : Type 0
 OpenCallsAreNumbered =
     (c : Configuration) → IsConfiguration c → (later start : List Entry) → IsRun c (later ++ start)
     → OnlyTheseStopped c [] (later ++ start) → Unforged c (later ++ start) → NoCollision c (later ++ start)
-    → (k : ℕ) (call : OpenCall) → is_correct_client c (256 + k) ≡ true
-    → open_call (history_of (256 + k) start) ≡ Some call
-    → HasEntry (Tick (256 + k)) later → AllDelivered c later
+    → (k : ℕ) (call : OpenCall) → is_correct_client c (client_party k) ≡ true
+    → open_call (history_of (client_party k) start) ≡ Some call
+    → HasEntry (Tick (client_party k)) later → AllDelivered c later
     → (v : ℕ) → is_correct_replica c (primary c v) ≡ true
     → is_active_in c (history_of (primary c v) (later ++ start)) v ≡ true
     → ((answer : Outcome) × HasEntry (Accepted k call.timestamp answer) later)

@@ -1,7 +1,8 @@
 -- The answers of a replica to read-only requests (Castro and Liskov, Practical Byzantine fault tolerance and
 -- proactive recovery, TOCS 2002, on read-only operations).
-use Rattle.std.specs.Prelude.{◌≡◌, ℕ, ◌+◌, Bool, true, false, ◌||◌, ◌==◌, List, slice_index}
+use Rattle.std.specs.Prelude.{◌≡◌, ℕ, Bool, true, false, ◌||◌, ◌==◌, List, slice_index}
 use Rattle.std.specs.declared.alloc.Global.{Global}
+use Rattle.terms.specs.Parties.{client_party}
 use Rattle.terms.specs.declared.order.Mode.TheVariants as modes
 use Rattle.tuple_codec.specs.Operations.{Operation, Outcome}
 use Rattle.tuple_codec.specs.OperationView.{outcome_of}
@@ -31,7 +32,7 @@ reply_data r = message_data (messages.Reply r)
 -- the reply to a client's read-only request, from the state of a number
 abbrev pub read_reply : ℕ → ℕ → ℕ → Outcome → MessageData
 read_reply client timestamp number outcome =
-    reply (256 + client) timestamp modes.ReadOnly number outcome
+    reply (client_party client) timestamp modes.ReadOnly number outcome
 
 -- The operation is a read. The reply has its outcome on the shelf's tuples, and the shelf's number.
 pub record IsReadReply (shelf : Shelf) (request : ReadRequest) (op : Operation) (r : Reply) : Type 0 where

@@ -1,6 +1,7 @@
 -- Read-only requests as a replica hears them (Castro and Liskov, Practical Byzantine fault tolerance and proactive
 -- recovery, TOCS 2002, on read-only operations).
-use Rattle.std.specs.Prelude.{◌≡◌, ◌≢◌, ℕ, ◌+◌, List, Some}
+use Rattle.std.specs.Prelude.{◌≡◌, ◌≢◌, ℕ, List, Some}
+use Rattle.terms.specs.Parties.{client_party}
 use Rattle.terms.specs.declared.order.Mode.TheVariants as modes
 use Rattle.tuple_codec.specs.Operations.{Operation}
 use Rattle.tuple_codec.specs.Spelling.{SpellsOperation}
@@ -23,5 +24,5 @@ HearsNoRead bytes =
 pub record HearsRead (m : Membership) (me : ℕ) (bytes : List ℕ) (client timestamp : ℕ)
     (text : List ℕ) : Type 0 where
   pub op : Operation
-  pub hears : heard m me bytes ≡ Some (read_only_request (256 + client) timestamp op)
+  pub hears : heard m me bytes ≡ Some (read_only_request (client_party client) timestamp op)
   pub spelled : SpellsOperation text op

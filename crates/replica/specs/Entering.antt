@@ -1,5 +1,6 @@
 -- What a replica does with the bytes of an event.
-use Rattle.std.specs.Prelude.{◌≡◌, ◌+◌, ◌≤◌, ◌⊎◌, ℕ, false, List, [], Some}
+use Rattle.std.specs.Prelude.{◌≡◌, ◌≤◌, ◌⊎◌, ℕ, false, List, [], Some}
+use Rattle.terms.specs.Parties.{client_party}
 use Rattle.tuple_codec.specs.Operations.{Operation}
 use Rattle.terms.specs.declared.parties.ClientId.{ClientId}
 use Rattle.terms.specs.declared.parties.ReplicaId.{ReplicaId}
@@ -88,7 +89,7 @@ abbrev pub TakesRequest :
 TakesRequest client timestamp bytes old touched new outs =
     (op : Operation)
     → heard old.desk.membership old.desk.me bytes
-    ≡ Some (record { sender = 256 + client.number; message = Request timestamp.0 modes.Ordered op })
+    ≡ Some (record { sender = client_party client.number; message = Request timestamp.0 modes.Ordered op })
     → TakesBytes bytes old touched new outs
 
 -- And if they are this message of the replica's.

@@ -1,6 +1,8 @@
 //! What the replica does with a message that arrives.
 
-ghost use Rattle.std.specs.Prelude.{◌≡◌, ◌+◌, ◌<◌, true, false, [], Some, IfOk};
+ghost use Rattle.std.specs.Prelude.{◌≡◌, ◌<◌, true, false, [], Some, IfOk};
+ghost use Rattle.terms.specs.declared.parties.TheConstants.{FIRST_CLIENT};
+ghost use Rattle.terms.specs.Parties.{client_party};
 ghost use Rattle.wire.specs.Marks.{has_type_of_requests};
 ghost use Rattle.wire_format.specs.Messages.{pre_prepare, prepare, commit};
 ghost use Rattle.wire_format.specs.Spelling.{IsBatch};
@@ -94,7 +96,7 @@ impl Joined {
     // Drops a client's message, which arrived in this frame: clients send requests alone.
     fn on_client(&self, client: ClientId, message: Message, frame: &[u8]) -> Touched
         requires heard { heard self.now.desk.membership self.now.desk.me frame.now
-            ≡ Some (record { sender = 256 + client.number; message = message_data message }) }
+            ≡ Some (record { sender = client_party client.number; message = message_data message }) }
         requires other { has_type_of_requests frame.now ≡ false }
         ensures { TakesBytes frame.now self.now result self.now [] }
     {
@@ -190,7 +192,7 @@ fn has_type_of_view_changes(bytes: &[u8]) -> bool {
 
 // Tells a proof that a replica's number is below those of clients.
 fn note_replica(replica: ReplicaId)
-    ensures { replica.0 < 256 }
+    ensures { replica.0 < FIRST_CLIENT }
 {
     let _number = replica.0;
 }

@@ -1,5 +1,6 @@
 -- How a replica's desk and log fit its history: within an event, and between two.
-use Rattle.std.specs.Prelude.{◌≡◌, ℕ, suc, ◌%◌, ◌+◌, ◌≤◌, ◌<◌, ◌⊎◌, Bool, true, false, List, [], ◌∷◌, ◌++◌, Some, None, is_some, ⊤, map}
+use Rattle.std.specs.Prelude.{◌≡◌, ℕ, suc, ◌%◌, ◌≤◌, ◌<◌, ◌⊎◌, Bool, true, false, List, [], ◌∷◌, ◌++◌, Some, None, is_some, ⊤, map}
+use Rattle.terms.specs.Parties.{client_party}
 use Rattle.tuple_codec.specs.Operations.{Operation}
 use Rattle.terms.specs.declared.order.Mode.TheVariants as modes
 use Rattle.terms.specs.declared.state.Level.{Level}
@@ -30,7 +31,7 @@ pub use Rattle.replica_histories.specs.Running.{Start, after_outputs, Steps, AtE
 abbrev pub IsAsked : Configuration → ℕ → Start → ℕ → Kept → Type 0
 IsAsked c me s k kept =
     (timestamp : ℕ) × (op : Operation)
-    × Hears c me (record { sender = 256 + k; message = Request timestamp modes.Ordered op }) s.before s.input
+    × Hears c me (record { sender = client_party k; message = Request timestamp modes.Ordered op }) s.before s.input
     × (kept_of s.old.state k ≡ Some kept) × (kept.timestamp ≡ timestamp)
 
 -- A due message may be sent. It is a reply to a request that ran in the event, or the kept reply to the event's input.

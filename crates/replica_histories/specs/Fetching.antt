@@ -1,6 +1,7 @@
 -- The replica that fetches: its fetches, and the parts that arrive (Castro and Liskov, TOCS 2002, on state transfer).
 use Rattle.std.specs.Prelude.{◌≡◌, ℕ, ◌+◌, ◌*◌, ◌≤◌, ◌<◌, true, List, [], ◌∷◌, length, Option, Some}
 use Rattle.std.specs.Option.{ForSome}
+use Rattle.partition_tree.specs.declared.tree.TheConstants.{PAGES}
 use Rattle.sha2.specs.Sha256.{sha256}
 use Rattle.partition_tree.specs.Digests.{digest_of_children, root_of as root_of_pages}
 use Rattle.wire_format.specs.Messages.{BodyData as Body, MessageData as Message, CheckpointEntryData as CheckpointEntry, fetch as Fetch, meta as Meta, page as Page}
@@ -88,7 +89,7 @@ PagesEnter =
     (text bytes : List ℕ) (held : Holds c me desk log past)
     → desk.transfer ≡ Some t → t.asked ≡ page_place index
     → heard (members c) me bytes ≡ Some (record { sender = s; message = Page t.number index text })
-    → length t.held ≡ 1024 → length t.fetched ≡ 1024
+    → length t.held ≡ PAGES → length t.fetched ≡ PAGES
     → Fits c me (start_at c me desk log past held (Got me bytes)) desk log [] []
     × MayAsk c me (with_page t index text) desk.state.number (Got me bytes ∷ past)
 
@@ -154,7 +155,7 @@ FetchedSuffice =
     (bytes : List ℕ) (outputs : List Entry) (executed : ℕ) (held : Holds c me desk log past)
     → desk.transfer ≡ Some t → heard (members c) me bytes ≡ Some body → is_part body ≡ true
     → new.number ≡ t.number → MayAsk c me new desk.state.number (Got me bytes ∷ past) → RestsOnState new desk.state
-    → length new.held ≡ 1024 → root_of_pages new.held ≡ new.root → Reaches desk.state new executed
+    → length new.held ≡ PAGES → root_of_pages new.held ≡ new.root → Reaches desk.state new executed
     → AnswersInput c me past (Got me bytes) outputs held.of_desk.point executed
 
 -- ---- the open transfer

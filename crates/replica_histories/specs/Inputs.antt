@@ -1,7 +1,9 @@
 -- How an input changes a replica's desk and log, and which messages count (Castro and Liskov, TOCS 2002, on normal-case
 -- operation). The log's faults decide which ordering messages it takes.
-use Rattle.std.specs.Prelude.{◌≡◌, ℕ, ◌+◌, ◌-◌, ◌*◌, ◌<◌, ◌⊎◌, true, false, ◌&&◌, List, [], ◌∷◌, nat_le, nat_lt, ◌==◌, if◌then◌else◌, Option, Some, None, is_some, ⊤}
+use Rattle.std.specs.Prelude.{◌≡◌, ℕ, ◌+◌, ◌*◌, ◌<◌, ◌⊎◌, true, false, ◌&&◌, List, [], ◌∷◌, nat_le, nat_lt, ◌==◌, if◌then◌else◌, Option, Some, None, is_some, ⊤}
 use Rattle.std.specs.Option.{option_map_or}
+use Rattle.terms.specs.declared.parties.TheConstants.{FIRST_CLIENT}
+use Rattle.terms.specs.Parties.{client_number, client_party}
 use Rattle.tuple_codec.specs.Operations.{Operation}
 use Rattle.terms.specs.declared.order.Mode.{Mode}
 use Rattle.terms.specs.declared.order.Mode.TheVariants as modes
@@ -38,7 +40,7 @@ again_for k timestamp kept = option_map_or (λ x. if x.timestamp == timestamp th
 
 abbrev pub asked_in : State → ℕ → ℕ → Mode → List Message
 asked_in st sender timestamp modes.Ordered =
-    if nat_le 256 sender then again_for (sender - 256) timestamp (kept_of st (sender - 256)) else []
+    if nat_le FIRST_CLIENT sender then again_for (client_number sender) timestamp (kept_of st (client_number sender)) else []
 asked_in st sender timestamp modes.ReadOnly = []
 
 -- what is due at once after a received message: an ordered request of its client's last timestamp gets the kept reply
@@ -151,7 +153,7 @@ RequestsCount =
     (op : Operation) (held : Holds c me desk log past)
     → ((kept : Kept) × (kept_of desk.state k ≡ Some kept) × (kept.timestamp ≡ timestamp))
     ⊎ ((last_time desk.state k < timestamp) × IsNoOlder desk.waiting k timestamp op)
-    → Counts c me past held.of_desk.point bytes (256 + k) (Request timestamp modes.Ordered op)
+    → Counts c me past held.of_desk.point bytes (client_party k) (Request timestamp modes.Ordered op)
 
 -- ---- which messages the log drops
 

@@ -1,6 +1,8 @@
 -- How each output changes desk and log, and when the replica may emit it (Castro and Liskov, TOCS 2002, on normal-case
 -- operation, garbage collection and state transfer). The log's own answers ask for outputs.
-use Rattle.std.specs.Prelude.{◌≡◌, ℕ, suc, ◌+◌, ◌%◌, ◌^◌, ◌≤◌, ◌<◌, true, List, [], ◌∷◌, ◌++◌, map, ◌==◌, if◌then◌else◌, Some, None, AllPairs}
+use Rattle.std.specs.Prelude.{◌≡◌, ℕ, suc, ◌%◌, ◌^◌, ◌≤◌, ◌<◌, true, List, [], ◌∷◌, ◌++◌, map, ◌==◌, if◌then◌else◌, Some, None, AllPairs}
+use Rattle.terms.specs.Parties.{client_party}
+use Rattle.terms.specs.declared.parties.TheConstants.{MAX_CLIENTS}
 use Rattle.partition_tree.specs.Digests.{root_of as root_of_pages}
 use Rattle.wire_format.specs.Messages.{MessageData as Message, CheckpointEntryData as CheckpointEntry, pre_prepare as PrePrepare, prepare as Prepare, commit as Commit, checkpoint as Checkpoint}
 use Rattle.wire_format.specs.Words.{requests_of}
@@ -97,7 +99,7 @@ abbrev pub ExecutesFit : Type 0
 ExecutesFit =
     (c : Configuration) (me : ℕ) (s : Start) (desk : Desk) (log : LogData) (outputs : List Entry)
     (batch : List ℕ) (frames : List (List ℕ))
-    → IsReplicatedState desk.state → c.clients ≤ 256
+    → IsReplicatedState desk.state → c.clients ≤ MAX_CLIENTS
     → logs.committed_batch log (suc desk.state.number) ≡ Some batch
     → ((frame : List ℕ) → Has (λ x. x ≡ frame) frames → Has (λ x. x ≡ frame) desk.frames)
     → Fits c me s desk log [] outputs
@@ -111,7 +113,7 @@ abbrev pub RepliesFit : Type 0
 RepliesFit =
     (c : Configuration) (me : ℕ) (s : Start) (desk : Desk) (log : LogData) (rest : List Message) (outputs : List Entry)
     (k : ℕ) (kept : Kept) (bytes : List ℕ)
-    → IsPosted c me (reply_of k kept) ((256 + k) ∷ []) bytes
+    → IsPosted c me (reply_of k kept) (client_party k ∷ []) bytes
     → Fits c me s desk log (reply_of k kept ∷ rest) outputs → Fits c me s desk log rest (Sent me bytes ∷ outputs)
 
 -- ---- checkpoints

@@ -1,8 +1,9 @@
 -- What an input may ask of a replica: a part of a kept state, or a read; the messages that it sent for a waiting
 -- request; to go on with a part that arrives; or to move to another view. And what the event then owes (Castro and
 -- Liskov, TOCS 2002, on state transfer, on read-only operations, and on view changes).
-use Rattle.std.specs.Prelude.{◌≡◌, ℕ, ◌+◌, ◌-◌, ◌≤◌, ◌⊎◌, Bool, true, false, List, ◌∷◌, ◌++◌, Option, Some}
+use Rattle.std.specs.Prelude.{◌≡◌, ℕ, ◌≤◌, ◌⊎◌, Bool, true, false, List, ◌∷◌, ◌++◌, Option, Some}
 use Rattle.std.specs.Option.{option_map_or}
+use Rattle.terms.specs.Parties.{client_number, client_party}
 use Rattle.tuple_codec.specs.Operations.{Operation}
 use Rattle.space.specs.Applying.{outcome, is_read_only}
 use Rattle.sha2.specs.Sha256.{sha256}
@@ -25,7 +26,7 @@ use Rattle.replica_histories.specs.TransfersAnswers.{AnswersFetches}
 
 -- the reply to a read: the outcome in a state, with that state's number
 abbrev pub read_reply : State → ℕ → ℕ → Operation → Message
-read_reply st client timestamp op = Reply client timestamp modes.ReadOnly st.number (outcome (tuples st) (client - 256) op)
+read_reply st client timestamp op = Reply client timestamp modes.ReadOnly st.number (outcome (tuples st) (client_number client) op)
 
 -- the read-only request of a client
 abbrev pub read_from : ℕ → ℕ → Operation → Body
@@ -34,7 +35,7 @@ read_from client timestamp op = record { sender = client; message = Request time
 -- the ordered request of a client
 abbrev pub ordered_from : Call → Body
 ordered_from call =
-    record { sender = 256 + call.client; message = Request call.timestamp modes.Ordered call.op }
+    record { sender = client_party call.client; message = Request call.timestamp modes.Ordered call.op }
 
 -- An event whose input is a read owes the reply from the executed state.
 abbrev pub AnswersReads : Configuration → ℕ → List Entry → Entry → List Entry → Point → Type 0

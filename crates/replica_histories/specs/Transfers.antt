@@ -2,6 +2,7 @@
 -- hierarchical state partitions and state transfer).
 use Rattle.std.specs.Prelude.{◌≡◌, ℕ, ◌≤◌, ◌<◌, ◌⊎◌, Bool, true, false, List, [], ◌∷◌, length, nat_lt, Option, Some, None, slice_index_or, option_and_then, ⊤}
 use Rattle.std.specs.Bool.{then_some}
+use Rattle.partition_tree.specs.declared.tree.TheConstants.{PAGES}
 use Rattle.sha2.specs.Sha256.{sha256}
 use Rattle.terms.specs.declared.state.Level.{Level}
 use Rattle.terms.specs.declared.state.Level.TheVariants as levels
@@ -50,11 +51,11 @@ pub record Aims (c : Configuration) (me : ℕ) (t : TransferData) (history : Lis
 -- the number `next`. Between events none goes on. An event that goes on for the transfer's number may ask, or install.
 abbrev pub AreTaken : Configuration → ℕ → Option ℕ → TransferData → List Entry → Type 0
 AreTaken c me next t history =
-    (i : ℕ) → i < 1024 → took c me next history i ≡ then_some (is_fetched t i) (page_held t i)
+    (i : ℕ) → i < PAGES → took c me next history i ≡ then_some (is_fetched t i) (page_held t i)
 
 -- no page was taken
 abbrev pub NoneTaken : Configuration → ℕ → Option ℕ → List Entry → Type 0
-NoneTaken c me next history = (i : ℕ) → i < 1024 → took c me next history i ≡ None
+NoneTaken c me next history = (i : ℕ) → i < PAGES → took c me next history i ≡ None
 
 -- The transfer's place was asked for last, for its number, the greatest that anything was fetched for. The replica took
 -- the fetched pages.
@@ -90,7 +91,7 @@ FitsOpen c me (Some t) number history = FitsTransfer c me t history × (number <
 
 -- The pages that were not fetched are the state's.
 abbrev pub RestsOnState : TransferData → State → Type 0
-RestsOnState t st = (i : ℕ) → i < 1024 → is_fetched t i ≡ false → page_held t i ≡ page_text st i
+RestsOnState t st = (i : ℕ) → i < PAGES → is_fetched t i ≡ false → page_held t i ≡ page_text st i
 
 -- ---- the open transfer
 
@@ -211,7 +212,7 @@ PagesMayAsk =
     (c : Configuration) (me : ℕ) (t : TransferData) (number : ℕ) (past : List Entry) (bytes : List ℕ)
     (s index : ℕ) (text : List ℕ)
     → heard (members c) me bytes ≡ Some (record { sender = s; message = Page t.number index text })
-    → t.asked ≡ page_place index → length t.held ≡ 1024 → length t.fetched ≡ 1024
+    → t.asked ≡ page_place index → length t.held ≡ PAGES → length t.fetched ≡ PAGES
     → FitsOpen c me (Some t) number past
     → MayAsk c me (with_page t index text) number (Got me bytes ∷ past)
 
@@ -280,7 +281,7 @@ MayAskAny =
 abbrev pub NextsAreFirst : Type 0
 NextsAreFirst =
     (c : Configuration) (me : ℕ) (t : TransferData) (st : State) (history : List Entry) (place : Place)
-    → MayAsk c me t st.number history → RestsOnState t st → length t.held ≡ 1024 → NoneAsked history → IsTold t
+    → MayAsk c me t st.number history → RestsOnState t st → length t.held ≡ PAGES → NoneAsked history → IsTold t
     → next_place t ≡ Some place
     → IsNext c me history (in_place c me t.number history st) t.number t.root place.level place.index
 
@@ -310,7 +311,7 @@ DigestsRest =
 
 abbrev pub PagesRest : Type 0
 PagesRest =
-    (t : TransferData) (st : State) (index : ℕ) (text : List ℕ) → length t.fetched ≡ 1024 → index < 1024
+    (t : TransferData) (st : State) (index : ℕ) (text : List ℕ) → length t.fetched ≡ PAGES → index < PAGES
     → RestsOnState t st → RestsOnState (with_page t index text) st
 
 abbrev pub RestedRests : Type 0

@@ -1,5 +1,6 @@
 -- Laws of replies and their pages.
 use Rattle.std.specs.Prelude.{◌≡◌, ℕ, ◌<◌}
+use Rattle.terms.specs.declared.parties.TheConstants.{MAX_CLIENTS}
 use Rattle.reply_cache.specs.Replies.{Kept, Replies, IsKept, AreReplies, with_reply}
 use Rattle.reply_cache.specs.Pages.{page_text}
 
@@ -7,10 +8,10 @@ use Rattle.reply_cache.specs.Pages.{page_text}
 abbrev pub PagesDetermine : Type 0
 PagesDetermine =
     (rs qs : Replies) → AreReplies rs → AreReplies qs
-    → ((client : ℕ) → client < 256 → page_text rs client ≡ page_text qs client) → rs ≡ qs
+    → ((client : ℕ) → client < MAX_CLIENTS → page_text rs client ≡ page_text qs client) → rs ≡ qs
 
 -- A reply that is added to replies leaves replies.
 abbrev pub RepliesStay : Type 0
 RepliesStay =
-    (rs : Replies) (client : ℕ) (k : Kept) → AreReplies rs → IsKept k → client < 256
+    (rs : Replies) (client : ℕ) (k : Kept) → AreReplies rs → IsKept k → client < MAX_CLIENTS
     → AreReplies (with_reply rs client k)

@@ -2,6 +2,7 @@
 -- high byte first, and the spelling of the answer.
 use Rattle.std.specs.Prelude.{◌≡◌, ℕ, ◌<◌, List, [], ◌++◌, length, slice_index_or, Option, Some, None}
 use Rattle.std.specs.Int.{w64, to_be_bytes}
+use Rattle.terms.specs.declared.parties.TheConstants.{MAX_CLIENTS}
 use Rattle.tuple_codec.specs.Spelling.{outcome_spelling}
 use Rattle.reply_cache.specs.Replies.{Kept, Replies, last_of, AreReplies}
 
@@ -19,5 +20,5 @@ page_text rs client = reply_text (last_of rs client)
 -- The texts are the pages of these replies.
 pub record ArePages (texts : List (List ℕ)) (rs : Replies) : Type 0 where
   pub replies : AreReplies rs
-  pub all : length texts ≡ 256
-  pub each : (client : ℕ) → client < 256 → slice_index_or texts client [] ≡ page_text rs client
+  pub all : length texts ≡ MAX_CLIENTS
+  pub each : (client : ℕ) → client < MAX_CLIENTS → slice_index_or texts client [] ≡ page_text rs client

@@ -3,6 +3,7 @@
 -- normal-case operation).
 use Rattle.std.specs.Prelude.{◌≡◌, ℕ, ◌^◌, ◌≤◌, ◌<◌, List, length, replicate, slice_index_or, slice_set, Option, Some, None}
 use Rattle.std.specs.Option.{option_map_or}
+use Rattle.terms.specs.declared.parties.TheConstants.{MAX_CLIENTS}
 use Rattle.tuple_codec.specs.Operations.{Outcome, IsOutcome}
 
 -- the request's timestamp, the number of the batch in which it ran, and its answer
@@ -16,7 +17,7 @@ abbrev pub Replies : Type 0
 Replies = List (Option Kept)
 
 unfoldable pub no_replies : Replies
-no_replies = replicate 256 None
+no_replies = replicate MAX_CLIENTS None
 
 abbrev pub last_of : Replies → ℕ → Option Kept
 last_of rs client = slice_index_or rs client None
@@ -43,5 +44,5 @@ IsReply None = Unit {0}
 IsReply (Some k) = IsKept k
 
 pub record AreReplies (rs : Replies) : Type 0 where
-  pub all : length rs ≡ 256
+  pub all : length rs ≡ MAX_CLIENTS
   pub each : (client : ℕ) → IsReply (last_of rs client)

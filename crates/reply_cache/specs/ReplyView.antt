@@ -1,5 +1,6 @@
 -- The model of the program's replies.
 use Rattle.std.specs.Prelude.{ℕ, ◌-◌, ◌≤◌, List, ◌++◌, length, map, replicate, slice_index_or, Option, Some, None}
+use Rattle.terms.specs.declared.parties.TheConstants.{MAX_CLIENTS}
 use Rattle.terms.specs.declared.parties.ClientId.{ClientId}
 use Rattle.tuple_codec.specs.OperationView.{outcome_of}
 use Rattle.tuple_codec.specs.declared.operations.Answer.{Answer}
@@ -21,9 +22,9 @@ reply_of (Some r) = Some (kept_of r)
 
 -- Slots for the clients below some number stand for those of all 256 clients.
 unfoldable pub padded : List (Option Reply) → Replies
-padded slots = map reply_of slots ++ replicate (256 - length slots) None
+padded slots = map reply_of slots ++ replicate (MAX_CLIENTS - length slots) None
 
 -- the invariant of the slots
 pub record AreSlots (slots : List (Option Reply)) : Type 0 where
-  pub few : length slots ≤ 256
+  pub few : length slots ≤ MAX_CLIENTS
   pub each : (client : ℕ) → IsReply (reply_of (slice_index_or slots client None))

@@ -85,7 +85,7 @@ impl ReplyCache {
         number: u64,
         answer: Answer<Global>,
     ) -> Result<(), NoMemory>
-        requires client { client.number < 256 }
+        requires client { client.number < MAX_CLIENTS }
         requires timestamp { 1 ≤ timestamp }
         ensures ok { OnOk result (self.new ≡ with_answer self.old client timestamp number answer) }
         ensures memory { OnErr result (IsAbove client.number self.old) }
@@ -147,8 +147,8 @@ impl ReplyCache {
 
 // Whether each text is that of a page.
 fn are_pages(pages: &[&[u8]]) -> bool
-    requires { length pages.now ≡ 256 }
-    ensures found { IsTrue result → EachSpelled (texts_of pages.now) 256 }
+    requires { length pages.now ≡ MAX_CLIENTS }
+    ensures found { IsTrue result → EachSpelled (texts_of pages.now) MAX_CLIENTS }
     ensures only { (rs : Replies) → ArePages (texts_of pages.now) rs → IsTrue result }
 {
     for text in pages {
@@ -167,7 +167,7 @@ fn add_slot(slots: &mut Vec<Option<Reply>>, slot: Option<Reply>) -> Result<(), N
 
 // Adds empty slots up to that of the client. An `Err` keeps the same replies.
 fn reach(slots: &mut Vec<Option<Reply>>, client: usize) -> Result<(), NoMemory>
-    requires client { client < 256 }
+    requires client { client < MAX_CLIENTS }
     requires slots { AreSlots slots.old.items }
     ensures same { padded slots.new.items ≡ padded slots.old.items }
     ensures slots { AreSlots slots.new.items }

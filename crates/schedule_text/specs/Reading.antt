@@ -1,6 +1,7 @@
 -- The results of reading words of a line, for the contracts of private functions.
-use Rattle.std.specs.Prelude.{◌≡◌, ◌≢◌, ℕ, ◌+◌, List, [], Result, MatchResult, All}
+use Rattle.std.specs.Prelude.{◌≡◌, ◌≢◌, ℕ, List, [], Result, MatchResult, All}
 use Rattle.std.specs.Fmt.{decimal}
+use Rattle.terms.specs.Parties.{client_party}
 use Rattle.protocol.specs.System.Schedule as schedules
 use Rattle.schedule_text.specs.declared.step.Step.{Step}
 use Rattle.schedule_text.specs.declared.fault.StepFault.{StepFault}
@@ -17,7 +18,7 @@ abbrev pub PartyText : ℕ → List ℕ → Type 0
 PartyText p word = (word ≡ party_text p) × IsParty p
 
 abbrev pub ClientText : ℕ → List ℕ → Type 0
-ClientText k word = (word ≡ decimal k) × IsParty (256 + k)
+ClientText k word = (word ≡ decimal k) × IsParty (client_party k)
 
 abbrev pub PartiesText : List ℕ → List ℕ → Type 0
 PartiesText ps word = (ps ≢ []) × (word ≡ parties_text ps) × All IsParty ps

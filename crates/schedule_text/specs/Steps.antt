@@ -1,7 +1,9 @@
 -- The lines of a schedule. A step is a name and its arguments, words with one or more blanks between them and blanks
 -- at both ends; the last argument of a call is the line of an operation.
-use Rattle.std.specs.Prelude.{◌≡◌, ℕ, ◌+◌, ◌-◌, ◌^◌, ◌<◌, nat_lt, if◌then◌else◌, List, [], ◌∷◌, ◌++◌, codes, Ok, All}
+use Rattle.std.specs.Prelude.{◌≡◌, ℕ, ◌^◌, ◌<◌, nat_lt, if◌then◌else◌, List, [], ◌∷◌, ◌++◌, codes, Ok, All}
 use Rattle.std.specs.Fmt.{decimal}
+use Rattle.terms.specs.declared.parties.TheConstants.{FIRST_CLIENT}
+use Rattle.terms.specs.Parties.{client_number, client_party}
 use Rattle.hex.specs.Hex.{decode_of}
 use Rattle.tuple_text.specs.Lines.{IsLine}
 use Rattle.protocol.specs.System.Schedule.{Step}
@@ -10,7 +12,7 @@ use Rattle.schedule_text.specs.Words.{first_word, after_word, HasWords}
 
 -- replica 0 stands as r0, client 0 as c0
 abbrev pub party_text : ℕ → List ℕ
-party_text p = if nat_lt p 256 then 114 ∷ decimal p else 99 ∷ decimal (p - 256)
+party_text p = if nat_lt p FIRST_CLIENT then 114 ∷ decimal p else 99 ∷ decimal (client_number p)
 
 -- with commas between them
 abbrev pub more_parties_text : List ℕ → List ℕ
@@ -57,7 +59,7 @@ abbrev pub IsWord : ℕ → Type 0
 IsWord n = n < 2 ^ 64
 
 abbrev pub HasRange : Step → Type 0
-HasRange (calls client op) = IsParty (256 + client)
+HasRange (calls client op) = IsParty (client_party client)
 HasRange (deliver frame party) = IsWord frame × IsParty party
 HasRange (feed party bytes) = IsParty party
 HasRange (seal sender receivers body) = IsParty sender × All IsParty receivers

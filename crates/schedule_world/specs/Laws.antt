@@ -1,5 +1,6 @@
 -- What the contract of a run refuses.
-use Rattle.std.specs.Prelude.{◌≡◌, ℕ, ◌+◌, true, List, [], ◌∷◌, map}
+use Rattle.std.specs.Prelude.{◌≡◌, ℕ, true, List, [], ◌∷◌, map}
+use Rattle.terms.specs.Parties.{client_party}
 use Rattle.tuple_codec.specs.Operations.{Operation}
 use Rattle.protocol.specs.System.Configuration.{Configuration, is_correct, is_correct_client}
 use Rattle.protocol.specs.System.Schedule.Step.{calls, deliver}
@@ -13,5 +14,5 @@ use Rattle.schedule_world.specs.Reports.{StopsHere, numbers_of}
 abbrev pub FirstFrameMayCome : Type 0
 FirstFrameMayCome =
     (c : Configuration) (steps : List Step) (k p : ℕ) (op : Operation) (before : Report)
-    → is_correct_client c (256 + k) ≡ true → is_correct c p ≡ true → map step_of steps ≡ calls k op ∷ deliver 0 p ∷ []
+    → is_correct_client c (client_party k) ≡ true → is_correct c p ≡ true → map step_of steps ≡ calls k op ∷ deliver 0 p ∷ []
     → numbers_of before.stopped ≡ [] → StopsHere c steps 1 before → ⊥

@@ -1,5 +1,6 @@
 -- The program's stage beside the world of the definitions, and their invariant between events.
-use Rattle.std.specs.Prelude.{◌≡◌, ℕ, ◌+◌, ◌<◌, true, List, [], ◌∷◌, map, length, reverse, is_some, slice_index_or, Bool}
+use Rattle.std.specs.Prelude.{◌≡◌, ℕ, ◌<◌, true, List, [], ◌∷◌, map, length, reverse, is_some, slice_index_or, Bool}
+use Rattle.terms.specs.Parties.{client_party}
 use Rattle.tuple_codec.specs.OperationView.{outcome_of}
 use Rattle.protocol.specs.System.Configuration.{Configuration, IsConfiguration, replicas, is_correct, is_correct_replica, is_correct_client}
 use Rattle.protocol.specs.System.Trace.{Entry, party_of, history_of, Always}
@@ -69,8 +70,8 @@ pub record Attend (c : Configuration) (trace : List Entry) (rs : List ReplicaDat
     (seats : List Seat) : Type 0 where
   pub replicas : (p : ℕ) (d : ReplicaData) → is_correct_replica c p ≡ true
       → FitsReplica c (slice_index_or rs p d) (history_of p trace)
-  pub clients : (k : ℕ) (d : Seat) → is_correct_client c (256 + k) ≡ true
-      → FitsSeat c (slice_index_or seats k d) (history_of (256 + k) trace)
+  pub clients : (k : ℕ) (d : Seat) → is_correct_client c (client_party k) ≡ true
+      → FitsSeat c (slice_index_or seats k d) (history_of (client_party k) trace)
 
 -- the trace's parties are correct, and outputs follow their inputs
 pub record IsOrderly (c : Configuration) (trace : List Entry) : Type 0 where

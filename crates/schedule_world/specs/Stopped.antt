@@ -1,9 +1,10 @@
 -- Which correct parties have stopped.
-use Rattle.std.specs.Prelude.{◌≡◌, ℕ, ◌-◌, Bool, false, ◌&&◌, List, ◌++◌, map, filter, slice_get, Vec, Result, OnOk}
+use Rattle.std.specs.Prelude.{◌≡◌, ℕ, Bool, false, ◌&&◌, List, ◌++◌, map, filter, slice_get, Vec, Result, OnOk}
 use Rattle.std.specs.List.{range_with_len}
 use Rattle.std.specs.Option.{option_map_or}
 use Rattle.std.specs.declared.alloc.Global.{Global}
-use Rattle.terms.specs.Parties.{party_number}
+use Rattle.terms.specs.declared.parties.TheConstants.{FIRST_CLIENT}
+use Rattle.terms.specs.Parties.{party_number, client_number}
 use Rattle.terms.specs.declared.parties.Party.{Party}
 use Rattle.protocol.specs.System.Configuration.{Configuration, replicas, is_correct_replica, is_correct_client}
 use Rattle.replica.specs.State.{ReplicaData, has_stopped}
@@ -17,14 +18,14 @@ is_stopped_replica c rs p = is_correct_replica c p && option_map_or has_stopped 
 -- the party is a correct client that has stopped
 abbrev pub is_stopped_client : Configuration → List Seat → ℕ → Bool
 is_stopped_client c seats p =
-    is_correct_client c p && option_map_or (λ (seat : Seat). seat.client.stopped) (slice_get seats (p - 256)) false
+    is_correct_client c p && option_map_or (λ (seat : Seat). seat.client.stopped) (slice_get seats (client_number p)) false
 
 -- all of them, by number
 abbrev pub stopped_replicas : Configuration → Stage → List ℕ
 stopped_replicas c s = filter (is_stopped_replica c s.replicas.items) (range_with_len 0 (replicas c))
 
 abbrev pub stopped_clients : Configuration → Stage → List ℕ
-stopped_clients c s = filter (is_stopped_client c s.seats.items) (range_with_len 256 c.clients)
+stopped_clients c s = filter (is_stopped_client c s.seats.items) (range_with_len FIRST_CLIENT c.clients)
 
 abbrev pub stopped_parties : Configuration → Stage → List ℕ
 stopped_parties c s = stopped_replicas c s ++ stopped_clients c s

@@ -1,8 +1,8 @@
 //! The world between steps.
 
-ghost use Rattle.std.specs.Prelude.{◌≡◌, ◌↔◌, ◌<◌, ◌+◌, true, [], ◌∷◌, length, map, filter, All};
+ghost use Rattle.std.specs.Prelude.{◌≡◌, ◌↔◌, ◌<◌, true, [], ◌∷◌, length, map, filter, All};
 ghost use Rattle.std.specs.Prelude.{IfOk, MatchOption, OnOk};
-ghost use Rattle.terms.specs.Parties.{party_number};
+ghost use Rattle.terms.specs.Parties.{party_number, client_party};
 ghost use Rattle.tuple_codec.specs.OperationView.{operation_of};
 ghost use Rattle.events.specs.EntryView.{entry_of_kind};
 ghost use Rattle.protocol.specs.System.Configuration.{is_correct, is_correct_client};
@@ -101,7 +101,7 @@ impl Stage {
         told: Op<Global>,
     ) -> Result<(), NoMemory>
         requires seated { IsSeated config.now self.old }
-        requires correct { is_correct_client config.now (256 + client.number) ≡ true }
+        requires correct { is_correct_client config.now (client_party client.number) ≡ true }
         requires same { operation_of told ≡ operation_of op }
         ensures seated { OnOk result (IsSeated config.now self.new) }
         ensures comes { OnOk result (CallComes config.now client.number (operation_of op) self.old self.new) }
@@ -293,7 +293,7 @@ impl Stage {
         parties: &mut Vec<Party>,
     ) -> Result<(), NoMemory>
         requires known { client.number < length self.now.seats.items }
-        ensures { AddsParties (filter (is_stopped_client config.now self.now.seats.items) ((256 + client.number) ∷ []))
+        ensures { AddsParties (filter (is_stopped_client config.now self.now.seats.items) (client_party client.number ∷ []))
             parties.old parties.new result }
     {
         if self.is_stopped_client(config, client) {
@@ -304,7 +304,7 @@ impl Stage {
 
     fn is_stopped_client(&self, config: &Config, client: ClientId) -> bool
         requires known { client.number < length self.now.seats.items }
-        ensures { result ≡ is_stopped_client config.now self.now.seats.items (256 + client.number) }
+        ensures { result ≡ is_stopped_client config.now self.now.seats.items (client_party client.number) }
     {
         config.is_correct_client(Party::Client(client).number())
             && self.seats[usize::from(client.number)].client.is_stopped()

@@ -1,6 +1,7 @@
 -- Requests as a replica hears them (Castro and Liskov, Practical Byzantine fault tolerance and proactive recovery, TOCS
 -- 2002, on the client).
-use Rattle.std.specs.Prelude.{◌≡◌, ℕ, ◌+◌, List, Some}
+use Rattle.std.specs.Prelude.{◌≡◌, ℕ, List, Some}
+use Rattle.terms.specs.Parties.{client_party}
 use Rattle.tuple_codec.specs.Operations.{Operation}
 use Rattle.tuple_codec.specs.Spelling.{SpellsOperation}
 use Rattle.wire_format.specs.Messages.{request}
@@ -12,5 +13,5 @@ use Rattle.signing.specs.declared.heard_request.HeardRequest.{HeardRequest}
 pub record HearsRequest (m : Membership) (me : ℕ) (bytes : List ℕ) (it : HeardRequest) : Type 0 where
   pub op : Operation
   pub hears : heard m me bytes
-      ≡ Some (record { sender = 256 + it.client.number; message = request it.timestamp.0 it.mode op })
+      ≡ Some (record { sender = client_party it.client.number; message = request it.timestamp.0 it.mode op })
   pub spelled : SpellsOperation it.op.now op

@@ -90,7 +90,7 @@ impl Secrets {
 
 /// A bit of a hash. Bit 0 is the highest of the first byte.
 pub(crate) fn bit_of(hash: &[u8; 32], bit: u16) -> u8
-    requires { bit < 256 }
+    requires { bit < BITS }
     ensures value { result ≡ bit_of hash.now bit }
     ensures range { result ≤ 1 }
 {

@@ -130,7 +130,7 @@ fn digest_shown(signature: &[u8], text: &[u8]) -> [u8; 32]
 // Adds the public hashes of both values of a bit that a signature of this hash shows.
 fn add_pair(hasher: &mut Sha256, signature: &[u8], hash: &[u8; 32], bit: u16)
     requires whole { length signature.now ≡ 16577 }
-    requires bit { bit < 256 }
+    requires bit { bit < BITS }
     ensures { TakesIn (shown_pair signature.now hash.now bit) hasher.old hasher.new }
 {
     let at = 1 + 64 * bit as usize;

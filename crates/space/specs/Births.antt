@@ -2,6 +2,7 @@
 -- takes the least number not below the next one whose page has room, so that the order of births is the order of age.
 use Rattle.std.specs.Prelude.{◌≡◌, ℕ, zero, suc, ◌+◌, ◌%◌, ◌<◌, ◌≤◌, Bool, true, List, [], ◌∷◌, ◌++◌, length, take, map, filter, count_by, All, AllPairs, nat_lt, ◌==◌, is_some, if◌then◌else◌, refl}
 use Rattle.std.specs.Coded.{Coded, code_by, coded×, coded_list, coded_ℕ}
+use Rattle.space.specs.declared.births.TheConstants.{PAGES, MAX_ON_PAGE}
 use Rattle.tuple_tree.specs.Values.{TupleTree, TemplateTree, IsTuple}
 use Rattle.tuple_tree.specs.ValuesCode.{tuple_code}
 use Rattle.tuple_codec.specs.Operations.{Operation, out, rdp, inp, cas, rd_all, in_all, upgrade}
@@ -34,11 +35,11 @@ tuples_of s = record { version = s.version; tuples = map (λ e. e.1) s.entries }
 
 -- how many tuples lie on a page
 abbrev pub page_count : List Entry → ℕ → ℕ
-page_count es page = count_by (λ e. e.0 % 256 == page) es
+page_count es page = count_by (λ e. e.0 % PAGES == page) es
 
 -- whether the page of a birth number has room
 abbrev pub has_page_room : List Entry → ℕ → Bool
-has_page_room es birth = nat_lt (page_count es (birth % 256)) 64
+has_page_room es birth = nat_lt (page_count es (birth % PAGES)) MAX_ON_PAGE
 
 -- the first of the n numbers from start on that passes the test, else the number after them
 unfoldable pub first_passing : (ℕ → Bool) → ℕ → ℕ → ℕ
@@ -46,7 +47,7 @@ first_passing test zero start = start
 first_passing test (suc n) start = if test start then start else first_passing test n (start + 1)
 
 abbrev pub birth_of : SpaceState → ℕ
-birth_of s = first_passing (has_page_room s.entries) 256 s.next
+birth_of s = first_passing (has_page_room s.entries) PAGES s.next
 
 abbrev pub with_birth : SpaceState → TupleTree → SpaceState
 with_birth s t = record s { entries = s.entries ++ (birth_of s, t) ∷ []; next = birth_of s + 1 }
@@ -107,16 +108,16 @@ WantsMemory s o = wants_memory (tuples_of s) o ≡ true
 pub record IsState (s : SpaceState) : Type 0 where
   pub rising : AllPairs (λ e f. e.0 < f.0) s.entries
   pub below_next : All (λ e. e.0 < s.next) s.entries
-  pub pages : (page : ℕ) → page_count s.entries page ≤ 64
+  pub pages : (page : ℕ) → page_count s.entries page ≤ MAX_ON_PAGE
   pub count : length s.entries ≤ most_tuples s.version
   pub tuples : All (λ e. IsTuple e.1) s.entries
 
 -- The number is the least one not below the next whose page has room, and one of the 256 from there on.
 pub record IsNextBirth (s : SpaceState) (birth : ℕ) : Type 0 where
   pub not_below : s.next ≤ birth
-  pub soon : birth < s.next + 256
-  pub room : page_count s.entries (birth % 256) < 64
-  pub least : (n : ℕ) → s.next ≤ n → n < birth → 64 ≤ page_count s.entries (n % 256)
+  pub soon : birth < s.next + PAGES
+  pub room : page_count s.entries (birth % PAGES) < MAX_ON_PAGE
+  pub least : (n : ℕ) → s.next ≤ n → n < birth → MAX_ON_PAGE ≤ page_count s.entries (n % PAGES)
 
 -- a state as its fields
 abbrev pub space_code : Coded SpaceState

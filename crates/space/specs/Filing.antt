@@ -2,6 +2,7 @@
 use Rattle.std.specs.Prelude.{◌≡◌, ℕ, ◌%◌, ◌<◌, ◌==◌, Bool, List, [], ◌∷◌, ◌++◌, length, map, filter, remove, slice_index_or, All, AllPairs, Option, Some, None, if◌then◌else◌}
 use Rattle.std.specs.Str.{bytes_eq}
 use Rattle.std.specs.HashMap.{get_by}
+use Rattle.space.specs.declared.births.TheConstants.{PAGES}
 use Rattle.tuple_tree.specs.Items.{how_many}
 use Rattle.tuple_tree.specs.Values.{TemplateTree, IsTuple}
 use Rattle.space.specs.Ages.{without, AreRising, ListedBirths}
@@ -51,7 +52,7 @@ abbrev pub IsNumbered : (Entry → ℕ) → BirthTable → List Entry → Type 0
 IsNumbered number_of table es = (n : ℕ) → births_in table n ≡ births_by (λ e. number_of e == n) es
 
 abbrev pub page_number : Entry → ℕ
-page_number e = e.0 % 256
+page_number e = e.0 % PAGES
 
 abbrev pub value_count : Entry → ℕ
 value_count e = how_many e.1

@@ -1,5 +1,6 @@
 -- What holds of each state, operation and batch.
 use Rattle.std.specs.Prelude.{◌≡◌, ℕ, ◌+◌, ◌^◌, ◌<◌, ◌≤◌, true, List, length, fold, All}
+use Rattle.space.specs.declared.births.TheConstants.{PAGES}
 use Rattle.tuple_codec.specs.Operations.{Operation, is_read_only, IsOperation, IsOutcome}
 use Rattle.space.specs.Applying.{Contents, outcome, tuples_after}
 use Rattle.space.specs.Births.{SpaceState, IsState, Asked, state_after, state_after_asked, tuples_of}
@@ -26,7 +27,7 @@ ReadsKnowNoClient =
 abbrev pub PagesDetermine : Type 0
 PagesDetermine =
     (s t : SpaceState) (m n : ℕ) → IsStateAt s m → IsStateAt t n → header_text s m ≡ header_text t n
-    → ((page : ℕ) → page < 256 → page_text s page ≡ page_text t page) → (m ≡ n) × (s ≡ t)
+    → ((page : ℕ) → page < PAGES → page_text s page ≡ page_text t page) → (m ≡ n) × (s ≡ t)
 
 -- A batch of at most 16 operations leaves a state after one more batch, while the numbers of batches last.
 abbrev pub BatchesLeaveStates : Type 0

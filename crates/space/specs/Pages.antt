@@ -5,6 +5,7 @@
 use Rattle.std.specs.Prelude.{◌≡◌, ℕ, ◌*◌, ◌^◌, ◌≤◌, ◌<◌, ◌%◌, List, [], ◌∷◌, ◌++◌, length, take, map, filter, flat_map, slice_index_or, ◌==◌, Result, MatchResult}
 use Rattle.std.specs.Borrow.{Bor}
 use Rattle.std.specs.Int.{w64, to_be_bytes}
+use Rattle.space.specs.declared.births.TheConstants.{PAGES, BIRTHS_A_BATCH}
 use Rattle.tuple_tree.specs.Values.{TupleTree}
 use Rattle.tuple_tree.specs.Spelling.{string, tuple_spelling}
 use Rattle.tuple_codec.specs.declared.bad.Bad.{Bad}
@@ -26,7 +27,7 @@ entries_text v es = flat_map (entry_text v) es
 
 -- the tuples of a page, the oldest first
 unfoldable pub on_page : ℕ → List Entry → List Entry
-on_page page es = filter (λ e. e.0 % 256 == page) es
+on_page page es = filter (λ e. e.0 % PAGES == page) es
 
 abbrev pub page_text : SpaceState → ℕ → List ℕ
 page_text s page = entries_text s.version (on_page page s.entries)
@@ -48,20 +49,20 @@ header_text s number = version_byte s.version ∷ to_be_bytes w64 number ++ to_b
 -- births.
 pub record IsStateAt (s : SpaceState) (number : ℕ) : Type 0 where
   pub state : IsState s
-  pub births : s.next ≤ 4096 * number
+  pub births : s.next ≤ BIRTHS_A_BATCH * number
   pub few : number < 2 ^ 48
 
 -- The texts are 256, and the header is that of a state.
 pub record MayBePages (texts : List (List ℕ)) (header : List ℕ) : Type 0 where
-  pub all : length texts ≡ 256
+  pub all : length texts ≡ PAGES
   pub heading : (s : SpaceState) × (number : ℕ) × IsStateAt s number × (header ≡ header_text s number)
 
 -- The texts of pages 0 to 255 and the header are those of a state after so many executed batches.
 pub record ArePages (texts : List (List ℕ)) (header : List ℕ) (s : SpaceState) (number : ℕ) : Type 0 where
   pub state : IsStateAt s number
   pub heading : header ≡ header_text s number
-  pub all : length texts ≡ 256
-  pub each : (page : ℕ) → page < 256 → slice_index_or texts page [] ≡ page_text s page
+  pub all : length texts ≡ PAGES
+  pub each : (page : ℕ) → page < PAGES → slice_index_or texts page [] ≡ page_text s page
 
 -- The state with these pages and this header is read, unless memory ran out.
 abbrev pub ReadsEachState : List (List ℕ) → List ℕ → Result (SpaceState × ℕ) Bad → Type 0

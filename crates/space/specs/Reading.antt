@@ -2,6 +2,7 @@
 use Rattle.std.specs.Prelude.{◌≡◌, ◌≢◌, ℕ, ◌*◌, ◌%◌, ◌^◌, ◌≤◌, ◌<◌, List, [], ◌∷◌, ◌++◌, length, take, drop, slice_index, slice_index_or, All, AllPairs, Result, OnOk, IfOk, IfErr, MatchResult}
 use Rattle.std.specs.Borrow.{Bor}
 use Rattle.std.specs.Int.{w64, to_be_bytes}
+use Rattle.space.specs.declared.births.TheConstants.{PAGES, BIRTHS_A_BATCH}
 use Rattle.tuple_tree.specs.Values.{TupleTree, IsTuple}
 use Rattle.tuple_codec.specs.declared.bad.Bad.{Bad}
 use Rattle.tuple_codec.specs.declared.bad.Bad.TheVariants.{NoMemory}
@@ -16,7 +17,7 @@ pub record IsEntry (e : Entry) : Type 0 where
 
 -- an entry of this page whose birth is from least on and below next
 pub record IsEntryOf (page least next : ℕ) (e : Entry) : Type 0 where
-  pub here : e.0 % 256 ≡ page
+  pub here : e.0 % PAGES ≡ page
   pub not_below : least ≤ e.0
   pub below : e.0 < next
   pub tuple : IsTuple e.1
@@ -49,7 +50,7 @@ ReadsEach v = ReadsEachBy (entry_text v)
 pub record IsPage (page next : ℕ) (es : List Entry) : Type 0 where
   pub rising : AllPairs (λ e f. e.0 < f.0) es
   pub below_next : All (λ e. e.0 < next) es
-  pub here : All (λ e. e.0 % 256 ≡ page) es
+  pub here : All (λ e. e.0 % PAGES ≡ page) es
   pub few : length es ≤ 64
   pub tuples : All (λ e. IsTuple e.1) es
 
@@ -96,7 +97,7 @@ ReadsEachPage v page next text result =
 -- a header of this version and these numbers
 pub record IsHeader (header : List ℕ) (v : Version) (number next : ℕ) : Type 0 where
   pub spelled : header ≡ version_byte v ∷ to_be_bytes w64 number ++ to_be_bytes w64 next
-  pub births : next ≤ 4096 * number
+  pub births : next ≤ BIRTHS_A_BATCH * number
   pub few : number < 2 ^ 48
 
 -- The first n of the pages were read: their tuples in the order of births, and how many lie on each page.
@@ -107,15 +108,15 @@ pub record ArePagesRead
   pub valid : (page : ℕ) → page < n → IsPage page next (on_page page es)
   pub spelled : (page : ℕ) → page < n → slice_index_or texts page [] ≡ entries_text v (on_page page es)
   pub unread : (page : ℕ) → n ≤ page → on_page page es ≡ []
-  pub counted : (page : ℕ) → page < 256 → slice_index counts page ≡ length (on_page page es)
-  pub long : length counts ≡ 256
+  pub counted : (page : ℕ) → page < PAGES → slice_index counts page ≡ length (on_page page es)
+  pub long : length counts ≡ PAGES
 
 -- the texts of pages are those of a state of this version with this next birth number
 pub record ArePagesOf (v : Version) (next : ℕ) (texts : List (List ℕ)) (s : SpaceState) : Type 0 where
   pub state : IsState s
   pub version : s.version ≡ v
   pub same_next : s.next ≡ next
-  pub each : (page : ℕ) → page < 256 → slice_index_or texts page [] ≡ page_text s page
+  pub each : (page : ℕ) → page < PAGES → slice_index_or texts page [] ≡ page_text s page
 
 -- The texts of all pages are refused for want of memory alone.
 abbrev pub ReadsAllPages : {V : Type 0} → Version → ℕ → List (List ℕ) → Result V Bad → Type 0

@@ -2,6 +2,7 @@
 use Rattle.std.specs.Prelude.{◌≡◌, ℕ, ◌%◌, ◌<◌, ◌≤◌, Bool, true, false, not, ◌||◌, ◌==◌, List, [], ◌∷◌, map, Contains, slice_index, slice_index_or, if◌then◌else◌, refl}
 use Rattle.std.specs.Coded.{Coded, code_by, coded×, coded_list, coded_bool, coded_ℕ}
 use Rattle.std.specs.List.{range_with_len}
+use Rattle.space.specs.declared.births.TheConstants.{PAGES}
 use Rattle.tuple_codec.specs.Operations.{Operation, out, rdp, inp, cas, rd_all, in_all, upgrade}
 use Rattle.space.specs.Applying.{refuses}
 use Rattle.space.specs.Births.{SpaceState, space_code, birth_of, oldest_births, page_count}
@@ -34,7 +35,7 @@ served_births s (inp p) = oldest_births 1 p s.entries
 served_births s (cas p t) = birth_of s ∷ []
 served_births s (rd_all n p) = []
 served_births s (in_all n p) = oldest_births n p s.entries
-served_births s upgrade = range_with_len 0 256
+served_births s upgrade = range_with_len 0 PAGES
 
 -- of any operation of a client
 abbrev pub touched_births : SpaceState → ℕ → Operation → List ℕ
@@ -48,25 +49,25 @@ served_changes s (inp p) = oldest_births 1 p s.entries
 served_changes s (cas p t) = []
 served_changes s (rd_all n p) = []
 served_changes s (in_all n p) = oldest_births n p s.entries
-served_changes s upgrade = range_with_len 0 256
+served_changes s upgrade = range_with_len 0 PAGES
 
 abbrev pub changed_births : SpaceState → ℕ → Operation → List ℕ
 changed_births s client o = if refuses s.version client o then [] else served_changes s o
 
 -- The client's operation may change the page: one of these births lies there.
 abbrev pub MayChange : SpaceState → ℕ → Operation → ℕ → Type 0
-MayChange s client o page = Contains (map (λ birth. birth % 256) (touched_births s client o)) page
+MayChange s client o page = Contains (map (λ birth. birth % PAGES) (touched_births s client o)) page
 
 -- A page that isn't touched afterwards wasn't before, and has the same text.
 abbrev pub TouchesChanges : WatchedState → WatchedState → Type 0
 TouchesChanges old new =
-    (page : ℕ) → page < 256 → is_touched new page ≡ false
+    (page : ℕ) → page < PAGES → is_touched new page ≡ false
     → (is_touched old page ≡ false) × (page_text new.state page ≡ page_text old.state page)
 
 -- A page that is touched afterwards, and wasn't before, is one that the operation may change.
 abbrev pub TouchesOnly : WatchedState → WatchedState → ℕ → Operation → Type 0
 TouchesOnly old new client o =
-    (page : ℕ) → page < 256 → is_touched new page ≡ true → is_touched old page ≡ false
+    (page : ℕ) → page < PAGES → is_touched new page ≡ true → is_touched old page ≡ false
     → MayChange old.state client o page
 
 -- the text of the tuples that lay on a page when it was written, if these are its oldest
@@ -80,12 +81,12 @@ IsWrittenAs w page text = is_changed w page ≡ false → text ≡ written_text 
 -- A page that isn't changed afterwards wasn't before, and was written with the same text.
 abbrev pub KeepsWritten : WatchedState → WatchedState → Type 0
 KeepsWritten old new =
-    (page : ℕ) → page < 256 → is_changed new page ≡ false
+    (page : ℕ) → page < PAGES → is_changed new page ≡ false
     → (is_changed old page ≡ false) × (written_text new page ≡ written_text old page)
 
 -- On a page that isn't changed lie at least the tuples that lay there when it was written.
 abbrev pub IsWatched : WatchedState → Type 0
-IsWatched w = (page : ℕ) → page < 256 → is_changed w page ≡ false → written_on w page ≤ page_count w.state.entries page
+IsWatched w = (page : ℕ) → page < PAGES → is_changed w page ≡ false → written_on w page ≤ page_count w.state.entries page
 
 -- a watched space as its fields
 abbrev pub watched_code : Coded WatchedState

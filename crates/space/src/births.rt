@@ -15,17 +15,17 @@ pub(crate) const BIRTHS_A_BATCH: u64 = 16 * PAGES as u64;
 
 /// The table of pages with no tuple.
 pub fn empty_pages() -> [u8; PAGES]
-    ensures none { (page : ℕ) → page < 256 → slice_index result page ≡ 0 }
-    ensures len { length result ≡ 256 }
+    ensures none { (page : ℕ) → page < PAGES → slice_index result page ≡ 0 }
+    ensures len { length result ≡ PAGES }
 {
     [0; PAGES]
 }
 
 /// The least birth number from `next` on whose page has room, by how many tuples each page holds. Constant time.
 pub fn next_birth(page_counts: &[u8], next: u64) -> u64
-    requires pages { length page_counts.now ≡ 256 }
+    requires pages { length page_counts.now ≡ PAGES }
     requires bound { next < 2 ^ 62 }
-    ensures { result ≡ first_passing (has_counted_room page_counts.now) 256 next }
+    ensures { result ≡ first_passing (has_counted_room page_counts.now) PAGES next }
 {
     let end = next + PAGES as u64;
     for birth in next..end {

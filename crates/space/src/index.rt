@@ -111,7 +111,7 @@ impl Index {
 }
 
 fn page_of(birth: u64) -> usize
-    ensures { result ≡ birth % 256 }
+    ensures { result ≡ birth % PAGES }
 {
     (birth % PAGES as u64) as usize
 }

@@ -100,7 +100,7 @@ fn add_entry(
     entry: (u64, Tuple<Global>),
 ) -> Result<(), NoMemory>
     requires rising { AllPairs (λ e f. e.0 < f.0) tuples.old.entries }
-    requires latest { All (λ e. e.0 % 256 ≡ entry.0 % 256 → e.0 < entry.0) tuples.old.entries }
+    requires latest { All (λ e. e.0 % PAGES ≡ entry.0 % PAGES → e.0 < entry.0) tuples.old.entries }
     ensures { OnOk result (IsAdded tuples.old.entries tuples.new.entries entry) }
 {
     match tuples.insert(entry.0, entry.1) {

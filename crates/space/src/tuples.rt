@@ -153,7 +153,7 @@ impl Space {
 
     // The space of a version by the texts of its pages 0 to 255 and its next birth number.
     fn with_pages(alloc: Global, version: Version, pages: &[&[u8]], next: u64) -> Result<Space, Bad>
-        requires { length pages.now ≡ 256 }
+        requires { length pages.now ≡ PAGES }
         ensures found { IfOk result (λ s. ArePagesOf version next (texts_of pages.now) s) }
         ensures only { ReadsAllPages version next (texts_of pages.now) result }
     {
@@ -228,7 +228,7 @@ impl Space {
 
     /// How many tuples lie on each page.
     pub(crate) fn page_counts(&self) -> &[u8; PAGES]
-        ensures { (page : ℕ) → page < 256 → slice_index_or result.now page 0 ≡ page_count self.now.entries page }
+        ensures { (page : ℕ) → page < PAGES → slice_index_or result.now page 0 ≡ page_count self.now.entries page }
     {
         &self.page_counts
     }
@@ -486,7 +486,7 @@ impl Space {
         ensures state { OnOk result (Follows self.old self.new client (operation_of op.now)) }
         ensures tuples { OnOk result (TuplesFollow self.old self.new client (operation_of op.now)) }
         ensures valid { IsState self.new }
-        ensures next { self.new.next ≤ self.old.next + 256 }
+        ensures next { self.new.next ≤ self.old.next + PAGES }
         ensures memory { OnErr result (WantsMemory self.old (operation_of op.now)) }
         ensures err { OnErr result (self.new ≡ self.old) }
     {
@@ -640,7 +640,7 @@ fn add_page(pages: &mut [bool; PAGES], page: usize)
 
 // Adds all pages to a set of pages.
 fn add_all_pages(pages: &mut [bool; PAGES])
-    ensures { pages.new ≡ with_pages pages.old (range_with_len 0 256) }
+    ensures { pages.new ≡ with_pages pages.old (range_with_len 0 PAGES) }
 {
     for page in 0..PAGES {
         add_page(pages, page);

@@ -40,8 +40,8 @@ impl Watched {
     /// A space whose pages are all touched, and changed.
     pub fn of(space: Space) -> Watched
         ensures state { result.state ≡ space }
-        ensures all { (page : ℕ) → page < 256 → is_touched result page ≡ true }
-        ensures changed { (page : ℕ) → page < 256 → is_changed result page ≡ true }
+        ensures all { (page : ℕ) → page < PAGES → is_touched result page ≡ true }
+        ensures changed { (page : ℕ) → page < PAGES → is_changed result page ≡ true }
     {
         Watched {
             space,
@@ -104,7 +104,7 @@ impl Watched {
     /// Begins anew: no page is touched. Takes no memory.
     pub fn untouch(&mut self)
         ensures state { self.new.state ≡ self.old.state }
-        ensures none { (page : ℕ) → page < 256 → is_touched self.new page ≡ false }
+        ensures none { (page : ℕ) → page < PAGES → is_touched self.new page ≡ false }
     {
         self.changed = [false; PAGES];
         self.written = *self.space.page_counts();

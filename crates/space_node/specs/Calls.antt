@@ -1,6 +1,7 @@
 -- The entries of a call in its client's history, whose newest entry stands first.
-use Rattle.std.specs.Prelude.{◌≡◌, ℕ, suc, ◌-◌, ◌^◌, ◌≤◌, ◌⊎◌, true, false, List, [], ◌∷◌, ◌++◌, ⊤}
+use Rattle.std.specs.Prelude.{◌≡◌, ℕ, suc, ◌^◌, ◌≤◌, ◌⊎◌, true, false, List, [], ◌∷◌, ◌++◌, ⊤}
 use Rattle.std.specs.declared.alloc.Global.{Global}
+use Rattle.terms.specs.Parties.{client_number}
 use Rattle.tuple_codec.specs.OperationView.{outcome_of}
 use Rattle.tuple_codec.specs.declared.operations.Answer.{Answer}
 use Rattle.tuple_codec.specs.Operations.{Operation, Outcome}
@@ -35,8 +36,8 @@ pub record Called (old : Seated) (op : Operation) (answer : Outcome) (new : Seat
   pub between : List Entry
   pub quiet : Each IsQuiet between
   pub history : let timestamp = suc (last_call old.history) in
-      new.history ≡ Accepted (old.party - 256) timestamp answer
-      ∷ (between ++ Invoke (old.party - 256) timestamp op ∷ old.history)
+      new.history ≡ Accepted (client_number old.party) timestamp answer
+      ∷ (between ++ Invoke (client_number old.party) timestamp op ∷ old.history)
   pub party : new.party ≡ old.party
   pub running : new.stopped ≡ false
 
@@ -74,7 +75,7 @@ pub record Begins (old : Seated) (op : Operation) (new : Seated) : Type 0 where
   pub more : List Entry
   pub quiet : Each IsQuiet more
   pub history : let timestamp = suc (last_call old.history) in
-      new.history ≡ more ++ Invoke (old.party - 256) timestamp op ∷ old.history
+      new.history ≡ more ++ Invoke (client_number old.party) timestamp op ∷ old.history
   pub party : new.party ≡ old.party
   pub running : new.stopped ≡ false
 
@@ -90,7 +91,7 @@ pub record GoesOn (old new : Seated) : Type 0 where
 pub record Ends (old : Seated) (answer : Outcome) (new : Seated) : Type 0 where
   pub more : List Entry
   pub quiet : Each IsQuiet more
-  pub history : new.history ≡ Accepted (old.party - 256) (last_call old.history) answer ∷ (more ++ old.history)
+  pub history : new.history ≡ Accepted (client_number old.party) (last_call old.history) answer ∷ (more ++ old.history)
   pub party : new.party ≡ old.party
   pub running : new.stopped ≡ false
 

@@ -1,5 +1,6 @@
 -- The drills that a cluster may start with, and the answers of a stale replica.
-use Rattle.std.specs.Prelude.{◌≡◌, ◌≢◌, ℕ, ◌+◌, Bool, true, ◌&&◌, not, List, [], ◌∷◌, All, AllPairs, Some, map}
+use Rattle.std.specs.Prelude.{◌≡◌, ◌≢◌, ℕ, Bool, true, ◌&&◌, not, List, [], ◌∷◌, All, AllPairs, Some, map}
+use Rattle.terms.specs.Parties.{client_party}
 use Rattle.quorum.specs.Quorum.{member}
 use Rattle.tuple_codec.specs.Operations.{Operation}
 use Rattle.space.specs.Applying.{no_tuples, outcome, is_read_only}
@@ -44,6 +45,6 @@ pub record IsStale (m : Membership) (me : ℕ) (bytes : List ℕ) (output : Outp
   pub client : ℕ
   pub timestamp : ℕ
   pub op : Operation
-  pub hears : heard m me bytes ≡ Some (read_only_request (256 + client) timestamp op)
+  pub hears : heard m me bytes ≡ Some (read_only_request (client_party client) timestamp op)
   pub read : is_read_only op ≡ true
-  pub answers : IsSealedPost m me (read_reply client timestamp 0 (outcome no_tuples client op)) ((256 + client) ∷ []) output
+  pub answers : IsSealedPost m me (read_reply client timestamp 0 (outcome no_tuples client op)) (client_party client ∷ []) output

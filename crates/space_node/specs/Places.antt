@@ -1,13 +1,14 @@
 -- Handles that a cluster still has, by the numbers of their parties, and the seats of a new one.
 use Rattle.std.specs.Prelude.{◌≡◌, ℕ, ◌<◌, List, [], ◌∷◌, ◌++◌, Contains, MatchOption, Option, cond, filter, map, nat_le, nat_lt, slice_get, Some}
 use Rattle.std.specs.List.{range_with_len}
+use Rattle.terms.specs.declared.parties.TheConstants.{FIRST_CLIENT}
 use Rattle.protocol.specs.System.Configuration.{Configuration}
 use Rattle.journal.specs.Parts.{Part}
 use Rattle.space_node.specs.Seats.{Seated, new_seat}
 
 -- The clients of a configuration, each of which has a handle in a new cluster.
 abbrev pub clients_of : Configuration → List ℕ
-clients_of c = range_with_len 256 c.clients
+clients_of c = range_with_len FIRST_CLIENT c.clients
 
 -- one handle of the party is taken, and all others are left
 pub record Takes (old : List ℕ) (p : ℕ) (new : List ℕ) : Type 0 where
@@ -25,15 +26,15 @@ HandsOut old p result new =
 
 -- the clients among parties: their numbers begin at 256
 abbrev pub clients_among : List ℕ → List ℕ
-clients_among = filter (nat_le 256)
+clients_among = filter (nat_le FIRST_CLIENT)
 
 -- the replicas among parties
 abbrev pub replicas_among : List ℕ → List ℕ
-replicas_among = filter (λ p. nat_lt p 256)
+replicas_among = filter (λ p. nat_lt p FIRST_CLIENT)
 
 -- if the party is a replica, the first of these shares of ordering is its
 abbrev pub IsFirst : ℕ → List Part → Type 0
-IsFirst p orders = p < 256 → slice_get (map (λ o. o.party) orders) 0 ≡ Some p
+IsFirst p orders = p < FIRST_CLIENT → slice_get (map (λ o. o.party) orders) 0 ≡ Some p
 
 -- all but the first
 abbrev pub later_of : List Part → List Part
@@ -42,7 +43,7 @@ later_of (order ∷ orders) = orders
 
 -- the shares of ordering that are left after the party has its seat
 abbrev pub left_after : ℕ → List Part → List Part
-left_after p orders = cond (nat_lt p 256) (later_of orders) orders
+left_after p orders = cond (nat_lt p FIRST_CLIENT) (later_of orders) orders
 
 abbrev pub parties_of : List Seated → List ℕ
 parties_of handles = map (λ s. s.party) handles

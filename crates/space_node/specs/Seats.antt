@@ -1,6 +1,8 @@
 -- The seats of parties: their values in contracts, their invariants, and their changes by an event. The newest entry
 -- of a history stands first.
-use Rattle.std.specs.Prelude.{◌≡◌, ℕ, ◌+◌, ◌<◌, Bool, true, false, ◌||◌, List, [], ◌∷◌, map, is_some}
+use Rattle.std.specs.Prelude.{◌≡◌, ℕ, ◌<◌, Bool, true, false, ◌||◌, List, [], ◌∷◌, map, is_some}
+use Rattle.terms.specs.Parties.{client_party}
+use Rattle.terms.specs.declared.parties.TheConstants.{FIRST_CLIENT}
 use Rattle.protocol.specs.System.Configuration.{Configuration, is_correct_replica}
 use Rattle.protocol.specs.System.Reads.{without_reads}
 use Rattle.protocol.specs.System.Trace.{Entry, party_of, is_output}
@@ -82,7 +84,7 @@ seat_after s input outs = record {
 -- The desk fits the history of a replica, which is prompt to its end. If the replica stops in an event, the history
 -- doesn't have that event.
 pub record SeatsDesk (c : Configuration) (desk : DeskPart) (share : Part) : Type 0 where
-  pub replica : share.party < 256
+  pub replica : share.party < FIRST_CLIENT
   pub fits : FitsDesk c share.party desk share.history
   pub prompt : IsPromptReplica c share.party share.history
 
@@ -90,7 +92,7 @@ pub record SeatsDesk (c : Configuration) (desk : DeskPart) (share : Part) : Type
 -- prompt to its end.
 pub record SeatsClient (c : Configuration) (number : ℕ) (client : ClientState) (calls : ℕ) (stopped : Bool)
     (share : Part) : Type 0 where
-  pub party_is : share.party ≡ 256 + number
+  pub party_is : share.party ≡ client_party number
   pub no_replica : is_correct_replica c share.party ≡ false
   pub calls_are : last_call share.history ≡ calls
   pub number_is : client.number ≡ number
@@ -111,4 +113,4 @@ InputLeads o d input outs later_o later_d =
 abbrev pub ClientLeads : ClientState → Input → List Output → ClientState → Type 0
 ClientLeads old input outs new =
     (c : Configuration) (history : List Entry) → Fits c old history
-    → Fits c new (after_event (256 + old.number) (input_of (256 + old.number) input) outs history)
+    → Fits c new (after_event (client_party old.number) (input_of (client_party old.number) input) outs history)

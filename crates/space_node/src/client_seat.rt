@@ -1,6 +1,7 @@
 //! The state that a client's handle keeps.
 
 ghost use Rattle.std.specs.Prelude.{◌≡◌, ◌↔◌, ◌+◌, Err, [], true, false, IfOk, OnErr, IsTrue};
+ghost use Rattle.terms.specs.Parties.{client_party};
 ghost use Rattle.tuple_codec.specs.OperationView.{operation_of};
 ghost use Rattle.protocol.specs.System.Configuration.{is_correct_replica};
 ghost use Rattle.protocol.specs.Client.RightClient.{IsPromptClient};
@@ -55,7 +56,7 @@ impl<N: Naming> Model for ClientSeat<N> {
 impl<N: Naming> ClientSeat<N> {
     /// The seat of a client that made no call.
     pub(crate) fn new(id: ClientId, client: Client, share: Share<N>) -> ClientSeat<N>
-        requires party { share.party ≡ 256 + id.number }
+        requires party { share.party ≡ client_party id.number }
         requires no_replica { is_correct_replica N.config share.party ≡ false }
         requires new { share.history ≡ [] }
         requires number { client.number ≡ id.number }

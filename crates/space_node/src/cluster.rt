@@ -1,7 +1,7 @@
 //! A running cluster.
 
 ghost use Rattle.std.specs.Prelude.{◌≡◌, ◌↔◌, ◌+◌, All, Contains, Err, IfOk, IfErr, MatchOption, map, reverse};
-ghost use Rattle.terms.specs.Parties.{party_number};
+ghost use Rattle.terms.specs.Parties.{party_number, client_party};
 ghost use Rattle.space_node.specs.declared.fault.StartFault.TheVariants as StartFault;
 ghost use Rattle.space_node.specs.Drills.{MayStart, replicas_of};
 ghost use Rattle.space_node.specs.Places.{HandleAt, HandsOut, clients_of, parties_of};
@@ -139,7 +139,7 @@ impl<N: Naming + Send + Sync + 'static> Cluster<N> {
 
     /// The handle of the client of this number, at the first request for it. The client has made no call.
     pub fn client(&mut self, number: u16) -> Option<ClientHandle<N>>
-        ensures { HandsOut self.old (256 + number) result self.new }
+        ensures { HandsOut self.old (client_party number) result self.new }
     {
         let at = place_of(self.handles.as_slice(), number)?;
         Some(self.handles.remove(at))
@@ -217,8 +217,8 @@ fn new_handles<N: Naming>(
 
 // The place of the client's handle.
 fn place_of<N: Naming>(handles: &[ClientHandle<N>], number: u16) -> Option<usize>
-    ensures { MatchOption result (¬ Contains (parties_of handles.now) (256 + number))
-        (HandleAt handles.now (256 + number)) }
+    ensures { MatchOption result (¬ Contains (parties_of handles.now) (client_party number))
+        (HandleAt handles.now (client_party number)) }
 {
     for (at, handle) in handles.iter().enumerate() {
         if handle.is_of(number) {

@@ -1,6 +1,7 @@
 //! The state behind a node's shelf lock.
 
 ghost use Rattle.std.specs.Prelude.{◌≡◌, ◌<◌, [], IfSome, IfNone};
+ghost use Rattle.terms.specs.declared.parties.TheConstants.{FIRST_CLIENT};
 ghost use Rattle.protocol.specs.Replica.Owed.{IsPromptReplica};
 ghost use Rattle.protocol.specs.System.Trace.Entry.{Got};
 ghost use Rattle.replica.specs.Parted.{FitsDesk};
@@ -46,7 +47,7 @@ impl<N: Naming> Model for DeskSeat<N> {
 impl<N: Naming> DeskSeat<N> {
     /// The seat of a replica that has done nothing.
     pub(crate) fn new(desk: Desk, share: Share<N>) -> DeskSeat<N>
-        requires replica { share.party < 256 }
+        requires replica { share.party < FIRST_CLIENT }
         requires fits { FitsDesk N.config share.party desk share.history }
         requires new { share.history ≡ [] }
     {

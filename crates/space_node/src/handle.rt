@@ -1,8 +1,8 @@
 //! A client's handle.
 
-ghost use Rattle.std.specs.Prelude.{◌≡◌, ◌↔◌, ◌+◌, Err, false, IfOk, OnErr, IsTrue};
+ghost use Rattle.std.specs.Prelude.{◌≡◌, ◌↔◌, Err, false, IfOk, OnErr, IsTrue};
 ghost use Rattle.tuple_codec.specs.OperationView.{operation_of, outcome_of};
-ghost use Rattle.terms.specs.Parties.{party_number};
+ghost use Rattle.terms.specs.Parties.{party_number, client_party};
 ghost use Rattle.protocol.specs.Client.RightClient.{IsPromptClient};
 ghost use Rattle.space_node.specs.declared.fault.CallFault.TheVariants as CallFault;
 ghost use Rattle.space_node.specs.Calls.{Called, Ends, IsSpent, Refused};
@@ -68,7 +68,7 @@ impl<N: Naming> ClientHandle<N> {
 
     /// Whether it is the handle of the client of this number.
     pub(crate) fn is_of(&self, number: u16) -> bool
-        ensures { IsTrue result ↔ (self.now.party ≡ 256 + number) }
+        ensures { IsTrue result ↔ (self.now.party ≡ client_party number) }
     {
         match self.party() {
             Party::Client(client) => client.number == number,

@@ -1,6 +1,7 @@
 //! The seats of a new cluster.
 
-ghost use Rattle.std.specs.Prelude.{◌≡◌, ◌+◌, ◌++◌, ◌<◌, [], ◌∷◌, All, IfOk, OnOk, map};
+ghost use Rattle.std.specs.Prelude.{◌≡◌, ◌++◌, ◌<◌, [], ◌∷◌, All, IfOk, OnOk, map};
+ghost use Rattle.terms.specs.Parties.{client_party};
 ghost use Rattle.protocol.specs.System.Configuration.{IsConfiguration};
 ghost use Rattle.space_node.specs.Places.{IsFirst, clients_among, clients_of, later_of, left_after, replicas_among};
 ghost use Rattle.space_node.specs.Seats.{IsNew};
@@ -204,7 +205,7 @@ fn new_client<N: Naming>(
 ) -> Result<(Inbox, ClientEnd<N>), NoMemory>
     requires config { config.now ≡ N.config }
     requires keys { publics.now ≡ config.now.seed }
-    requires party { share.party ≡ 256 + id.number }
+    requires party { share.party ≡ client_party id.number }
     requires new { share.history ≡ [] }
     ensures { IfOk result (λ r. r.1.seat.party ≡ share.party) }
 {

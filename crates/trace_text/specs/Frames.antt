@@ -1,6 +1,8 @@
 -- The contents of frames, as text.
-use Rattle.std.specs.Prelude.{ℕ, ◌-◌, nat_lt, if◌then◌else◌, List, [], ◌∷◌, ◌++◌, length, take, codes, Option, Some, None}
+use Rattle.std.specs.Prelude.{ℕ, nat_lt, if◌then◌else◌, List, [], ◌∷◌, ◌++◌, length, take, codes, Option, Some, None}
 use Rattle.std.specs.Fmt.{decimal}
+use Rattle.terms.specs.declared.parties.TheConstants.{FIRST_CLIENT}
+use Rattle.terms.specs.Parties.{client_number}
 use Rattle.hex.specs.Hex.{encode_lower}
 use Rattle.terms.specs.declared.order.Mode.{Mode}
 use Rattle.terms.specs.declared.order.Mode.TheVariants as modes
@@ -14,7 +16,7 @@ use Rattle.trace_text.specs.Lists.{listed}
 
 -- replica 0 stands as r0, client 0 as c0
 abbrev pub party_text : ℕ → List ℕ
-party_text p = if nat_lt p 256 then 114 ∷ decimal p else 99 ∷ decimal (p - 256)
+party_text p = if nat_lt p FIRST_CLIENT then 114 ∷ decimal p else 99 ∷ decimal (client_number p)
 
 -- The first four bytes of a digest are shown.
 abbrev pub short : List ℕ → List ℕ

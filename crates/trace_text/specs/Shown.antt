@@ -1,9 +1,9 @@
 -- The texts of Rust values, for the contracts of private functions.
-use Rattle.std.specs.Prelude.{ℕ, ◌+◌, List, ◌++◌, codes, Vec}
+use Rattle.std.specs.Prelude.{ℕ, List, ◌++◌, codes, Vec}
 use Rattle.std.specs.Borrow.{Bor}
 use Rattle.std.specs.Fmt.{decimal}
 use Rattle.std.specs.declared.alloc.Global.{Global}
-use Rattle.terms.specs.Parties.{party_number}
+use Rattle.terms.specs.Parties.{party_number, client_party}
 use Rattle.terms.specs.declared.parties.Party.{Party}
 use Rattle.tuple_codec.specs.OperationView.{operation_of, outcome_of}
 use Rattle.wire_format.specs.Views.{checkpoint_entry_data, batch_entry_data, batch_text, view_change_data, new_view_data}
@@ -82,11 +82,11 @@ started_shown sender m =
 
 abbrev pub replied_shown : Party → Reply → List ℕ
 replied_shown sender m =
-    frames.replied (name_text sender) (256 + m.client.number) m.timestamp.0 m.kind m.number.0
+    frames.replied (name_text sender) (client_party m.client.number) m.timestamp.0 m.kind m.number.0
 
 abbrev pub reply_shown : Party → Reply → List ℕ
 reply_shown sender m =
-    frames.reply_text (name_text sender) (256 + m.client.number) m.timestamp.0 m.kind m.number.0 (outcome_of m.answer)
+    frames.reply_text (name_text sender) (client_party m.client.number) m.timestamp.0 m.kind m.number.0 (outcome_of m.answer)
 
 abbrev pub page_shown : Party → Page → List ℕ
 page_shown sender m = frames.page_part_text (name_text sender) m.number.0 m.index m.text.items

@@ -2,6 +2,7 @@
 -- The contracts of private functions use these readers; those of public functions use Spelling alone.
 use Rattle.std.specs.Prelude.{ℕ, zero, suc, Bool, true, false, ◌&&◌, ◌||◌, ◌==◌, nat_lt, nat_le, is_some, if◌then◌else◌, List, [], ◌∷◌, ◌++◌, length, slice_index, Option, Some, None}
 use Rattle.std.specs.Bool.{then_some}
+use Rattle.terms.specs.declared.parties.TheConstants.{FIRST_CLIENT}
 use Rattle.tuple_tree.specs.Reading.{◌>>=◌, Reader, read_as, byte_at, bytes_at, number_of}
 use Rattle.tuple_codec.specs.Reading.{operation_at, outcome_at}
 use Rattle.terms.specs.declared.order.Mode.{Mode}
@@ -152,7 +153,7 @@ unfoldable pub checkpoint_at : Reader MessageData
 checkpoint_at bs = read_as (λ p. checkpoint p.0 p.1) (both (number_of 8) digest_at) bs
 
 unfoldable pub client_at : Reader ℕ
-client_at bs = passing (λ n. nat_le 256 n) (number_of 2) bs
+client_at bs = passing (λ n. nat_le FIRST_CLIENT n) (number_of 2) bs
 
 unfoldable pub reply_at : Reader MessageData
 reply_at bs =

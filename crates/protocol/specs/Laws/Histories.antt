@@ -1,5 +1,6 @@
 -- The laws over all safe histories: what may be sent, agreement on batches, states and roots, and the first view.
 use Rattle.std.specs.Prelude.{◌≡◌, ℕ, ◌+◌, ◌^◌, ◌≤◌, ◌<◌, ◌⊎◌, true, List, [], ◌∷◌, ◌++◌, length, Some}
+use Rattle.partition_tree.specs.declared.tree.TheConstants.{PAGES}
 use Rattle.sha2.specs.Sha256.{sha256}
 use Rattle.protocol.specs.System.Configuration.{Configuration, IsConfiguration, is_correct, is_correct_replica, is_correct_client}
 use Rattle.wire_format.specs.Messages.{MessageData as Message, NewViewData, ViewChangeData, view_change as ViewChange}
@@ -97,7 +98,7 @@ PointsAreOne =
 -- States are equal if their pages are.
 abbrev pub PagesDetermine : Type 0
 PagesDetermine =
-    (st other : State) → IsReplicatedState st → IsReplicatedState other → ((i : ℕ) → i < 1024 → page_text st i ≡ page_text other i)
+    (st other : State) → IsReplicatedState st → IsReplicatedState other → ((i : ℕ) → i < PAGES → page_text st i ≡ page_text other i)
     → st ≡ other
 
 -- Fewer than 2^48 batches leave a well-formed state.

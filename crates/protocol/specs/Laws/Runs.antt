@@ -1,5 +1,6 @@
 -- Laws over all runs: the headline, the levels at which answers are accepted, and that no request runs twice.
-use Rattle.std.specs.Prelude.{◌≡◌, ℕ, ◌+◌, ◌<◌, true, List, [], ◌∷◌, Some, ⊤, map, suc, ◌++◌}
+use Rattle.std.specs.Prelude.{◌≡◌, ℕ, ◌<◌, true, List, [], ◌∷◌, Some, ⊤, map, suc, ◌++◌}
+use Rattle.terms.specs.Parties.{client_party}
 use Rattle.terms.specs.declared.order.Mode.TheVariants as modes
 use Rattle.protocol.specs.System.Configuration.{Configuration, IsConfiguration}
 use Rattle.protocol.specs.System.Trace.{Entry, history_of, Always, Unforged}
@@ -34,9 +35,9 @@ RunsAreLinear =
 -- greater number had been reached by all but f.
 abbrev pub AtItsLevel : Configuration → List Entry → Entry → Type 0
 AtItsLevel c past (Accepted k timestamp answer) =
-    (vote : Vote) × (newest_vote c (256 + k) (history_of (256 + k) past) timestamp ≡ Some vote)
+    (vote : Vote) × (newest_vote c (client_party k) (history_of (client_party k) past) timestamp ≡ Some vote)
     × (is_level c past vote.number ≡ true)
-    × (vote.mode ≡ modes.ReadOnly → (n : ℕ) → vote.number < n → is_level c (invoke_past (256 + k) past) n ≡ true → ⊥)
+    × (vote.mode ≡ modes.ReadOnly → (n : ℕ) → vote.number < n → is_level c (invoke_past (client_party k) past) n ≡ true → ⊥)
 AtItsLevel c past _ = ⊤
 
 -- It is so at each acceptance of a run.

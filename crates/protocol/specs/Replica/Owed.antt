@@ -1,9 +1,10 @@
 -- What a correct replica owes in an event: all outputs that the input makes due, and none if the input is dropped
 -- (Castro and Liskov, TOCS 2002, on normal-case operation, garbage collection, view changes and state transfer). No law
 -- of agreement uses it. It speaks of the same points as what a replica may do.
-use Rattle.std.specs.Prelude.{◌≡◌, ◌≢◌, ℕ, suc, ◌+◌, ◌-◌, ◌/◌, ◌%◌, ◌≤◌, ◌<◌, ◌⊎◌, Bool, true, false, List, [], ◌∷◌, ◌++◌, length, reverse, ◌==◌, Option, Some, None, slice_get, AllPairs, ⊤}
+use Rattle.std.specs.Prelude.{◌≡◌, ◌≢◌, ℕ, suc, ◌+◌, ◌/◌, ◌%◌, ◌≤◌, ◌<◌, ◌⊎◌, Bool, true, false, List, [], ◌∷◌, ◌++◌, length, reverse, ◌==◌, Option, Some, None, slice_get, AllPairs, ⊤}
 use Rattle.std.specs.List.{list_any}
 use Rattle.std.specs.Option.{option_map_or}
+use Rattle.terms.specs.Parties.{client_party, client_number}
 use Rattle.sha2.specs.Sha256.{sha256}
 use Rattle.tuple_codec.specs.Operations.{Operation}
 use Rattle.space.specs.Applying.{outcome, is_read_only}
@@ -168,7 +169,7 @@ IsLatestChange c past s vc =
 abbrev pub Counts : Configuration → ℕ → List Entry → Point → List ℕ → ℕ → Message → Type 0
 Counts c me past point bytes s (Request t modes.ReadOnly op) = is_read_only op ≡ true
 Counts c me past point bytes s (Request t modes.Ordered op) =
-    (k : ℕ) × (s ≡ 256 + k)
+    (k : ℕ) × (s ≡ client_party k)
     × (((kept : Kept) × (kept_of point.state k ≡ Some kept) × (kept.timestamp ≡ t))
     ⊎ ((last_time point.state k < t) × IsNoOlder point.waiting k t op))
 Counts c me past point bytes s (PrePrepare v i batch) =
@@ -246,7 +247,7 @@ pub record CanBeginView (c : Configuration) (me : ℕ) (past : List Entry) (new 
 abbrev pub WaitsAlready : Configuration → ℕ → List Entry → Entry → Point → Type 0
 WaitsAlready c me before input old =
     (call : Call) × Has (λ x. x ≡ call) old.waiting
-    × Hears c me (record { sender = 256 + call.client; message = Request call.timestamp modes.Ordered call.op }) before
+    × Hears c me (record { sender = client_party call.client; message = Request call.timestamp modes.Ordered call.op }) before
     input
 
 -- the new view that began view v, if one did, assigns only numbers below i
@@ -310,14 +311,14 @@ pub record Owes (c : Configuration) (me : ℕ) (before : List Entry) (input : En
       → Has (λ st. (st.number ≡ k) × SendsMessage me (Checkpoint k (root_of st)) outputs) new.snapshots
   -- a request of the last timestamp gets its kept reply again
   pub again : (k timestamp : ℕ) (op : Operation) (kept : Kept)
-      → Hears c me (record { sender = 256 + k; message = Request timestamp modes.Ordered op }) before input
+      → Hears c me (record { sender = client_party k; message = Request timestamp modes.Ordered op }) before input
       → kept_of old.state k ≡ Some kept → kept.timestamp ≡ timestamp → SendsMessage me (reply_of k kept) outputs
   -- a request that waits already makes the replica send again what others may lack
   pub says_again : WaitsAlready c me before input old → SendsAgain c me before old.state.number outputs
   pub reads : (client timestamp : ℕ) (op : Operation)
       → Hears c me (record { sender = client; message = Request timestamp modes.ReadOnly op }) before input
       → is_read_only op ≡ true
-      → SendsMessage me (Reply client timestamp modes.ReadOnly old.state.number (outcome (tuples old.state) (client - 256) op)) outputs
+      → SendsMessage me (Reply client timestamp modes.ReadOnly old.state.number (outcome (tuples old.state) (client_number client) op)) outputs
   pub fetched_digests : (s k index : ℕ) (level : Level) → has_children level ≡ true
       → Hears c me (record { sender = s; message = Fetch k level index }) before input
       → (st : State) → KeptState c me before old k (λ x. x ≡ st)

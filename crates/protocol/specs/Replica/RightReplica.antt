@@ -1,9 +1,11 @@
 -- What a correct replica may do: the entries that may follow a past (Castro and Liskov, TOCS 2002, on normal-case
 -- operation, garbage collection, view changes and state transfer). Owed has what it owes, and the whole of a correct
 -- replica's history (IsReplica).
-use Rattle.std.specs.Prelude.{◌≡◌, ◌≢◌, ℕ, suc, ◌+◌, ◌-◌, ◌%◌, ◌≤◌, ◌<◌, ◌⊎◌, Bool, true, ◌&&◌, ◌||◌, not, List, [], ◌∷◌, ◌++◌, map, reverse, filter, nat_le, nat_lt, ◌==◌, if◌then◌else◌, Some, None, option_and_then, is_some, AllPairs, ⊤, max, Option}
+use Rattle.std.specs.Prelude.{◌≡◌, ◌≢◌, ℕ, suc, ◌+◌, ◌%◌, ◌≤◌, ◌<◌, ◌⊎◌, Bool, true, ◌&&◌, ◌||◌, not, List, [], ◌∷◌, ◌++◌, map, reverse, filter, nat_le, nat_lt, ◌==◌, if◌then◌else◌, Some, None, option_and_then, is_some, AllPairs, ⊤, max, Option}
 use Rattle.std.specs.List.{list_all, range_with_len}
 use Rattle.std.specs.Option.{option_map_or}
+use Rattle.terms.specs.Parties.{client_party, client_number}
+use Rattle.partition_tree.specs.declared.tree.TheConstants.{PAGES}
 use Rattle.sha2.specs.Sha256.{sha256}
 use Rattle.quorum.specs.Quorum.{count_below}
 use Rattle.tuple_codec.specs.Operations.{Operation, Outcome}
@@ -129,7 +131,7 @@ pub record IsInstalled (c : Configuration) (me : ℕ) (past : List Entry) (old :
   pub is_state : IsReplicatedState new.state
   pub number : new.state.number ≡ k
   pub root_is : root_of new.state ≡ root
-  pub pages : (i : ℕ) → i < 1024 → page_text new.state i ≡ in_place c me k past old.state i
+  pub pages : (i : ℕ) → i < PAGES → page_text new.state i ≡ in_place c me k past old.state i
   pub snapshots : new.snapshots ≡ new.state ∷ old.snapshots
   pub ran : new.ran ≡ old.ran
   pub waiting : new.waiting ≡ still_waiting new.state old.waiting
@@ -315,7 +317,7 @@ MayNewView c me past e bytes new =
 
 -- the reply that is kept for client k, as a message
 abbrev pub reply_of : ℕ → Kept → Message
-reply_of k kept = Reply (256 + k) kept.timestamp modes.Ordered kept.number kept.outcome
+reply_of k kept = Reply (client_party k) kept.timestamp modes.Ordered kept.number kept.outcome
 
 -- The reply is to a request that ran in the event. Or it is the client's kept one, and the event's input is that
 -- request of the client.
@@ -332,7 +334,7 @@ pub record MayReplyRead (c : Configuration) (me : ℕ) (past : List Entry) (poin
   pub op : Operation
   pub is_read : is_read_only op ≡ true
   pub heard : Once (Hears c me (record { sender = client; message = Request timestamp modes.ReadOnly op })) past
-  pub answer_is : answer ≡ outcome (tuples point.state) (client - 256) op
+  pub answer_is : answer ≡ outcome (tuples point.state) (client_number client) op
   pub number_is : number ≡ point.state.number
 
 -- each mode of replies has its rule

@@ -3,6 +3,9 @@
 use Rattle.std.specs.Prelude.{ℕ, suc, ◌+◌, ◌-◌, Bool, ◌&&◌, List, [], ◌∷◌, ◌++◌, map, nat_lt, ◌==◌, if◌then◌else◌, Option, Some, None, option_and_then, fold}
 use Rattle.std.specs.List.{range_with_len}
 use Rattle.std.specs.Option.{option_map_or}
+use Rattle.partition_tree.specs.declared.tree.TheConstants.{PAGES}
+use Rattle.space.specs.declared.births.TheConstants.{PAGES as TUPLE_PAGES}
+use Rattle.terms.specs.Parties.{client_number}
 use Rattle.tuple_codec.specs.Operations.{Operation}
 use Rattle.space.specs.Applying.{Contents, outcome}
 use Rattle.space.specs.Births.{SpaceState, empty_state, tuples_of, state_after}
@@ -51,7 +54,7 @@ pub record Call : Type 0 where
 abbrev pub call_in : Configuration → Body → Option Call
 call_in c body = elim body.message [
   | Request timestamp mode op ↦ if same_mode mode modes.Ordered && is_client c body.sender
-      then Some (record { client = body.sender - 256; timestamp = timestamp; op = op }) else None
+      then Some (record { client = client_number body.sender; timestamp = timestamp; op = op }) else None
   | _ ↦ None
 ]
 
@@ -123,14 +126,14 @@ header_page = TUPLE_PAGES + MAX_CLIENTS
 -- the text of a page
 unfoldable pub page_text : State → ℕ → List ℕ
 page_text st page =
-    if nat_lt page 256 then tuple_page st.space page else
-    if nat_lt page 512 then reply_text (kept_of st (page - 256)) else
-    if page == 512 then header_text st.space st.number else
+    if nat_lt page TUPLE_PAGES then tuple_page st.space page else
+    if nat_lt page header_page then reply_text (kept_of st (page - TUPLE_PAGES)) else
+    if page == header_page then header_text st.space st.number else
     []
 
 -- the texts of all 1,024 pages
 unfoldable pub all_pages : (ℕ → List ℕ) → List (List ℕ)
-all_pages page = map page (range_with_len 0 1024)
+all_pages page = map page (range_with_len 0 PAGES)
 
 -- the pages of a state, and the root of the tree over them, which a checkpoint has
 abbrev pub pages_of : State → List (List ℕ)

@@ -1,7 +1,8 @@
 -- Linearizability of a trace (Herlihy and Wing, Linearizability, TOPLAS 1990), and the points that linearize it.
-use Rattle.std.specs.Prelude.{◌≡◌, ℕ, zero, suc, ◌+◌, ◌-◌, ◌≤◌, Bool, true, false, ◌&&◌, ◌||◌, not, List, [], ◌∷◌, ◌++◌, length, map, max, filter, nat_lt, nat_le, ◌==◌, if◌then◌else◌, Option, Some, None, option_and_then, ⊤}
+use Rattle.std.specs.Prelude.{◌≡◌, ℕ, zero, suc, ◌+◌, ◌≤◌, Bool, true, false, ◌&&◌, ◌||◌, not, List, [], ◌∷◌, ◌++◌, length, map, max, filter, nat_lt, nat_le, ◌==◌, if◌then◌else◌, Option, Some, None, option_and_then, ⊤}
 use Rattle.std.specs.Bool.{then_some}
 use Rattle.std.specs.Option.{option_map_or}
+use Rattle.terms.specs.Parties.{client_number, client_party}
 use Rattle.tuple_codec.specs.Operations.{Operation, Outcome}
 use Rattle.space.specs.Applying.{Contents, no_tuples, outcome, tuples_after}
 use Rattle.quorum.specs.Quorum.{count_below}
@@ -31,10 +32,10 @@ pub record Item : Type 0 where
 
 -- the answer that the space gives to the item, and the contents that it leaves
 abbrev pub item_outcome : Contents → Item → Outcome
-item_outcome ts item = outcome ts (item.client - 256) item.op
+item_outcome ts item = outcome ts (client_number item.client) item.op
 
 abbrev pub item_after : Contents → Item → Contents
-item_after ts item = tuples_after ts (item.client - 256) item.op
+item_after ts item = tuples_after ts (client_number item.client) item.op
 
 -- each item's answer is that of one space, which runs the items in order from these contents
 abbrev pub LegalFrom : Contents → List Item → Type 0
@@ -49,12 +50,12 @@ Legal items = LegalFrom no_tuples items
 
 -- in this entry client p, by its party number, invokes the operation with this timestamp
 abbrev pub Invokes : ℕ → ℕ → Operation → List Entry → Entry → Type 0
-Invokes p timestamp op past (Invoke client t o) = (256 + client ≡ p) × (t ≡ timestamp) × (o ≡ op)
+Invokes p timestamp op past (Invoke client t o) = (client_party client ≡ p) × (t ≡ timestamp) × (o ≡ op)
 Invokes p timestamp op past _ = ⊥
 
 -- in this entry client p accepts the answer to its call of this timestamp
 abbrev pub Accepts : ℕ → ℕ → Outcome → List Entry → Entry → Type 0
-Accepts p timestamp answer past (Accepted client t a) = (256 + client ≡ p) × (t ≡ timestamp) × (a ≡ answer)
+Accepts p timestamp answer past (Accepted client t a) = (client_party client ≡ p) × (t ≡ timestamp) × (a ≡ answer)
 Accepts p timestamp answer past _ = ⊥
 
 -- In this entry a correct replica receives the client's ordered request, alone or carried, authentic to the replica.
@@ -167,7 +168,7 @@ pub record Placing : Type 0 where
 abbrev pub ordered_point : ℕ → ℕ → Ran → Placing
 ordered_point position number ran = record {
   item = record {
-    client = 256 + ran.call.client;
+    client = client_party ran.call.client;
     timestamp = ran.call.timestamp;
     op = ran.call.op;
     answer = ran.kept.outcome;
@@ -188,7 +189,7 @@ ordered_points c trace st k (suc more) =
 -- the past of the client's latest invocation
 abbrev pub invoke_past : ℕ → List Entry → List Entry
 invoke_past p [] = []
-invoke_past p (Invoke client t op ∷ past) = if 256 + client == p then past else invoke_past p past
+invoke_past p (Invoke client t op ∷ past) = if client_party client == p then past else invoke_past p past
 invoke_past p (_ ∷ past) = invoke_past p past
 
 -- the position of the client's latest invocation
@@ -214,9 +215,9 @@ abbrev pub read_points : Configuration → List Entry → List Entry → List Pl
 read_points c trace [] = []
 read_points c trace (Accepted client timestamp answer ∷ past) =
     option_map_or (λ point. point ∷ [])
-    (option_and_then (λ call. option_and_then (read_point c trace (256 + client) call answer past)
-    (newest_vote c (256 + client) (history_of (256 + client) past) timestamp))
-    (open_call (history_of (256 + client) past))) []
+    (option_and_then (λ call. option_and_then (read_point c trace (client_party client) call answer past)
+    (newest_vote c (client_party client) (history_of (client_party client) past) timestamp))
+    (open_call (history_of (client_party client) past))) []
     ++ read_points c trace past
 read_points c trace (_ ∷ past) = read_points c trace past
 

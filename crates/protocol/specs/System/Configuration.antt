@@ -1,6 +1,8 @@
 -- The configuration: how many replicas and clients there are, which are faulty, and what all parties are given (Castro
 -- and Liskov, TOCS 2002, on the system model: 3f + 1 replicas, of which at most f are faulty).
-use Rattle.std.specs.Prelude.{◌≡◌, ◌≢◌, ℕ, ◌-◌, ◌*◌, ◌%◌, ◌^◌, ◌≤◌, ◌<◌, Bool, ◌&&◌, ◌||◌, not, List, length, nat_lt, All, AllPairs}
+use Rattle.std.specs.Prelude.{◌≡◌, ◌≢◌, ℕ, ◌*◌, ◌%◌, ◌^◌, ◌≤◌, ◌<◌, Bool, ◌&&◌, ◌||◌, not, List, length, nat_lt, All, AllPairs}
+use Rattle.terms.specs.Parties.{client_number}
+use Rattle.terms.specs.declared.parties.TheConstants.{MAX_CLIENTS}
 use Rattle.authenticator.specs.Membership.{Membership, replicas as member_replicas, is_replica as is_member_replica, is_client as is_member_client}
 use Rattle.quorum.specs.Quorum.{member}
 
@@ -27,7 +29,7 @@ pub record IsConfiguration (c : Configuration) : Type 0 where
   pub some_faults : 1 ≤ c.faults
   pub most : c.faults ≤ 3
   pub some_clients : 1 ≤ c.clients
-  pub clients : c.clients ≤ 256
+  pub clients : c.clients ≤ MAX_CLIENTS
   pub seed : length c.seed ≡ 32
   pub period : 1 ≤ c.period
   pub period_most : c.period ≤ 16
@@ -53,7 +55,7 @@ abbrev pub is_correct_replica : Configuration → ℕ → Bool
 is_correct_replica c p = is_replica c p && not (member c.faulty_replicas p)
 
 abbrev pub is_correct_client : Configuration → ℕ → Bool
-is_correct_client c p = is_client c p && not (member c.faulty_clients (p - 256))
+is_correct_client c p = is_client c p && not (member c.faulty_clients (client_number p))
 
 abbrev pub is_correct : Configuration → ℕ → Bool
 is_correct c p = is_correct_replica c p || is_correct_client c p

@@ -1,8 +1,9 @@
 -- The inputs that a schedule feeds, over the real bytes of sealed and signed frames, and the steps that are allowed. In
 -- this file the entries that are still to come stand oldest first.
-use Rattle.std.specs.Prelude.{◌≡◌, ℕ, suc, ◌-◌, ◌+◌, ◌≤◌, ◌<◌, Bool, true, false, ◌&&◌, ◌||◌, not, List, [], ◌∷◌, ◌++◌, length, map, reverse, ◌==◌, if◌then◌else◌, Option, Some, None, slice_get, All, AllPairs, ⊤}
+use Rattle.std.specs.Prelude.{◌≡◌, ℕ, suc, ◌-◌, ◌≤◌, ◌<◌, Bool, true, false, ◌&&◌, ◌||◌, not, List, [], ◌∷◌, ◌++◌, length, map, reverse, ◌==◌, if◌then◌else◌, Option, Some, None, slice_get, All, AllPairs, ⊤}
 use Rattle.std.specs.List.{list_any, range_with_len}
 use Rattle.std.specs.Option.{option_map_or}
+use Rattle.terms.specs.Parties.{client_party}
 use Rattle.tuple_codec.specs.Operations.{Operation, Outcome, IsOperation}
 use Rattle.authenticator.specs.Keys.{signing_seed}
 use Rattle.authenticator.specs.Sealing.{entry_for}
@@ -118,7 +119,7 @@ pub record AreReceivers (c : Configuration) (receivers : List ℕ) : Type 0 wher
 -- So it is for a client that stopped: its call stays open, and it makes no second one.
 abbrev pub IsAllowed : Configuration → World → Step → Type 0
 IsAllowed c w (calls k op) =
-    (is_correct_client c (256 + k) ≡ true) × (open_call (history_of (256 + k) w.past) ≡ None) × IsOperation op
+    (is_correct_client c (client_party k) ≡ true) × (open_call (history_of (client_party k) w.past) ≡ None) × IsOperation op
 IsAllowed c w (deliver frame party) = (frame < length w.frames) × (is_correct c party ≡ true)
 IsAllowed c w (feed party text) = is_correct c party ≡ true
 IsAllowed c w (seal sender receivers body) =

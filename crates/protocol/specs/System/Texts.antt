@@ -2,6 +2,7 @@
 use Rattle.std.specs.Prelude.{◌≡◌, ℕ, ◌+◌, ◌<◌, true, ◌&&◌, List, [], ◌∷◌, length, ◌==◌, Option, Some, None}
 use Rattle.std.specs.Bool.{then_some}
 use Rattle.std.specs.List.{concat}
+use Rattle.partition_tree.specs.declared.tree.TheConstants.{PAGES}
 use Rattle.sha2.specs.Sha256.{sha256}
 use Rattle.partition_tree.specs.Digests.{inner_digests, page_digests}
 use Rattle.protocol.specs.Replica.Selection.{null_batch}
@@ -73,7 +74,7 @@ pub data IsText (c : Configuration) (trace : List Entry) : List ℕ → Type 0 w
   null : IsText c trace null_batch
   batch : (text : List ℕ) → Once (HasBatch text) trace → IsText c trace text
   part : (text : List ℕ) → Once (HasPart text) trace → IsText c trace text
-  page_of : (batches : List (List ℕ)) (i : ℕ) → i < 1024 → AreFirst c trace 1 batches
+  page_of : (batches : List (List ℕ)) (i : ℕ) → i < PAGES → AreFirst c trace 1 batches
       → IsText c trace (page_text (after_batches c opening batches) i)
   under : (batches : List (List ℕ)) (text : List ℕ) → AreFirst c trace 1 batches
       → IsUnder (page_text (after_batches c opening batches)) text → IsText c trace text

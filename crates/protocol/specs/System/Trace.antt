@@ -1,7 +1,8 @@
 -- Traces and histories. Both are lists of entries, the newest first: what follows an entry in the list is its past, and
 -- the past's length is the entry's position.
-use Rattle.std.specs.Prelude.{◌≡◌, ℕ, ◌+◌, ◌⊎◌, Bool, true, false, List, [], ◌∷◌, filter, ◌==◌, Some, ⊤}
+use Rattle.std.specs.Prelude.{◌≡◌, ℕ, ◌⊎◌, Bool, true, false, List, [], ◌∷◌, filter, ◌==◌, Some, ⊤}
 use Rattle.std.specs.Option.{option_map_or}
+use Rattle.terms.specs.Parties.{client_party}
 use Rattle.tuple_codec.specs.Operations.{Operation, Outcome}
 use Rattle.protocol.specs.System.Configuration.{Configuration, is_correct, members}
 use Rattle.wire_format.specs.Messages.{BodyData as Body}
@@ -21,13 +22,13 @@ pub data Entry : Type 0 where
 
 -- the party to which the entry belongs
 abbrev pub party_of : Entry → ℕ
-party_of (Invoke client timestamp op) = 256 + client
+party_of (Invoke client timestamp op) = client_party client
 party_of (Got party bytes) = party
 party_of (Tick party) = party
 party_of (Executed replica number batch) = replica
 party_of (Installed replica number root) = replica
 party_of (Sent party bytes) = party
-party_of (Accepted client timestamp answer) = 256 + client
+party_of (Accepted client timestamp answer) = client_party client
 
 -- an input begins an event, and outputs follow it
 abbrev pub is_output : Entry → Bool

@@ -21,7 +21,7 @@ pub returns-clause-found : goal.returns-clause-found
 returns-clause-found c =
     let texts = map (λ page. page.now) c.args.pages.now in
     let end : c.loop-text.text-index ≡ 256 = omega arith in
-    ArePages-read texts c.loop-text.slots.items (subst (λ n. AreRead texts c.loop-text.slots.items n) end c.loop-text.invariant) (length-map c.args.pages.now (λ p. p.now) ∙ c.if-pages-ne-CLIENTS.false)
+    ArePages-read texts c.loop-text.slots.items (subst (λ n. AreRead texts c.loop-text.slots.items n) end c.loop-text.invariant) (length-map c.args.pages.now (λ p. p.now) ∙ c.if-pages-ne-MAX_CLIENTS.false)
 
 pub returns-clause-only : goal.returns-clause-only
 returns-clause-only c rs are =
@@ -32,9 +32,9 @@ returns-clause-only c rs are =
 pub returns-in_err-slot-clause-memory : goal.returns-in_err-slot-clause-memory
 returns-in_err-slot-clause-memory c _ =
     let texts = map (λ page. page.now) c.args.pages.now in
-    ArePages-each texts (c.are_pages.ensures.found c.if-not-are_pages.false) (length-map c.args.pages.now (λ p. p.now) ∙ c.if-pages-ne-CLIENTS.false)
+    ArePages-each texts (c.are_pages.ensures.found c.if-not-are_pages.false) (length-map c.args.pages.now (λ p. p.now) ∙ c.if-pages-ne-MAX_CLIENTS.false)
 
 pub returns-in_err-add_slot-clause-memory : goal.returns-in_err-add_slot-clause-memory
 returns-in_err-add_slot-clause-memory c _ =
     let texts = map (λ page. page.now) c.args.pages.now in
-    ArePages-each texts (c.are_pages.ensures.found c.if-not-are_pages.false) (length-map c.args.pages.now (λ p. p.now) ∙ c.if-pages-ne-CLIENTS.false)
+    ArePages-each texts (c.are_pages.ensures.found c.if-not-are_pages.false) (length-map c.args.pages.now (λ p. p.now) ∙ c.if-pages-ne-MAX_CLIENTS.false)
