@@ -71,9 +71,7 @@ served_outcome ts (out t) = if has_room ts then done else full
 served_outcome ts (rdp p) = found_or_absent (first_match p ts)
 served_outcome ts (inp p) = found_or_absent (first_match p ts)
 served_outcome ts (cas p t) =
-    if is_some (first_match p ts) then swapped false
-    else if has_room ts then swapped true
-    else full
+    if is_some (first_match p ts) then swapped false else if has_room ts then swapped true else full
 served_outcome ts (rd_all n p) = all (take n (filter (is_match p) ts.tuples))
 served_outcome ts (in_all n p) = all (take n (filter (is_match p) ts.tuples))
 served_outcome ts upgrade = done

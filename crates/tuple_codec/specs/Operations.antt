@@ -45,8 +45,7 @@ is_read_only (rd_all n p) = true
 is_read_only (in_all n p) = false
 is_read_only upgrade = false
 
--- The operations of version 2: inAll, and those whose tuple or template has a wide number or asks for one, at any
--- level.
+-- the operations of version 2: inAll, and those with a wide number or a field that asks for one, at any level
 abbrev pub is_version_2 : Operation → Bool
 is_version_2 (out t) = has_leaf is_wide t
 is_version_2 (rdp p) = has_leaf is_wide_slot p

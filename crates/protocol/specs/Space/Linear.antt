@@ -61,25 +61,22 @@ Accepts p timestamp answer past _ = ⊥
 -- In this entry a correct replica receives the client's ordered request, alone or carried, authentic to the replica.
 abbrev pub Asks : Configuration → ℕ → ℕ → Operation → List Entry → Entry → Type 0
 Asks c client timestamp op past (Got p bytes) =
-    (is_correct_replica c p ≡ true)
-    × Has (λ frame. heard (members c) p frame
+    (is_correct_replica c p ≡ true) × Has (λ frame. heard (members c) p frame
     ≡ Some (record { sender = client; message = Request timestamp modes.Ordered op })) (frames_in bytes)
 Asks c client timestamp op past _ = ⊥
 
 -- no two items have the same client and timestamp
 abbrev pub NoneTwice : List Item → Type 0
 NoneTwice [] = ⊤
-NoneTwice (item ∷ items) =
-    (Has (λ x. (x.client ≡ item.client) × (x.timestamp ≡ item.timestamp)) items → ⊥) × NoneTwice items
+NoneTwice (i ∷ rest) = (Has (λ x. (x.client ≡ i.client) × (x.timestamp ≡ i.timestamp)) rest → ⊥) × NoneTwice rest
 
 -- The items cover the trace. Each answer that a correct client accepted has an item, with the operation that was
 -- invoked. A correct client invoked each item of its own. For each other item some correct replica had received the
 -- request by the item's position. No client and timestamp has two items.
 pub record Covers (c : Configuration) (items : List Item) (trace : List Entry) : Type 0 where
   pub accepted : (p timestamp : ℕ) (answer : Outcome) → is_correct_client c p ≡ true
-      → Once (Accepts p timestamp answer) trace
-      → Has (λ item. (item.client ≡ p) × (item.timestamp ≡ timestamp) × (item.answer ≡ answer)
-      × Once (Invokes p timestamp item.op) trace) items
+      → Once (Accepts p timestamp answer) trace → Has (λ item. (item.client ≡ p) × (item.timestamp ≡ timestamp)
+      × (item.answer ≡ answer) × Once (Invokes p timestamp item.op) trace) items
   pub invoked : (item : Item) → Has (λ x. x ≡ item) items
       → is_correct_client c item.client ≡ true → Once (Invokes item.client item.timestamp item.op) trace
   pub asked : (item : Item) → Has (λ x. x ≡ item) items → is_correct_client c item.client ≡ false

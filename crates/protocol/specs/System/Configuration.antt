@@ -6,8 +6,7 @@ use Rattle.terms.specs.declared.parties.TheConstants.{MAX_CLIENTS}
 use Rattle.authenticator.specs.Membership.{Membership, replicas as member_replicas, is_replica as is_member_replica, is_client as is_member_client}
 use Rattle.quorum.specs.Quorum.{member}
 
--- Replicas have the numbers 0 to 3f, clients 0 to clients - 1. period: how many batches go from checkpoint to
--- checkpoint.
+-- Replicas have the numbers 0 to 3f, clients 0 to clients - 1. period: the number of batches between checkpoints.
 pub record Configuration : Type 0 where
   pub faults : ℕ
   pub clients : ℕ
