@@ -6,10 +6,11 @@ use Rattle.std.proofs.lemmas.Bool.{and_parts, eqb-true, le-leb}
 use Rattle.byteorder.specs.Endian.{big_number}
 use Rattle.byteorder.specs.Numbers.{big_number-reads_back}
 use Rattle.terms.specs.declared.order.Mode.{Mode}
-use Rattle.terms.specs.declared.order.Mode.TheVariants as modes
 use Rattle.tuple_codec.specs.Operations.{Outcome}
 use Rattle.tuple_codec.specs.Spelling.{outcome_spelling}
 use Rattle.wire.specs.Headers.{HeaderData, HasHeader}
+use Rattle.wire.specs.Requests.{mode_of_byte}
+use Rattle.wire.proofs.RequestFields.{mode_again}
 use Rattle.wire_format.specs.Messages.{BodyData as Body, MessageData, reply, FrameData}
 use Rattle.wire_format.specs.Spelling.{IsMessage, SpellsFrame, authenticator_is_signed, body_spelling, frame_spelling, is_signed, message_type, mode_byte}
 use Rattle.authenticator.specs.declared.sealed.OpenFault.{OpenFault}
@@ -22,7 +23,7 @@ use Rattle.signing.proofs.Opened.{heard_by_header, own_not_heard, refused_not_he
 use Rattle.signing.proofs.Requests.{macs_hold, none_given}
 use Rattle.protocol.specs.Client.RightClient.{Vote, vote_of}
 use Rattle.client_cert.specs.declared.hearing.Heard.{Heard}
-use Rattle.client_cert.specs.Hearing.{HearsAnswer, HearsVote, is_for, mode_of}
+use Rattle.client_cert.specs.Hearing.{HearsAnswer, HearsVote, is_for}
 
 -- ---- bytes that aren't heard bring no vote
 
@@ -59,10 +60,6 @@ is_reply : (message : MessageData) → (message_type message == 0x48) ≡ true �
 is_reply (reply client timestamp kind number answer) e =
     record { client = client; timestamp = timestamp; kind = kind; number = number; answer = answer; is = refl }
 is_reply _ e = absurd (let g : ⊥ = cc in g)
-
-mode_back : (kind : Mode) → mode_of (mode_byte kind) ≡ kind
-mode_back modes.Ordered = refl
-mode_back modes.ReadOnly = refl
 
 -- a list with an item at a place is longer than that
 abbrev has_item : List ℕ → Bool
@@ -112,8 +109,8 @@ module _ (bytes : List ℕ) (frame : FrameData) (spells : SpellsFrame bytes fram
     text_is : text ≡ body_spelling (record { sender = frame.body.sender; message = reply r.client r.timestamp r.kind r.number r.answer })
     text_is = is ∙ ap (λ message. body_spelling (record { sender = frame.body.sender; message = message })) r.is
 
-    mode_is : mode_of (slice_index text 13) ≡ r.kind
-    mode_is = ap (λ bs. mode_of (slice_index bs 13)) text_is ∙ mode_back r.kind
+    mode_is : mode_of_byte (slice_index text 13) ≡ r.kind
+    mode_is = ap (λ bs. mode_of_byte (slice_index bs 13)) text_is ∙ mode_again r.kind
 
     number_is : big_number 8 (drop 14 text) ≡ r.number
     number_is = ap (λ bs. big_number 8 (drop 14 bs)) text_is ∙ big_number-reads_back 8 r.number [] valid.3
@@ -194,7 +191,7 @@ module _ (me t : ℕ) (bytes : List ℕ) (header : HeaderData) (has : HasHeader 
       (eqb-true the_reply.client me both.0, eqb-true the_reply.timestamp t both.1)
 
   module _ (m : Membership) (refusal : Option OpenFault) (value : refusal ≡ header_refusal m me header) (no_refusal : is_some refusal ≡ false)
-      (other : header.sender ≢ me) (h : Heard) (sender : h.sender ≡ header.sender) (mode : h.mode ≡ mode_of (slice_index header.text 13))
+      (other : header.sender ≢ me) (h : Heard) (sender : h.sender ≡ header.sender) (mode : h.mode ≡ mode_of_byte (slice_index header.text 13))
       (number : h.number.0 ≡ big_number 8 (drop 14 header.text)) (text : h.text.now ≡ drop 22 header.text) where
     pub hears_reply : HearsAnswer me t (heard m me bytes) h
     hears_reply =

@@ -1,10 +1,8 @@
 -- The replies that a client hears in frames. The contracts of private functions use these definitions.
-use Rattle.std.specs.Prelude.{◌≡◌, ℕ, ◌==◌, ◌&&◌, Bool, List, length, drop, slice_index, nat_le, Option, Some, None, option_and_then, if◌then◌else◌}
+use Rattle.std.specs.Prelude.{◌≡◌, ℕ, ◌==◌, ◌&&◌, Bool, List, length, drop, slice_index, nat_le, Option, Some, None, option_and_then}
 use Rattle.std.specs.declared.alloc.Global.{Global}
 use Rattle.terms.specs.Parties.{client_party}
 use Rattle.byteorder.specs.Endian.{big_number}
-use Rattle.terms.specs.declared.order.Mode.{Mode}
-use Rattle.terms.specs.declared.order.Mode.TheVariants as modes
 use Rattle.terms.specs.declared.order.Number.{Number}
 use Rattle.terms.specs.declared.order.Timestamp.{Timestamp}
 use Rattle.terms.specs.declared.parties.ClientId.{ClientId}
@@ -40,10 +38,6 @@ abbrev pub is_for : ℕ → ℕ → List ℕ → Bool
 is_for me timestamp bytes =
     nat_le 17 (length bytes) && (slice_index bytes 4 == 0x48) && (big_number 2 (drop 7 bytes) == me)
     && (big_number 8 (drop 9 bytes) == timestamp)
-
--- the mode that a byte says
-abbrev pub mode_of : ℕ → Mode
-mode_of byte = if byte == 1 then modes.ReadOnly else modes.Ordered
 
 -- The text spells an answer.
 abbrev pub SpellsAnswer : List ℕ → Type 0

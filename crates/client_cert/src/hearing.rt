@@ -4,7 +4,8 @@ ghost use Rattle.std.specs.Prelude.{◌≡◌, ◌≤◌, IfOk, length, drop, sl
 ghost use Rattle.terms.specs.Parties.{client_party};
 ghost use Rattle.byteorder.specs.Endian.{big_number};
 ghost use Rattle.client_cert.specs.Steps.{TurnsTo};
-ghost use Rattle.client_cert.specs.Hearing.{HearsReply, IsBallotOf, IsAnswerIn, SpellsAnswer, is_for, mode_of};
+ghost use Rattle.client_cert.specs.Hearing.{HearsReply, IsBallotOf, IsAnswerIn, SpellsAnswer, is_for};
+ghost use Rattle.wire.specs.Requests.{mode_of_byte};
 
 use crate::ballots::Ballot;
 use crate::call::{Call, Next};
@@ -14,7 +15,7 @@ use events::Stop;
 use std::alloc::Global;
 use terms::{ClientId, Mode, Number, Party, Timestamp};
 use tuple_codec::{Answer, Bad, decode_result};
-use wire::judge;
+use wire::{judge, mode_of_byte};
 
 /// A reply to the open call, as it stands in the bytes of its frame.
 #[derive(Clone, Copy, Drop)]
@@ -107,26 +108,15 @@ fn is_for(bytes: &[u8], client: ClientId, timestamp: Timestamp) -> bool
 fn reply_in(sender: u16, text: &[u8]) -> Heard<'_>
     requires { 22 ≤ length text.now }
     ensures sender { result.sender ≡ sender }
-    ensures mode { result.mode ≡ mode_of (slice_index text.now 13) }
+    ensures mode { result.mode ≡ mode_of_byte (slice_index text.now 13) }
     ensures number { result.number.0 ≡ big_number 8 (drop 14 text.now) }
     ensures text { result.text.now ≡ drop 22 text.now }
 {
     Heard {
         sender,
-        mode: mode_of(text[13]),
+        mode: mode_of_byte(text[13]),
         number: Number(BigEndian::read_u64(&text[14..])),
         text: &text[22..],
-    }
-}
-
-// The mode of a reply with this byte.
-fn mode_of(byte: u8) -> Mode
-    ensures { result ≡ mode_of byte }
-{
-    if byte == 1 {
-        Mode::ReadOnly
-    } else {
-        Mode::Ordered
     }
 }
 

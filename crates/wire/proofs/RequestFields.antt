@@ -13,7 +13,7 @@ use Rattle.wire.specs.declared.request_bytes.RequestBytes.{RequestBytes}
 use Rattle.wire.specs.Headers.{IsFrame}
 use Rattle.wire.specs.Marks.{has_type_of_requests}
 use Rattle.wire_format.specs.Messages.{MessageData, request, BodyData}
-use Rattle.wire.specs.Requests.{HoldsRequest, mode_from}
+use Rattle.wire.specs.Requests.{HoldsRequest, mode_of_byte}
 use Rattle.wire.specs.Pieces.{IsFrontPiece}
 use Rattle.wire_format.specs.Spelling.{IsMessage, authenticator_spelling, body_spelling, fields_spelling, message_type, mode_byte}
 use Rattle.wire.proofs.Whole.{frame_parts}
@@ -25,7 +25,7 @@ is_request : (message : MessageData) → eqb (message_type message) 0x41 ≡ tru
 is_request (request timestamp mode op) e = (timestamp, mode, op, refl)
 is_request _ e = absurd (let g : ⊥ = cc in g)
 
-mode_again : (mode : Mode) → mode_from (mode_byte mode) ≡ mode
+pub mode_again : (mode : Mode) → mode_of_byte (mode_byte mode) ≡ mode
 mode_again modes.Ordered = refl
 mode_again modes.ReadOnly = refl
 
@@ -61,7 +61,7 @@ module _ (bytes text : List ℕ) (frame : IsFrame bytes) (front : IsFrontPiece b
   valid = subst IsMessage is.3 frame.1.valid.message
 
   module _ (it : RequestBytes) (sender : party_number it.sender ≡ big_number 2 (drop 1 text)) (timestamp : it.timestamp.0 ≡ big_number 8 (drop 3 text))
-      (mode : it.mode ≡ mode_from (slice_index text 11)) (op : it.op.now ≡ drop 12 text) where
+      (mode : it.mode ≡ mode_of_byte (slice_index text 11)) (op : it.op.now ≡ drop 12 text) where
     sender_is : frame.0.body.sender ≡ party_number it.sender
     sender_is = sym (sender ∙ ap (λ t. big_number 2 (drop 1 t)) text_is ∙ big_sender frame.0.body.sender (fields_spelling (request is.0 is.1 is.2)) frame.1.valid.sender)
 
@@ -69,7 +69,7 @@ module _ (bytes text : List ℕ) (frame : IsFrame bytes) (front : IsFrontPiece b
     timestamp_is = sym (timestamp ∙ ap (λ t. big_number 8 (drop 3 t)) text_is ∙ big_timestamp is.0 (mode_byte is.1 ∷ operation_spelling is.2) valid.0)
 
     mode_is : is.1 ≡ it.mode
-    mode_is = sym (mode ∙ ap (λ t. mode_from (slice_index t 11)) text_is ∙ mode_again is.1)
+    mode_is = sym (mode ∙ ap (λ t. mode_of_byte (slice_index t 11)) text_is ∙ mode_again is.1)
 
     pub holds_request : HoldsRequest bytes it
     holds_request = record {

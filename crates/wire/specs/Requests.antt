@@ -16,6 +16,6 @@ pub record HoldsRequest (bytes : List ℕ) (it : RequestBytes) : Type 0 where
       (record { sender = party_number it.sender; message = request it.timestamp.0 it.mode op })
   pub spelled : SpellsOperation it.op.now op
 
--- the mode that this byte of a request stands for
-abbrev pub mode_from : ℕ → Mode
-mode_from byte = if byte == 1 then modes.ReadOnly else modes.Ordered
+-- the mode that this byte of a request or a reply stands for
+abbrev pub mode_of_byte : ℕ → Mode
+mode_of_byte byte = if byte == 1 then modes.ReadOnly else modes.Ordered

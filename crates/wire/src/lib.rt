@@ -32,7 +32,7 @@ pub use headers::{AuthenticatorBytes, Header};
 pub use judging::judge;
 pub use mac_bytes::MacBytes;
 pub use reading::body_bytes;
-pub use request_bytes::{RequestBytes, has_type_of_requests, request_in};
+pub use request_bytes::{RequestBytes, has_type_of_requests, mode_of_byte, request_in};
 pub use wire_format::{
     Authenticator, Batch, BatchEntry, Body, Checkpoint, CheckpointEntry, Commit, Fetch, Frame,
     MAX_FRAME, MAX_RECEIVERS, MAX_VIEW_CHANGE, Message, Meta, NewView, NoFrame, Page, PrePrepare,

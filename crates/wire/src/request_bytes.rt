@@ -5,7 +5,7 @@ ghost use Rattle.byteorder.specs.Endian.{big_number};
 ghost use Rattle.terms.specs.Parties.{party_number};
 ghost use Rattle.wire.specs.Headers.{IsFrame};
 ghost use Rattle.wire.specs.Marks.{has_type_of_requests};
-ghost use Rattle.wire.specs.Requests.{HoldsRequest, mode_from};
+ghost use Rattle.wire.specs.Requests.{HoldsRequest, mode_of_byte};
 
 use crate::reading::{body_bytes, party};
 use byteorder::{BigEndian, ByteOrder};
@@ -47,19 +47,20 @@ fn fields_of(text: &[u8]) -> RequestBytes<'_>
     requires { 12 ≤ length text.now }
     ensures sender { party_number result.sender ≡ big_number 2 (drop 1 text.now) }
     ensures timestamp { result.timestamp.0 ≡ big_number 8 (drop 3 text.now) }
-    ensures mode { result.mode ≡ mode_from (slice_index text.now 11) }
+    ensures mode { result.mode ≡ mode_of_byte (slice_index text.now 11) }
     ensures op { result.op.now ≡ drop 12 text.now }
 {
     RequestBytes {
         sender: party(BigEndian::read_u16(&text[1..])),
         timestamp: Timestamp(BigEndian::read_u64(&text[3..])),
-        mode: mode_from(text[11]),
+        mode: mode_of_byte(text[11]),
         op: &text[12..],
     }
 }
 
-fn mode_from(byte: u8) -> Mode
-    ensures { result ≡ mode_from byte }
+/// The mode of a request or a reply, by its byte in a frame that was judged.
+pub fn mode_of_byte(byte: u8) -> Mode
+    ensures { result ≡ mode_of_byte byte }
 {
     if byte == 1 {
         Mode::ReadOnly
