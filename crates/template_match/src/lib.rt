@@ -38,11 +38,11 @@ fn walks_match<A: Allocator, B: Allocator>(template: &Template<A>, tuple: &Tuple
         return false;
     }
     let values = tuple.bytes();
-    // The bytes before the first open field tell most tuples apart, by one comparison.
-    let Some(_) = strip_front(template.fixed_bytes(), values) else {
-        return false;
-    };
+    // Without an open field all bytes decide, by one comparison.
     if template.is_fixed() {
+        let Some(_) = strip_front(template.fixed_bytes(), values) else {
+            return false;
+        };
         return true;
     }
     match match_fields(template.len() as u8, template.bytes(), values, 7) {
