@@ -136,3 +136,9 @@ module _ (es : List Entry) (births : List ℕ) (i b : ℕ) (within : i < length 
 pub copied_some : (n : ℕ) (xs ys zs : List TupleTree) (t : TupleTree) → (ys ++ t ∷ []) ++ zs ≡ take n xs → xs ≢ []
 copied_some n xs ys zs t e none =
     omega (arith, ap length e, ap length none, length-append (ys ++ t ∷ []) zs, length_push ys t, length-take n xs)
+
+-- one birth alone
+pub entries_alone : (es : List Entry) (births : List ℕ) → length births ≡ 1 → entries_at es births ≡ found_at es (get_or births 0 0)
+entries_alone es [] l = absurd (omega arith)
+entries_alone es (b ∷ []) l = flat_map-cons (found_at es) b [] ∙ append-nil (found_at es b)
+entries_alone es (b ∷ c ∷ births) l = absurd (omega arith)

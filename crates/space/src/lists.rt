@@ -27,6 +27,7 @@ impl Lists {
     }
 
     /// The births of a key, the oldest first.
+    #[inline(always)]
     pub fn get(&self, key: &[u64]) -> &[u64]
         ensures { result.now ≡ births_at self.now key.now }
     {

@@ -3,7 +3,7 @@
 ghost use Rattle.std.specs.Prelude.{◌≡◌, ◌≢◌, [], OnErr};
 ghost use Rattle.space.specs.Births.{oldest_births};
 ghost use Rattle.space.specs.Prints.{TellsMatches};
-ghost use Rattle.space.specs.Found.{IsMatchAt, IsOldestAt, AreOldestAt, AreOldestSeen, matches_at, entries_at};
+ghost use Rattle.space.specs.Found.{IsMatchAt, IsOldest, IsOldestAt, AreOldestAt, AreOldestSeen, matches_at, entries_at, found_at};
 
 use crate::prints::{Wanted, wanted_by};
 use crate::stored::Stored;
@@ -65,6 +65,26 @@ fn match_found<'a, A: Allocator>(
     }
 }
 
+// The tuple of this birth with it, if it matches. No label is asked, since a look at one tuple costs less.
+fn lone_match<'a, A: Allocator>(
+    tuples: &'a Stored,
+    birth: u64,
+    template: &Template<A>,
+) -> Option<(u64, &'a Tuple<Global>)>
+    ensures { IsOldest template.now (found_at tuples.now.entries birth) result }
+{
+    match tuples.get(birth) {
+        Some(tuple) => {
+            if matches(template, tuple) {
+                Some((birth, tuple))
+            } else {
+                None
+            }
+        }
+        None => None,
+    }
+}
+
 /// The oldest match among the tuples of these births.
 pub fn oldest_match<'a, A: Allocator>(
     tuples: &'a Stored,
@@ -73,6 +93,10 @@ pub fn oldest_match<'a, A: Allocator>(
 ) -> Option<(u64, &'a Tuple<Global>)>
     ensures { IsOldestAt template.now tuples.now.entries births.now result }
 {
+    // Most first values have one tuple.
+    if births.len() == 1 {
+        return lone_match(tuples, births[0], template);
+    }
     let wanted = wanted_by(template);
     let mut near = 0;
     for birth in births {
