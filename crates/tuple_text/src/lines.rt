@@ -29,6 +29,8 @@ fn is_skipped(line: &[u8]) -> bool
 ///
 /// The line is judged from left to right. The first byte that can't continue any valid line, or passes a limit of
 /// tuples and templates, decides. The byte 65,536 counts as one that can't continue any line.
+// Inlined, so that the operation is made where the caller wants it.
+#[inline(always)]
 pub fn read_line<A: Allocator + Copy>(alloc: A, line: &[u8]) -> Result<Option<Op<A>>, LineFault>
     // The operation is that of the line, and the fault is the first one.
     ensures answer { JudgesLine line.now result }

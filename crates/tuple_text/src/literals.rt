@@ -14,6 +14,9 @@ use tuple_tree::AtomRef;
 // So many bytes of a text are tested together.
 const GROUP: usize = 16;
 
+// So many of a short one.
+const HALF: usize = 8;
+
 /// The bytes that may stand next in a text literal. Within a character of several bytes these are the bytes that RFC
 /// 3629, section 4, allows next.
 #[derive(Clone, Copy)]
@@ -143,9 +146,20 @@ fn push_byte<A: Allocator>(bytes: &mut Vec<u8, A>, byte: u8) -> Result<(), Stop>
     }
 }
 
-// So many bytes at the front stand for themselves in a text literal. Most texts are short, so the first are tested one
-// by one.
+// So many bytes at the front stand for themselves in a text literal.
 fn plain_len(bytes: &[u8]) -> usize
+    ensures within { result ≤ length bytes.now }
+    ensures plain { (k : ℕ) → k < result → is_plain (slice_index bytes.now k) ≡ true }
+{
+    let (front, rest) = bytes.split_at(bytes.len().min(HALF));
+    if front.len() < HALF || !are_plain(front) {
+        return plain_front(front);
+    }
+    HALF + later_plain_len(rest)
+}
+
+// The same of what comes later. Most texts are short, so the first bytes are tested one by one.
+fn later_plain_len(bytes: &[u8]) -> usize
     ensures within { result ≤ length bytes.now }
     ensures plain { (k : ℕ) → k < result → is_plain (slice_index bytes.now k) ≡ true }
 {

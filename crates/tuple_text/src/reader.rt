@@ -245,7 +245,8 @@ impl<'a> Reader<'a> {
         Ok(Literal::Scalar(AtomRef::Truth(truth)))
     }
 
-    // A value that is no tuple.
+    // A value that is no tuple. Inlined, so that its kind is known where it is added.
+    #[inline(always)]
     #[tactic(auto, unfolding(crate::specs::Reading::datum))]
     fn literal<A: Allocator + Copy>(&mut self, alloc: A) -> Result<Literal<A>, Stop>
         ensures { Reads datum_read result datum self.old self.new }
@@ -612,6 +613,7 @@ impl<'a> Reader<'a> {
         self.close_template(template)
     }
 
+    #[inline(always)]
     #[tactic(auto, unfolding(crate::specs::Reading::argument))]
     fn tuple_argument<A: Allocator + Copy>(&mut self, alloc: A) -> Result<Tuple<A>, Stop>
         ensures { Reads (λ t. t) result (argument tuple) self.old self.new }
@@ -728,6 +730,8 @@ impl<'a> Reader<'a> {
         Ok(verb.all_of(max, template))
     }
 
+    // Inlined, as are the other lines, so that the operation is made where it is wanted.
+    #[inline(always)]
     #[tactic(auto, unfolding(crate::specs::Reading::verb_line))]
     fn verb_line<A: Allocator + Copy>(&mut self, alloc: A, verb: Verb) -> Result<Op<A>, Stop>
         ensures { Reads operation_of result (verb_line verb) self.old self.new }
