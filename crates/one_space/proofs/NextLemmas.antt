@@ -59,12 +59,22 @@ module _ (l xs : List ℕ) where
   judged_of left (Ok given) first judged = given_of left given first judged
   judged_of left (Err failed) first judged = failed_of (lines first.rest) failed first.split judged
 
+pub next_at : (start left : Option (List ℕ)) (limit : ℕ) (line : List ℕ) → IfSome start (λ xs. TakesPiece (Some LineFeed) limit xs left [] line)
+    → IfSome start (λ xs. IsNextLine (strip_carriage_return line) xs left)
+next_at None left limit line taken = tt
+next_at (Some xs) left limit line taken = begins_at limit xs left line taken
+
+pub judged_next : {A : Type 0} (start left : Option (List ℕ)) (l : List ℕ) (r : Result (NextLine A) NoLine) → IfSome start (λ xs. IsNextLine l xs left)
+    → MatchResult r (λ given. IsJudged given l) (λ failed. IsRefused failed l)
+    → IfSome start (λ xs. MatchResult r (λ given. GivesLine given xs left) (λ failed. Fails failed xs))
+judged_next None left l r first judged = tt
+judged_next (Some xs) left l r first judged = judged_of l xs left r first judged
+
 pub judged_at : {A : Type 0} (start left : Option (List ℕ)) (limit : ℕ) (line : List ℕ) (r : Result (NextLine A) NoLine)
     → IfSome start (λ xs. TakesPiece (Some LineFeed) limit xs left [] line)
     → MatchResult r (λ given. IsJudged given (strip_carriage_return line)) (λ failed. IsRefused failed (strip_carriage_return line))
     → IfSome start (λ xs. MatchResult r (λ given. GivesLine given xs left) (λ failed. Fails failed xs))
-judged_at None left limit line r taken judged = tt
-judged_at (Some xs) left limit line r taken judged = judged_of (strip_carriage_return line) xs left r (begins_at limit xs left line taken) judged
+judged_at start left limit line r taken judged = judged_next start left (strip_carriage_return line) r (next_at start left limit line taken) judged
 
 pub judged_last : {A : Type 0} (start left : Option (List ℕ)) (limit : ℕ) (line : List ℕ) (r : Result (NextLine A) NoLine) → 0 < length line
     → IfSome start (λ xs. TakesPiece (Some InputEnd) limit xs left [] line)

@@ -1,17 +1,14 @@
 //! Lines of a script, read with memory for one line.
 
-ghost use Rattle.std.specs.Prelude.{◌≡◌, ◌<◌, ◌≤◌, Some, IfOk, IfSome, vec_len};
-ghost use Rattle.std.specs.Io.Buffered.{reader_buffer, reader_remaining};
-ghost use Rattle.memchr.specs.Find.{IsFirstByte, is_byte};
+ghost use Rattle.std.specs.Prelude.{◌≡◌, ◌<◌, ◌≤◌, ℕ, List, IfOk, IfSome, vec_len};
+ghost use Rattle.tuple_text.specs.Faults.{Refuses};
 ghost use Rattle.tuple_text.specs.declared.faults.LineFault.TheVariants.{BadByte};
-ghost use Rattle.one_space.specs.NextLines.{ReadsNext, TellsLine, Judges};
+ghost use Rattle.one_space.specs.NextLines.{ReadsNext, TellsLine, Judges, IsRefused};
 ghost use Rattle.one_space.specs.LongLines.{ReadsOn, ReadsBlanks, JudgesBlanks, DropsBlanks};
 
-use crate::pieces::{
-    PieceEnd, ReadFault, drop_return, is_blank, keep_last, read_piece, without_return,
-};
+use crate::pieces::{PieceEnd, ReadFault, drop_return, is_blank, keep_last, read_piece};
 use std::alloc::Allocator;
-use std::io::{self, BufRead, BufReader, ErrorKind, Read};
+use std::io::{self, BufRead, ErrorKind};
 use tuple_codec::Op;
 use tuple_text::{LineFault, MAX_LINE, read_line};
 
@@ -49,21 +46,6 @@ impl From<ReadFault> for NoLine {
             ReadFault::Read(error) => NoLine::Read(error),
         }
     }
-}
-
-/// Reads the line whose line feed is at this place of the bytes at hand, and judges it where it lies.
-pub fn line_at_hand<A: Allocator + Copy, R: Read>(
-    alloc: A,
-    reader: &mut BufReader<R>,
-    place: usize,
-) -> Result<NextLine<A>, NoLine>
-    requires { IsFirstByte (is_byte 10) (reader_buffer reader.old) (Some place) }
-    ensures { ReadsNext result (reader_remaining R.remaining reader.old) (reader_remaining R.remaining reader.new) }
-{
-    let (line, _) = reader.buffer().split_at(place);
-    let next = judge(alloc, without_return(line));
-    reader.consume(place + 1);
-    next
 }
 
 /// Reads a line with its end, and judges it. A line of more than 65,536 bytes is read in parts, one at a time.
@@ -110,6 +92,16 @@ fn judge<A: Allocator + Copy>(alloc: A, line: &[u8]) -> Result<NextLine<A>, NoLi
         Ok(None) => Ok(NextLine::Skipped),
         Err(LineFault::NoMemory) => Err(NoLine::NoMemory),
         Err(fault) => Err(NoLine::Refused(fault)),
+    }
+}
+
+/// Why a line with this fault isn't read.
+pub fn refusal_of(fault: LineFault) -> NoLine
+    ensures { (l : List ℕ) → Refuses fault l → IsRefused result l }
+{
+    match fault {
+        LineFault::NoMemory => NoLine::NoMemory,
+        _ => NoLine::Refused(fault),
     }
 }
 

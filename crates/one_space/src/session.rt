@@ -1,6 +1,6 @@
 //! A script on a space of its own.
 
-ghost use Rattle.std.specs.Prelude.{◌≡◌, ◌++◌, ◌^◌, ◌<◌, ◌≤◌, ◌+◌, ◌*◌, ℕ, List, [], Option, OnOk, OnErr, IfErr};
+ghost use Rattle.std.specs.Prelude.{◌≡◌, ◌++◌, ◌^◌, ◌<◌, ◌≤◌, ◌+◌, ◌*◌, ℕ, List, [], Option, Some, OnOk, OnErr, IfErr, IfSome};
 ghost use Rattle.std.specs.Io.Buffered.{reader_buffer, reader_remaining};
 ghost use Rattle.memchr.specs.Find.{IsFirstByte, is_byte};
 ghost use Rattle.tuple_codec.specs.OperationView.{operation_of};
@@ -10,20 +10,20 @@ ghost use Rattle.one_space.specs.Endings.{EndsKnown, HeldForLine, IsWriteFault, 
 ghost use Rattle.tuple_codec.specs.Operations.{found, absent};
 ghost use Rattle.tuple_text.specs.Written.{Appends};
 ghost use Rattle.one_space.specs.Run.{result_line};
-ghost use Rattle.one_space.specs.NextLines.{ReadsNext};
+ghost use Rattle.one_space.specs.NextLines.{IsNextLine};
 ghost use Rattle.one_space.specs.Moments.{moment_of, RunsLine, EndsLines, AddsResult, WritesDue, WritesAll};
 
-use crate::input::{NextLine, NoLine, has_line, line_at_hand, next_line};
-use crate::pieces::ReadFault;
+use crate::input::{NextLine, NoLine, has_line, next_line, refusal_of};
+use crate::pieces::{ReadFault, without_return};
 use bumpalo::Bump;
 use memchr::memchr;
 use space::{Seen, Space, Version};
 use std::alloc::{Allocator, Global};
-use std::io::{self, BufReader, Read, Write};
+use std::io::{self, BufRead, BufReader, Read, Write};
 use terms::NoMemory;
 use thiserror::Error;
 use tuple_codec::Op;
-use tuple_text::{LineFault, write_answer, write_tuple};
+use tuple_text::{LineFault, read_line, write_answer, write_tuple};
 use tuple_tree::Tuple;
 
 /// The number of the first line that is one too many.
@@ -194,7 +194,28 @@ impl Session {
             (moment_of (reader_remaining R.remaining reader.old) written self.old)
             (moment_of (reader_remaining R.remaining reader.new) written self.new) }
     {
-        match next(arena, reader, place, &mut self.line) {
+        match place {
+            Some(place) => self.answer_at_hand(number, reader, place, arena),
+            None => self.answer_read(number, reader, arena),
+        }
+    }
+
+    // The same of a line that is read first. Apart, so that a line at hand takes no room for it.
+    #[inline(never)]
+    fn answer_read<R: Read>(
+        &mut self,
+        number: u64,
+        reader: &mut BufReader<R>,
+        arena: &Bump,
+    ) -> Result<bool, LocalFault>
+        requires early { number < 2 ^ 48 }
+        requires births { self.old.space.next < 2 ^ 62 }
+        ensures births { OnOk result (self.new.space.next ≤ self.old.space.next + 257) }
+        ensures along { (written : Option (List ℕ)) → RunsLine result number
+            (moment_of (reader_remaining R.remaining reader.old) written self.old)
+            (moment_of (reader_remaining R.remaining reader.new) written self.new) }
+    {
+        match next_line(arena, reader, &mut self.line) {
             Ok(NextLine::End) => Ok(false),
             Ok(NextLine::Skipped) => Ok(true),
             Ok(NextLine::Operation(op)) => match answer(&mut self.space, &op, &mut self.results) {
@@ -202,6 +223,49 @@ impl Session {
                 Err(_) => Err(LocalFault::NoMemory),
             },
             Err(no) => Err(line_fault(number, no)),
+        }
+    }
+
+    // The same of the line whose line feed is at this place of the bytes at hand.
+    #[inline(always)]
+    fn answer_at_hand<R: Read>(
+        &mut self,
+        number: u64,
+        reader: &mut BufReader<R>,
+        place: usize,
+        arena: &Bump,
+    ) -> Result<bool, LocalFault>
+        requires place { IsFirstByte (is_byte 10) (reader_buffer reader.old) (Some place) }
+        requires early { number < 2 ^ 48 }
+        requires births { self.old.space.next < 2 ^ 62 }
+        ensures births { OnOk result (self.new.space.next ≤ self.old.space.next + 257) }
+        ensures along { (written : Option (List ℕ)) → RunsLine result number
+            (moment_of (reader_remaining R.remaining reader.old) written self.old)
+            (moment_of (reader_remaining R.remaining reader.new) written self.new) }
+    {
+        let (line, _) = reader.buffer().split_at(place);
+        let answered = self.answer_whole(number, without_return(line), arena);
+        reader.consume(place + 1);
+        answered
+    }
+
+    // The same of a line that lies somewhere without its end. Its operation is applied where it was read, so that it is
+    // never moved.
+    #[inline(always)]
+    fn answer_whole(&mut self, number: u64, line: &[u8], arena: &Bump) -> Result<bool, LocalFault>
+        requires early { number < 2 ^ 48 }
+        requires births { self.old.space.next < 2 ^ 62 }
+        ensures births { OnOk result (self.new.space.next ≤ self.old.space.next + 257) }
+        ensures along { (left rest written : Option (List ℕ)) → IfSome left (λ xs. IsNextLine line.now xs rest)
+            → RunsLine result number (moment_of left written self.old) (moment_of rest written self.new) }
+    {
+        match read_line(arena, line) {
+            Ok(Some(op)) => match answer(&mut self.space, &op, &mut self.results) {
+                Ok(()) => Ok(true),
+                Err(_) => Err(LocalFault::NoMemory),
+            },
+            Ok(None) => Ok(true),
+            Err(fault) => Err(line_fault(number, refusal_of(fault))),
         }
     }
 
@@ -255,22 +319,6 @@ pub fn read_fault(fault: ReadFault) -> LocalFault
 fn free(alloc: Global, arena: &mut Bump) {
     if arena.reset().is_err() {
         *arena = Bump::new(alloc);
-    }
-}
-
-// Reads the next line, where it lies if it is whole at hand.
-fn next<A: Allocator + Copy, R: Read>(
-    alloc: A,
-    reader: &mut BufReader<R>,
-    place: Option<usize>,
-    line: &mut Vec<u8>,
-) -> Result<NextLine<A>, NoLine>
-    requires { IsFirstByte (is_byte 10) (reader_buffer reader.old) place }
-    ensures { ReadsNext result (reader_remaining R.remaining reader.old) (reader_remaining R.remaining reader.new) }
-{
-    match place {
-        Some(place) => line_at_hand(alloc, reader, place),
-        None => next_line(alloc, reader, line),
     }
 }
 
