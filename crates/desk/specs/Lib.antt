@@ -10,3 +10,4 @@ pub mod Fetching
 pub mod Arriving
 pub mod Reading
 pub mod Begun
+pub mod DeskOf

@@ -35,7 +35,8 @@ use Rattle.replica.specs.State.{JoinedData, AreOne}
 use Rattle.replica.specs.Desks.{given, FitsEvent}
 use Rattle.replica.specs.Entering.{event_of, TakesBytes}
 use Rattle.desk.specs.Fetching.{GivesPart, HasKept, HasNone}
-use Rattle.replica.specs.Joined.{Runs, me_of}
+use Rattle.desk.specs.DeskOf.{desk_of}
+use Rattle.replica.specs.Joined.{JoinedMatchesHistory, me_of}
 use Rattle.replica.proofs.Beginning.{rests}
 use Rattle.replica.proofs.Beside.{begins, heard_so}
 use Rattle.replica.proofs.Given.{GivesOne, gives_one}
@@ -88,20 +89,20 @@ module _ (r : JoinedData) (one : AreOne r.orderer r.desk) (sender : ReplicaId) (
   abbrev body : Body
   body = record { sender = sender.0; message = FetchMessage k fetch.level fetch.index }
 
-  module _ (c : Configuration) (past : List Entry) (runs : Runs c r past) (known : members c ≡ r.desk.membership) where
-    begun : FitsEvent c (me_of r) (event_of c r past runs bytes) r.orderer runs.desk r.desk.waiting [] []
+  module _ (c : Configuration) (past : List Entry) (runs : JoinedMatchesHistory c r past) (known : members c ≡ r.desk.membership) where
+    begun : FitsEvent c (me_of r) (event_of c r past runs bytes) r.orderer (desk_of c r.desk) r.desk.waiting [] []
     begun = begins r one c past runs bytes body known hears (record { log = tt; call = refl; asks = λ st. refl; views = refl; changes = tt })
 
     abbrev Left : List Output → Type 0
-    Left os = FitsEvent c (me_of r) (event_of c r past runs bytes) r.orderer runs.desk r.desk.waiting [] os
+    Left os = FitsEvent c (me_of r) (event_of c r past runs bytes) r.orderer (desk_of c r.desk) r.desk.waiting [] os
         × AnswersInput c (me_of r) past (Got (me_of r) bytes) (given (me_of r) os) runs.holds.of_desk.point r.desk.executed.state.number
         × ((os ≡ []) ⊎ IsTaken c (me_of r) (event_of c r past runs bytes))
 
     kept_none : HasNone r.desk k → Left []
     kept_none none = (
       begun,
-      other_numbers_owe_none c (me_of r) runs.desk r.orderer.log past (Got (me_of r) bytes) [] sender.0 k fetch.index r.desk.executed.state.number fetch.level runs.holds (heard_so r one c past runs bytes body known hears)
-          (none_of k runs.desk.snapshots (subst (Each (λ x. x.number ≢ k)) (sym runs.is_desk.snapshots) none)),
+      other_numbers_owe_none c (me_of r) (desk_of c r.desk) r.orderer.log past (Got (me_of r) bytes) [] sender.0 k fetch.index r.desk.executed.state.number fetch.level runs.holds (heard_so r one c past runs bytes body known hears)
+          (none_of k r.desk.snapshots none),
       inl refl,
     )
 
@@ -111,20 +112,20 @@ module _ (r : JoinedData) (one : AreOne r.orderer r.desk) (sender : ReplicaId) (
     gives : (pages : List (List ℕ)) (output : Output) → HasKept r.desk k pages → SealsForOne r.desk.membership r.desk.me (answer_by pages k fetch.level fetch.index) (parties.Replica sender) output
         → Left (output ∷ [])
     gives pages output kept seals = (
-      fits_on c (me_of r) (event_of c r past runs bytes) r.orderer r.orderer runs.desk r.desk.waiting [] [] [] (output ∷ []) (Sent (me_of r) seals.bytes)
+      fits_on c (me_of r) (event_of c r past runs bytes) r.orderer r.orderer (desk_of c r.desk) r.desk.waiting [] [] [] (output ∷ []) (Sent (me_of r) seals.bytes)
           one_given
           (sent_beside c (me_of r) (part_of pages) (sender.0 ∷ []) seals.bytes (Got (me_of r) bytes ∷ past) (no_number pages k fetch.index fetch.level) posted)
           (sent_keep c (me_of r) (Got (me_of r) bytes ∷ past) (part_of pages) seals.bytes posted.says (no_news c (me_of r) (Got (me_of r) bytes ∷ past) pages k fetch.index fetch.level) (never_signed pages k fetch.index fetch.level))
           (same_log r.orderer.log) refl refl refl refl begun
-          (parts_fit c (me_of r) (event_of c r past runs bytes) runs.desk r.orderer.log [] [] (record { number = k; pages = pages }) sender.0 fetch.index fetch.level seals.bytes has
+          (parts_fit c (me_of r) (event_of c r past runs bytes) (desk_of c r.desk) r.orderer.log [] [] (record { number = k; pages = pages }) sender.0 fetch.index fetch.level seals.bytes has
           (inl (heard_so r one c past runs bytes body known hears)) (λ given. given) posted begun.fits),
       subst (λ (es : List Entry). AnswersInput c (me_of r) past (Got (me_of r) bytes) es runs.holds.of_desk.point r.desk.executed.state.number) (sym one_given.is)
-          (parts_suffice c (me_of r) runs.desk r.orderer.log past (Got (me_of r) bytes) (Sent (me_of r) seals.bytes ∷ []) (record { number = k; pages = pages }) sender.0 fetch.index r.desk.executed.state.number fetch.level
+          (parts_suffice c (me_of r) (desk_of c r.desk) r.orderer.log past (Got (me_of r) bytes) (Sent (me_of r) seals.bytes ∷ []) (record { number = k; pages = pages }) sender.0 fetch.index r.desk.executed.state.number fetch.level
           runs.holds has (heard_so r one c past runs bytes body known hears) (inl (posted_to_one c (me_of r) sender.0 (part_of pages) seals.bytes posted))),
       inr (
         body,
         heard_so r one c past runs bytes body known hears,
-        kept_fetches_count c (me_of r) runs.desk r.orderer.log past bytes sender.0 k fetch.index fetch.level runs.holds (of_number k pages runs.desk.snapshots has),
+        kept_fetches_count c (me_of r) (desk_of c r.desk) r.orderer.log past bytes sender.0 k fetch.index fetch.level runs.holds (of_number k pages r.desk.snapshots has),
       ),
     )
       where
@@ -137,8 +138,8 @@ module _ (r : JoinedData) (one : AreOne r.orderer r.desk) (sender : ReplicaId) (
         posted : IsPosted c (me_of r) (part_of pages) (sender.0 ∷ []) seals.bytes
         posted = subst (λ (m : ℕ). IsPosted c m (part_of pages) (sender.0 ∷ []) seals.bytes) one.0 (seals.posted c known)
 
-        has : Has (λ x. x ≡ record { number = k; pages = pages }) runs.desk.snapshots
-        has = subst (Has (λ x. x ≡ record { number = k; pages = pages })) (sym runs.is_desk.snapshots) kept
+        has : Has (λ x. x ≡ record { number = k; pages = pages }) r.desk.snapshots
+        has = kept
 
     left : GivesPart r.desk sender fetch [] outs → Left outs
     left (inl (same, none)) = subst Left (sym same) (kept_none none)
@@ -150,9 +151,8 @@ module _ (r : JoinedData) (one : AreOne r.orderer r.desk) (sender : ReplicaId) (
     party = one_self r;
     begins = λ c past runs known. let l = left c past runs known part in (
       record {
-        desk = runs.desk;
         is = runs.is_desk;
-        fits = subst (λ (m : ℕ). FitsEvent c m (event_of c r past runs bytes) r.orderer runs.desk r.desk.waiting [] outs) (sym one.0) l.0;
+        fits = subst (λ (m : ℕ). FitsEvent c m (event_of c r past runs bytes) r.orderer (desk_of c r.desk) r.desk.waiting [] outs) (sym one.0) l.0;
       },
       (rests c r past runs, runs.all, l.1, l.2),
       runs.begun,

@@ -1,5 +1,5 @@
 -- An event that begins with bytes: what the replica drops, and what its log takes.
-use Rattle.std.proofs.Common.{◌≡◌, ◌≢◌, ℕ, suc, ◌+◌, ◌*◌, ◌<◌, inl, inr, Bool, true, false, not, cond, ◌&&◌, ◌==◌, List, [], ◌∷◌, Option, Some, None, refl, sym, ap, ◌∙◌, subst, nat_lt, nat_le, arith, eqb-true, ◌⊎◌}
+use Rattle.std.proofs.Common.{◌≡◌, ◌≢◌, ℕ, ◌+◌, ◌*◌, ◌<◌, inl, inr, Bool, true, false, not, cond, ◌&&◌, ◌==◌, List, [], ◌∷◌, Option, Some, None, refl, sym, ap, ◌∙◌, subst, nat_lt, nat_le, arith, eqb-true, ◌⊎◌}
 use Rattle.std.specs.Prelude.{is_none}
 use Rattle.std.specs.Bool.{then_some}
 use Rattle.std.specs.Option.{option_and_then}
@@ -61,21 +61,22 @@ use Rattle.replica.specs.State.{OrdererData, JoinedData, AreOne}
 use Rattle.replica.specs.Desks.{PartsFitEvent, FitsEvent, changes_of}
 use Rattle.replica.specs.Going.{IsSameLog, IsVotedBut, NothingIsLeft}
 use Rattle.replica.specs.Taking.{TakesBatch, TakesPrepare, TakesCommit}
-use Rattle.replica.specs.Joined.{Runs, me_of}
+use Rattle.replica.specs.Joined.{JoinedMatchesHistory, me_of}
 use Rattle.replica.specs.Entering.{event_of, TakesBytes, TakesMessage}
 use Rattle.replica.proofs.Choosing.{active_begins_none}
 use Rattle.replica.proofs.Parties.{same_log, one_self}
 use Rattle.replica.proofs.Staying.{numbers_alike, numbers_beside, said_on, same_rows}
 use Rattle.replica.proofs.Rows.{due_prepare_elsewhere, due_commit_elsewhere}
+use Rattle.desk.specs.DeskOf.{desk_of}
 
 -- ---- between events
 
 -- no message is left to send, and no batch to execute
-pub rests : (c : Configuration) (r : JoinedData) (past : List Entry) → Runs c r past → NothingIsLeft r
+pub rests : (c : Configuration) (r : JoinedData) (past : List Entry) → JoinedMatchesHistory c r past → NothingIsLeft r
 rests c r past runs =
-    let settled = held_are_settled c (me_of r) runs.desk r.orderer.log past runs.holds in (
+    let settled = held_are_settled c (me_of r) (desk_of c r.desk) r.orderer.log past runs.holds in (
       (λ i. (runs.holds.of_log.prepares i, runs.holds.of_log.commits i)),
-      subst (λ (st : State). logs.committed_batch r.orderer.log (suc st.number) ≡ None) runs.is_desk.state settled.executes,
+      settled.executes,
     )
 
 -- ---- received messages
@@ -98,7 +99,7 @@ ChangesFit r c past bytes after claims = Passes c (me_of r) past (Got (me_of r) 
     → FitsChanges c (me_of r) after (record (changes_of r.orderer) { claims = claims }) (Got (me_of r) bytes ∷ past)
 
 -- The log takes the bytes, which count.
-pub record TakesOne (r : JoinedData) (c : Configuration) (past : List Entry) (runs : Runs c r past) (bytes : List ℕ) (after : LogData) (claims : ClaimsData) : Type 0 where
+pub record TakesOne (r : JoinedData) (c : Configuration) (past : List Entry) (runs : JoinedMatchesHistory c r past) (bytes : List ℕ) (after : LogData) (claims : ClaimsData) : Type 0 where
   pub takes : Takes c (me_of r) (heard (members c) (me_of r) bytes) r.orderer.log after
   pub none : IsNoCall c (heard (members c) (me_of r) bytes)
   pub counts : IsTaken c (me_of r) (event_of c r past runs bytes)
@@ -111,7 +112,7 @@ module _ (r : JoinedData) (one : AreOne r.orderer r.desk) where
   heard_by c bytes body known h = ap (λ m. heard m (me_of r) bytes) known ∙ ap (λ (x : ℕ). heard r.desk.membership x bytes) (sym one.0) ∙ h
 
   -- So they do if the bytes change no view-change data, and the low mark stays.
-  pub changes_kept : (c : Configuration) (past : List Entry) (runs : Runs c r past) (bytes : List ℕ) (after : LogData) → IsSameLog r.orderer.log after → after.low ≡ r.orderer.log.low
+  pub changes_kept : (c : Configuration) (past : List Entry) (runs : JoinedMatchesHistory c r past) (bytes : List ℕ) (after : LogData) → IsSameLog r.orderer.log after → after.low ≡ r.orderer.log.low
       → (Passes c (me_of r) past (Got (me_of r) bytes) r.orderer.log after → KeepsChanges c (me_of r) past (Got (me_of r) bytes)) → ChangesFit r c past bytes after r.orderer.claims
   changes_kept c past runs bytes after same low keeps passes =
       changes_stay c (me_of r) past (Got (me_of r) bytes) r.orderer.log after (changes_of r.orderer) r.orderer.claims passes (record { view = same.view; active = same.active }) (keeps passes)
@@ -119,44 +120,43 @@ module _ (r : JoinedData) (one : AreOne r.orderer r.desk) where
       (claims_are_above c (me_of r) r.orderer.log past r.orderer.claims runs.holds.of_log.fits runs.changes.claims)) runs.changes
 
   -- bytes that are no ordered request, of which the log may take something
-  pub begins_with : (c : Configuration) (past : List Entry) (runs : Runs c r past) (bytes : List ℕ) (after : LogData) (claims : ClaimsData)
+  pub begins_with : (c : Configuration) (past : List Entry) (runs : JoinedMatchesHistory c r past) (bytes : List ℕ) (after : LogData) (claims : ClaimsData)
       → IsSameLog r.orderer.log after → Takes c (me_of r) (heard (members c) (me_of r) bytes) r.orderer.log after → IsNoCall c (heard (members c) (me_of r) bytes)
       → ChangesFit r c past bytes after claims
       → PartsFitEvent c (event_of c r past runs bytes) (record r.orderer { log = after; claims = claims }) r.desk [] []
   begins_with c past runs bytes after claims same takes none changes = record {
-    desk = runs.desk;
     is = runs.is_desk;
-    fits = subst (λ (m : ℕ). FitsEvent c m (event_of c r past runs bytes) (record r.orderer { log = after; claims = claims }) runs.desk r.desk.waiting [] []) (sym one.0) event;
+    fits = subst (λ (m : ℕ). FitsEvent c m (event_of c r past runs bytes) (record r.orderer { log = after; claims = claims }) (desk_of c r.desk) r.desk.waiting [] []) (sym one.0) event;
   }
     where
       free : taken c past (Got (me_of r) bytes) ≡ None
       free = none_taken c past (Got (me_of r) bytes) none.views
 
-      enters : histories.Fits c (me_of r) (event_of c r past runs bytes) runs.desk after [] []
-      enters = inputs_fit c (me_of r) runs.desk runs.desk r.orderer.log after [] past bytes runs.holds free (record {
+      enters : histories.Fits c (me_of r) (event_of c r past runs bytes) (desk_of c r.desk) after [] []
+      enters = inputs_fit c (me_of r) (desk_of c r.desk) (desk_of c r.desk) r.orderer.log after [] past bytes runs.holds free (record {
         takes = takes;
         state = refl;
         snapshots = refl;
         waiting = rw none.call refl;
         transfer = refl;
         frames = λ frame h. inl h;
-        due_is = sym (none.asks runs.desk.state);
+        due_is = sym (none.asks r.desk.executed.state);
       })
 
-      event : FitsEvent c (me_of r) (event_of c r past runs bytes) (record r.orderer { log = after; claims = claims }) runs.desk r.desk.waiting [] []
+      event : FitsEvent c (me_of r) (event_of c r past runs bytes) (record r.orderer { log = after; claims = claims }) (desk_of c r.desk) r.desk.waiting [] []
       event = record {
         fits = enters;
-        numbers = numbers_alike c (me_of r) r.desk.waiting r.orderer (record r.orderer { log = after; claims = claims }) runs.desk (Got (me_of r) bytes ∷ past) same refl
-            (numbers_beside c (me_of r) r.desk.waiting r.orderer runs.desk past (Got (me_of r) bytes) runs.holds.of_log.fits.faults runs.holds.of_log.fits.own
+        numbers = numbers_alike c (me_of r) r.desk.waiting r.orderer (record r.orderer { log = after; claims = claims }) (desk_of c r.desk) (Got (me_of r) bytes ∷ past) same refl
+            (numbers_beside c (me_of r) r.desk.waiting r.orderer (desk_of c r.desk) past (Got (me_of r) bytes) runs.holds.of_log.fits.faults runs.holds.of_log.fits.own
             (record { here = refl; none = free; sends = refl }) runs.numbers);
         said = said_on (me_of r) r.orderer.last_checkpoint past (Got (me_of r) bytes) runs.said;
-        changes = changes (inputs_enter c (me_of r) runs.desk runs.desk r.orderer.log after [] past (Got (me_of r) bytes) runs.holds enters);
+        changes = changes (inputs_enter c (me_of r) (desk_of c r.desk) (desk_of c r.desk) r.orderer.log after [] past (Got (me_of r) bytes) runs.holds enters);
         meant = tt;
       }
 
   -- Dropped bytes change nothing.
   pub drops : (bytes : List ℕ)
-      → ((c : Configuration) (past : List Entry) → Runs c r past → members c ≡ r.desk.membership
+      → ((c : Configuration) (past : List Entry) → JoinedMatchesHistory c r past → members c ≡ r.desk.membership
       → Takes c (me_of r) (heard (members c) (me_of r) bytes) r.orderer.log r.orderer.log × IsNoCall c (heard (members c) (me_of r) bytes))
       → TakesBytes bytes r touched.Nothing r []
   drops bytes none = record {
@@ -173,7 +173,7 @@ module _ (r : JoinedData) (one : AreOne r.orderer r.desk) where
     );
   }
     where
-      kept : (c : Configuration) (past : List Entry) (runs : Runs c r past) → IsNoCall c (heard (members c) (me_of r) bytes) → ChangesFit r c past bytes r.orderer.log r.orderer.claims
+      kept : (c : Configuration) (past : List Entry) (runs : JoinedMatchesHistory c r past) → IsNoCall c (heard (members c) (me_of r) bytes) → ChangesFit r c past bytes r.orderer.log r.orderer.claims
       kept c past runs silent = changes_kept c past runs bytes r.orderer.log (same_log r.orderer.log) refl
           (λ passes. got_keep c (me_of r) past bytes r.orderer.log r.orderer.log passes (record { view = refl; active = refl }) (none_taken c past (Got (me_of r) bytes) silent.views)
           (λ i within. refl) (λ s other. others_bring_none c (me_of r) s past bytes silent.changes other))
@@ -181,7 +181,7 @@ module _ (r : JoinedData) (one : AreOne r.orderer r.desk) where
   -- A message that the log takes touches one number.
   pub takes_row : (bytes : List ℕ) (number : Number) (after : LogData) (claims : ClaimsData)
       → IsSameLog r.orderer.log after → r.orderer.log.active ≡ true → ((i : ℕ) → i ≢ number.0 → (due_prepare after i ≡ due_prepare r.orderer.log i) × (due_commit after i ≡ due_commit r.orderer.log i))
-      → ((c : Configuration) (past : List Entry) (runs : Runs c r past) → members c ≡ r.desk.membership → TakesOne r c past runs bytes after claims)
+      → ((c : Configuration) (past : List Entry) (runs : JoinedMatchesHistory c r past) → members c ≡ r.desk.membership → TakesOne r c past runs bytes after claims)
       → TakesBytes bytes r (touched.Row number) (record r { orderer = record r.orderer { log = after; claims = claims } }) []
   takes_row bytes number after claims same active others takes = record {
     party = record { endpoint = refl; me = refl; membership = refl };
@@ -192,7 +192,7 @@ module _ (r : JoinedData) (one : AreOne r.orderer r.desk) where
     );
   }
     where
-      voted : (c : Configuration) (past : List Entry) → Runs c r past → IsVotedBut number.0 after
+      voted : (c : Configuration) (past : List Entry) → JoinedMatchesHistory c r past → IsVotedBut number.0 after
       voted c past runs i ne = ((others i ne).0 ∙ (runs.holds.of_log.prepares i), (others i ne).1 ∙ (runs.holds.of_log.commits i))
 
 -- ---- messages without a fault
@@ -259,7 +259,7 @@ prepare_taken r sender p new one t bytes h =
     active : r.orderer.log.active ≡ true
     active = (fitting r.orderer.log _ p.view.0 p.number.0 (no_fault _ (fault_beside (logs.prepare_of r.orderer.log p.number.0 sender.0) p.digest) t.0)).active
 
-    takes : (c : Configuration) (past : List Entry) (runs : Runs c r past) → members c ≡ r.desk.membership
+    takes : (c : Configuration) (past : List Entry) (runs : JoinedMatchesHistory c r past) → members c ≡ r.desk.membership
         → TakesOne r c past runs bytes (with_prepare r.orderer.log p.number.0 vote) r.orderer.claims
     takes c past runs known =
         let hears = heard_by r one c bytes _ known h in
@@ -287,7 +287,7 @@ commit_taken r sender p new one t bytes h =
     active : r.orderer.log.active ≡ true
     active = (fitting r.orderer.log _ p.view.0 p.number.0 (no_fault _ (fault_beside (logs.commit_of r.orderer.log p.number.0 sender.0) p.digest) t.0)).active
 
-    takes : (c : Configuration) (past : List Entry) (runs : Runs c r past) → members c ≡ r.desk.membership
+    takes : (c : Configuration) (past : List Entry) (runs : JoinedMatchesHistory c r past) → members c ≡ r.desk.membership
         → TakesOne r c past runs bytes (with_commit r.orderer.log p.number.0 vote) r.orderer.claims
     takes c past runs known =
         let hears = heard_by r one c bytes _ known h in
@@ -310,7 +310,7 @@ pub prepare_dropped : (r : JoinedData) (sender : ReplicaId) (p : WirePrepare) (n
 prepare_dropped r sender p new one t bytes h =
     subst (λ (o : OrdererData). TakesBytes bytes r touched.Nothing (record r { orderer = o }) []) (sym t.1) (drops r one bytes none)
   where
-    none : (c : Configuration) (past : List Entry) → Runs c r past → members c ≡ r.desk.membership
+    none : (c : Configuration) (past : List Entry) → JoinedMatchesHistory c r past → members c ≡ r.desk.membership
         → Takes c (me_of r) (heard (members c) (me_of r) bytes) r.orderer.log r.orderer.log × IsNoCall c (heard (members c) (me_of r) bytes)
     none c past runs known =
         let hears = heard_by r one c bytes _ known h in
@@ -324,7 +324,7 @@ pub commit_dropped : (r : JoinedData) (sender : ReplicaId) (p : WireCommit) (new
 commit_dropped r sender p new one t bytes h =
     subst (λ (o : OrdererData). TakesBytes bytes r touched.Nothing (record r { orderer = o }) []) (sym t.1) (drops r one bytes none)
   where
-    none : (c : Configuration) (past : List Entry) → Runs c r past → members c ≡ r.desk.membership
+    none : (c : Configuration) (past : List Entry) → JoinedMatchesHistory c r past → members c ≡ r.desk.membership
         → Takes c (me_of r) (heard (members c) (me_of r) bytes) r.orderer.log r.orderer.log × IsNoCall c (heard (members c) (me_of r) bytes)
     none c past runs known =
         let hears = heard_by r one c bytes _ known h in
@@ -344,7 +344,7 @@ batch_dropped r sender p new one t bytes h =
     why c known (inl e) = inl (some_fault _ e)
     why c known (inr e) = inr (ap (λ (m : Membership). are_heard m (me_of r) (requests_of p.batch.text.items)) (known ∙ one.1) ∙ e)
 
-    none : (c : Configuration) (past : List Entry) → Runs c r past → members c ≡ r.desk.membership
+    none : (c : Configuration) (past : List Entry) → JoinedMatchesHistory c r past → members c ≡ r.desk.membership
         → Takes c (me_of r) (heard (members c) (me_of r) bytes) r.orderer.log r.orderer.log × IsNoCall c (heard (members c) (me_of r) bytes)
     none c past runs known =
         let hears = heard_by r one c bytes _ known h in (
@@ -379,7 +379,7 @@ batch_taken r sender p new one (free, were_heard, (claims, adds, is)) bytes h =
     fits : Fitting r.orderer.log (sender.0 == logs.primary r.orderer.log p.view.0) p.view.0 p.number.0
     fits = fitting r.orderer.log _ p.view.0 p.number.0 (no_fault _ beside free)
 
-    takes : (c : Configuration) (past : List Entry) (runs : Runs c r past) → members c ≡ r.desk.membership
+    takes : (c : Configuration) (past : List Entry) (runs : JoinedMatchesHistory c r past) → members c ≡ r.desk.membership
         → TakesOne r c past runs bytes (with_batch r.orderer.log p.number.0 p.batch.text.items) claims
     takes c past runs known =
         let hears = heard_by r one c bytes _ known h in

@@ -1,9 +1,7 @@
 -- A view begins by a new view that the replica takes or sends: what stood still stands, with its batches.
 use Rattle.std.proofs.Common.{◌≡◌, ◌≢◌, ℕ, zero, suc, ◌+◌, ◌-◌, ◌^◌, ◌<◌, ◌≤◌, ◌⊎◌, inl, inr, Bool, true, false, cond, nat_lt, nat_le, List, [], ◌∷◌, length, Option, Some, None, slice_get, refl, sym, ap, ◌∙◌, subst, arith}
-use Rattle.std.specs.Prelude.{AllPairs}
 use Rattle.std.proofs.lemmas.Bool.{le-ltb, lt-ltb, leb-true, leb-false}
 use Rattle.terms.specs.declared.state.Level.TheVariants as levels
-use Rattle.wire_format.specs.Lists.{Each}
 use Rattle.wire_format.specs.Messages.{MessageData as Message, NewViewData, CheckpointEntryData as CheckpointEntry, fetch as Fetch}
 use Rattle.ordering.specs.Log as logs
 use Rattle.ordering.specs.Log.{LogData}
@@ -13,57 +11,31 @@ use Rattle.events.specs.declared.output.Output.{Output}
 use Rattle.protocol.specs.System.Configuration.{Configuration, members}
 use Rattle.protocol.specs.System.Trace.{Once}
 use Rattle.protocol.specs.Replica.Certificates.{taken}
-use Rattle.protocol.specs.Replica.State.{Call}
 use Rattle.protocol.proofs.Words.Options.{some_injective}
-use Rattle.protocol.proofs.Words.Pairs.{Pairs, pairs_of, all_pairs}
 use Rattle.claims.specs.ClaimsView.{ClaimsData}
 use Rattle.replica_histories.specs.Changes.{AddsBatches, BeginsClaims}
 use Rattle.replica_histories.specs.Desk.{Desk, desk_from}
 use Rattle.replica_histories.specs.Events.{Start, after_outputs}
-use Rattle.replica_histories.specs.Transfers.{open_number}
 use Rattle.replica_histories.specs.Views.{begun_log, start_due, with_batches}
 use Rattle.replica_histories.proofs.Batches.{stays, begun_active, begun_batch, begun_low}
 use Rattle.replica_histories.proofs.Cutting.{cut_same}
 use Rattle.desk.specs.declared.waiting.BegunCall.{BegunCall}
-use Rattle.desk.specs.declared.waiting.WaitingRequest.{WaitingRequest}
 use Rattle.replica.specs.State.{OrdererData, JoinedData}
 use Rattle.desk.specs.State.{DeskData, OpenData}
 use Rattle.desk.specs.Waiting.{with_view}
 use Rattle.desk.specs.Desking.{desk_above}
-use Rattle.replica.specs.Desks.{given, IsCallOf, AreCallsOf, AreOfDifferentClients, IsDeskOf, FitsEvent, PartsFitEvent}
+use Rattle.replica.specs.Desks.{given, FitsEvent, PartsFitEvent}
 use Rattle.replica.specs.EnteringViews.{Enters, FetchesStart, SaysVotesOf, entering}
 use Rattle.desk.specs.Begun.{AreBegun}
 use Rattle.replica.specs.Fetching.{SaysFetch}
 use Rattle.desk.specs.Fetching.{aimed_at, aiming, fetch_of}
+use Rattle.desk.specs.DeskOf.{desk_of, IsDeskOf}
 use Rattle.replica.specs.Going.{GoesOn, IsOneParty, IsVoted, IsVotedAll}
 use Rattle.replica.specs.Saying.{Says}
-use Rattle.replica.proofs.EnteringViews.{begun_desk}
-use Rattle.replica.proofs.Following.{aim_of, aimed_is, aims_desk}
+use Rattle.replica.proofs.EnteringViews.{begun_data, begun_desk, begun_is}
+use Rattle.replica.proofs.Following.{aim_of, aimed_same, aims_desk}
 use Rattle.replica.proofs.StartsFetched.{start_aims}
 use Rattle.replica.proofs.ViewsEntered.{FetchedSo, unlogged_voted}
-
--- ---- the waiting calls are of different clients
-
-abbrev Differ : WaitingRequest → WaitingRequest → Type 0
-Differ r t = r.client.number ≢ t.client.number
-
-abbrev pub CallsDiffer : Call → Call → Type 0
-CallsDiffer x y = x.client ≢ y.client
-
-differs_from : (c : Configuration) (r : WaitingRequest) (x : Call) (rs : List WaitingRequest) (calls : List Call) → IsCallOf c r x → AreCallsOf c rs calls → Each (Differ r) rs → Each (CallsDiffer x) calls
-differs_from c r x [] [] is h e = tt
-differs_from c r x [] (y ∷ calls) is h e = absurd h
-differs_from c r x (t ∷ rs) [] is h e = absurd h
-differs_from c r x (t ∷ rs) (y ∷ calls) is h e = (λ same. e.0 (sym is.1 ∙ same ∙ h.0.1), differs_from c r x rs calls is h.1 e.1)
-
-pairs_differ : (c : Configuration) (rs : List WaitingRequest) (calls : List Call) → AreCallsOf c rs calls → Pairs Differ rs → Pairs CallsDiffer calls
-pairs_differ c [] [] h p = tt
-pairs_differ c [] (y ∷ calls) h p = absurd h
-pairs_differ c (r ∷ rs) [] h p = absurd h
-pairs_differ c (r ∷ rs) (x ∷ calls) h p = (differs_from c r x rs calls h.0 h.1 p.0, pairs_differ c rs calls h.1 p.1)
-
-pub calls_differ : (c : Configuration) (rs : List WaitingRequest) (calls : List Call) → AreCallsOf c rs calls → AreOfDifferentClients rs → AllPairs CallsDiffer calls
-calls_differ c rs calls h d = all_pairs CallsDiffer calls (pairs_differ c rs calls h (pairs_of Differ rs d))
 
 -- ---- votes that the log asks for
 
@@ -101,9 +73,6 @@ begun_orderer o new own claims = record o {
   new_view = own;
   claims = claims;
 }
-
-abbrev pub begun_data : ℕ → List BegunCall → DeskData → DeskData
-begun_data low calls d = desk_above low (record d { waiting = with_view calls d.waiting })
 
 abbrev pub start_of : NewViewData → CheckpointEntry
 start_of new = record { number = new.start; digest = new.root }
@@ -225,40 +194,29 @@ module _ (new : NewViewData) (own : Option (List ℕ)) (r : JoinedData) (before 
       (k.votes.voted i (subst (λ (x : OrdererData). ((new.start < i) × (i ≤ new.start + length new.batches)) ⊎ IsVoted x.log i) (sym from.orderer) (asks_there r.orderer.log new is small i)))
 
   -- What fits once the view has begun, stands in the end.
-  module _ (c : Configuration) (s : Start) (desk : Desk) (known : members c ≡ r.orderer.endpoint.membership) (own_me : r.desk.me ≡ me) (is : IsDeskOf c r.desk desk)
+  module _ (c : Configuration) (s : Start) (known : members c ≡ r.orderer.endpoint.membership) (own_me : r.desk.me ≡ me) (is : IsDeskOf c r.desk)
       (once : Once (λ past e. taken c past e ≡ Some new) (after_outputs s (given me before)))
-      (f : FitsEvent c me s the_orderer (desk_from the_low desk) (with_view k.calls r.desk.waiting) (start_due desk new) before) where
-    abbrev later : Desk
-    later = desk_from the_low desk
-
-    later_is : IsDeskOf c the_desk later
-    later_is = begun_desk c r.desk desk k.calls the_low is
-
-    number_is : open_number desk.state.number desk.transfer ≡ aimed_at r.desk
-    number_is = aimed_is c r.desk desk is
-
-    due_is : (b : Bool) → nat_lt (aimed_at r.desk) new.start ≡ b → start_due desk new ≡ cond b (Fetch new.start levels.Root 0 ∷ []) []
-    due_is b e = ap (λ (t : Bool). cond t (Fetch new.start levels.Root 0 ∷ []) []) (ap (λ (m : ℕ). nat_lt m new.start) number_is ∙ e)
-
+      (f : FitsEvent c me s the_orderer (desk_from the_low (desk_of c r.desk)) (with_view k.calls r.desk.waiting) (start_due (desk_of c r.desk) new) before) where
     with_due : (b : Bool) → nat_lt (aimed_at r.desk) new.start ≡ b
-        → FitsEvent c me s the_orderer later (with_view k.calls r.desk.waiting) (cond b (Fetch new.start levels.Root 0 ∷ []) []) before
-    with_due b e = subst (λ (due : List Message). FitsEvent c me s the_orderer later (with_view k.calls r.desk.waiting) due before) (due_is b e) f
+        → FitsEvent c me s the_orderer (desk_of c the_desk) the_desk.waiting (cond b (Fetch new.start levels.Root 0 ∷ []) []) before
+    with_due b e =
+        subst (λ (due : List Message). FitsEvent c me s the_orderer (desk_of c the_desk) the_desk.waiting due before)
+        (ap (λ (t : Bool). cond t (Fetch new.start levels.Root 0 ∷ []) []) (ap (λ (m : ℕ). nat_lt m new.start) (aimed_same r.desk.executed.state.number r.desk.transfer) ∙ e))
+        (subst (λ (desk : Desk). FitsEvent c me s the_orderer desk the_desk.waiting (start_due (desk_of c r.desk) new) before) (sym (begun_desk c the_low k.calls r.desk)) f)
 
     -- the fetch is sent
     aimed : (said : List Output) → aimed_at r.desk < new.start → Says the_orderer (fetch_of (aim_of (start_of new) the_desk).transfer) before said → PartsFitEvent c s the_orderer (aiming (start_of new) the_desk) [] said
     aimed said ahead says = record {
-      desk = record later { transfer = Some (aim_of (start_of new) the_desk).transfer };
-      is = aims_desk c s the_orderer the_desk later (with_view k.calls r.desk.waiting) (start_of new) before said later_is;
-      fits = subst (λ (m : ℕ). FitsEvent c m s the_orderer (record later { transfer = Some (aim_of (start_of new) the_desk).transfer }) (with_view k.calls r.desk.waiting) [] said) (sym own_me)
-          (start_aims c s the_orderer the_desk later (with_view k.calls r.desk.waiting) new before said later_is [] known once ahead says (with_due true (lt-ltb (aimed_at r.desk) new.start ahead)));
+      is = aims_desk c s the_orderer the_desk the_desk.waiting (start_of new) before said (begun_is c the_low k.calls r.desk is);
+      fits = subst (λ (m : ℕ). FitsEvent c m s the_orderer (desk_of c (aiming (start_of new) the_desk)) the_desk.waiting [] said) (sym own_me)
+          (start_aims c s the_orderer the_desk the_desk.waiting new before said [] known once ahead says (with_due true (lt-ltb (aimed_at r.desk) new.start ahead)));
     }
 
     -- or there is none
     unaimed : new.start ≤ aimed_at r.desk → PartsFitEvent c s the_orderer the_desk [] before
     unaimed least = record {
-      desk = later;
-      is = later_is;
-      fits = subst (λ (m : ℕ). FitsEvent c m s the_orderer later (with_view k.calls r.desk.waiting) [] before) (sym own_me) (with_due false (le-ltb (aimed_at r.desk) new.start least));
+      is = begun_is c the_low k.calls r.desk is;
+      fits = subst (λ (m : ℕ). FitsEvent c m s the_orderer (desk_of c the_desk) the_desk.waiting [] before) (sym own_me) (with_due false (le-ltb (aimed_at r.desk) new.start least));
     }
 
     says_it : (said : List Output) → aimed_at r.desk < new.start → SaysFetch (record mid { desk = aiming (start_of new) the_desk }) before said → PartsFitEvent c s the_orderer (aiming (start_of new) the_desk) [] said
@@ -275,11 +233,10 @@ module _ (new : NewViewData) (own : Option (List ℕ)) (r : JoinedData) (before 
 
     pub begun_stands : PartsFitEvent c s n.orderer n.desk [] after
     begun_stands = subst (λ (x : JoinedData). PartsFitEvent c s x.orderer x.desk [] after) (sym k.new_is) (record {
-      desk = st.desk;
       is = st.is;
-      fits = subst (λ (m : ℕ). FitsEvent c m s k.orderer st.desk k.fetched.desk.waiting [] after) (sym named)
-          (goes c s st.desk k.fetched.desk.waiting [] known
-          (subst (λ (m : ℕ). FitsEvent c m s the_orderer st.desk k.fetched.desk.waiting [] k.said) named st.fits));
+      fits = subst (λ (m : ℕ). FitsEvent c m s k.orderer (desk_of c k.fetched.desk) k.fetched.desk.waiting [] after) (sym named)
+          (goes c s (desk_of c k.fetched.desk) k.fetched.desk.waiting [] known
+          (subst (λ (m : ℕ). FitsEvent c m s the_orderer (desk_of c k.fetched.desk) k.fetched.desk.waiting [] k.said) named st.fits));
     })
       where
         st : PartsFitEvent c s the_orderer k.fetched.desk [] k.said

@@ -21,10 +21,11 @@ use Rattle.replica.specs.declared.taking.Touched.TheVariants as touched
 use Rattle.replica.specs.State.{JoinedData, AreOne}
 use Rattle.replica.specs.Desks.{FitsEvent, changes_of}
 use Rattle.replica.specs.Entering.{event_of, TakesBytes}
-use Rattle.replica.specs.Joined.{Runs, me_of}
+use Rattle.replica.specs.Joined.{JoinedMatchesHistory, me_of}
 use Rattle.replica.proofs.Beginning.{rests, changes_kept, none_taken}
 use Rattle.replica.proofs.Parties.{one_self, same_log}
 use Rattle.replica.proofs.Staying.{numbers_beside, said_on}
+use Rattle.desk.specs.DeskOf.{desk_of}
 
 -- it orders nothing, is no request, no view change and no new view, and asks for no reply
 pub record IsBeside (c : Configuration) (body : Body) : Type 0 where
@@ -34,7 +35,7 @@ pub record IsBeside (c : Configuration) (body : Body) : Type 0 where
   pub views : new_view_from c body ≡ None
   pub changes : IsNoChange (Some body)
 
-module _ (r : JoinedData) (one : AreOne r.orderer r.desk) (c : Configuration) (past : List Entry) (runs : Runs c r past) (bytes : List ℕ) (body : Body)
+module _ (r : JoinedData) (one : AreOne r.orderer r.desk) (c : Configuration) (past : List Entry) (runs : JoinedMatchesHistory c r past) (bytes : List ℕ) (body : Body)
     (known : members c ≡ r.desk.membership) (hears : heard r.desk.membership r.desk.me bytes ≡ Some body) where
   -- the desk receives what the orderer does
   pub heard_so : heard (members c) (me_of r) bytes ≡ Some body
@@ -51,42 +52,41 @@ module _ (r : JoinedData) (one : AreOne r.orderer r.desk) (c : Configuration) (p
       changes_kept r one c past runs bytes r.orderer.log (same_log r.orderer.log) refl
       (λ passes. got_keep c (me_of r) past bytes r.orderer.log r.orderer.log passes (record { view = refl; active = refl }) (takes_none none) (λ i within. refl)
       (λ s other. others_bring_none c (me_of r) s past bytes (subst IsNoChange (sym heard_so) silent) other))
-      (inputs_enter c (me_of r) runs.desk later r.orderer.log r.orderer.log due past (Got (me_of r) bytes) runs.holds enters)
+      (inputs_enter c (me_of r) (desk_of c r.desk) later r.orderer.log r.orderer.log due past (Got (me_of r) bytes) runs.holds enters)
 
   -- such a message alone changes nothing
-  pub begins : IsBeside c body → FitsEvent c (me_of r) (event_of c r past runs bytes) r.orderer runs.desk r.desk.waiting [] []
+  pub begins : IsBeside c body → FitsEvent c (me_of r) (event_of c r past runs bytes) r.orderer (desk_of c r.desk) r.desk.waiting [] []
   begins beside = record {
     fits = enters;
-    numbers = numbers_beside c (me_of r) r.desk.waiting r.orderer runs.desk past (Got (me_of r) bytes) runs.holds.of_log.fits.faults runs.holds.of_log.fits.own
+    numbers = numbers_beside c (me_of r) r.desk.waiting r.orderer (desk_of c r.desk) past (Got (me_of r) bytes) runs.holds.of_log.fits.faults runs.holds.of_log.fits.own
         (record { here = refl; none = takes_none beside.views; sends = refl }) runs.numbers;
     said = said_on (me_of r) r.orderer.last_checkpoint past (Got (me_of r) bytes) runs.said;
-    changes = changes_beside runs.desk [] beside.views beside.changes enters;
+    changes = changes_beside (desk_of c r.desk) [] beside.views beside.changes enters;
     meant = tt;
   }
     where
-      enters : histories.Fits c (me_of r) (event_of c r past runs bytes) runs.desk r.orderer.log [] []
-      enters = inputs_fit c (me_of r) runs.desk runs.desk r.orderer.log r.orderer.log [] past bytes runs.holds (takes_none beside.views) (record {
+      enters : histories.Fits c (me_of r) (event_of c r past runs bytes) (desk_of c r.desk) r.orderer.log [] []
+      enters = inputs_fit c (me_of r) (desk_of c r.desk) (desk_of c r.desk) r.orderer.log r.orderer.log [] past bytes runs.holds (takes_none beside.views) (record {
         takes = others_drop c (me_of r) r.orderer.log past bytes runs.holds.of_log.fits (subst IsBesideLog (sym heard_so) beside.log);
         state = refl;
         snapshots = refl;
         waiting = rw (ap (option_and_then (call_in c)) heard_so ∙ beside.call) refl;
         transfer = refl;
         frames = λ frame h. inl h;
-        due_is = sym (ap (asked runs.desk.state) heard_so ∙ beside.asks runs.desk.state);
+        due_is = sym (ap (asked r.desk.executed.state) heard_so ∙ beside.asks r.desk.executed.state);
       })
 
 -- Such a dropped message changes nothing, and the replica owes nothing for it.
 module _ (r : JoinedData) (one : AreOne r.orderer r.desk) (bytes : List ℕ) (body : Body) (hears : heard r.desk.membership r.desk.me bytes ≡ Some body) where
   pub drops_beside : ((c : Configuration) → IsBeside c body)
-      → ((c : Configuration) (past : List Entry) (runs : Runs c r past) → members c ≡ r.desk.membership → AnswersInput c (me_of r) past (Got (me_of r) bytes) [] runs.holds.of_desk.point r.desk.executed.state.number)
+      → ((c : Configuration) (past : List Entry) (runs : JoinedMatchesHistory c r past) → members c ≡ r.desk.membership → AnswersInput c (me_of r) past (Got (me_of r) bytes) [] runs.holds.of_desk.point r.desk.executed.state.number)
       → TakesBytes bytes r touched.Nothing r []
   drops_beside beside answers = record {
     party = one_self r;
     begins = λ c past runs known. (
       record {
-        desk = runs.desk;
         is = runs.is_desk;
-        fits = subst (λ (m : ℕ). FitsEvent c m (event_of c r past runs bytes) r.orderer runs.desk r.desk.waiting [] []) (sym one.0)
+        fits = subst (λ (m : ℕ). FitsEvent c m (event_of c r past runs bytes) r.orderer (desk_of c r.desk) r.desk.waiting [] []) (sym one.0)
             (begins r one c past runs bytes body known hears (beside c));
       },
       (

@@ -29,7 +29,7 @@ use Rattle.view_change.specs.Sets.{change_pair}
 use Rattle.view_change.proofs.Opening.{signed_is}
 use Rattle.replica_histories.specs.Questions.{AnswersInput, MovesOn, brings_part, has_part}
 use Rattle.replica_histories.specs.Changes.{FitsChanges, IsNoBatch, Passes}
-use Rattle.replica_histories.specs.Desk.{Snapshot, snapshot_of}
+use Rattle.replica_histories.specs.Desk.{snapshot_of}
 use Rattle.replica_histories.specs.Events as histories
 use Rattle.replica_histories.specs.Events.{Start, IsTaken, after_outputs}
 use Rattle.replica_histories.specs.Inputs.{IsBesideLog, asked}
@@ -49,11 +49,12 @@ use Rattle.replica.specs.declared.taking.Touched.{Touched}
 use Rattle.replica.specs.declared.taking.Touched.TheVariants as touched
 use Rattle.replica.specs.State.{OrdererData, JoinedData, AreOne, IsOrderer}
 use Rattle.desk.specs.State.{DeskData}
+use Rattle.desk.specs.DeskOf.{desk_of}
 use Rattle.replica.specs.Beginning.{BeginsView, MayBegin, HasNoView}
 use Rattle.replica.specs.Changing.{ChangesView, IsJoinedBy, IsJoinedByNone, IsUnsayable, aimed_view, change_for}
 use Rattle.replica.specs.Desks.{given, PartsFitEvent, FitsEvent, changes_of}
 use Rattle.replica.specs.Entering.{event_of, event_with, TakesBytes, TakesInput}
-use Rattle.replica.specs.Joined.{Runs, me_of}
+use Rattle.replica.specs.Joined.{JoinedMatchesHistory, me_of}
 use Rattle.replica.specs.Going.{IsOneParty, NothingIsLeft}
 use Rattle.replica.specs.Numbering.{IsAllNumbered}
 use Rattle.replica.specs.Receiving.{JudgesAlike, Receives}
@@ -123,7 +124,7 @@ module _ (r : JoinedData) (one : AreOne r.orderer r.desk) (bytes : List ℕ) whe
   abbrev holding : List (Option HeldData) → OrdererData
   holding held = record r.orderer { received = record r.orderer.received { held = held } }
 
-  module _ (c : Configuration) (past : List Entry) (runs : Runs c r past) (x : ℕ × ViewChangeData) (signed : signed_change c bytes ≡ Some x) where
+  module _ (c : Configuration) (past : List Entry) (runs : JoinedMatchesHistory c r past) (x : ℕ × ViewChangeData) (signed : signed_change c bytes ≡ Some x) where
     abbrev me : ℕ
     me = me_of r
 
@@ -136,29 +137,28 @@ module _ (r : JoinedData) (one : AreOne r.orderer r.desk) (bytes : List ℕ) whe
     free : taken c past e ≡ None
     free = none_taken c past e beside.views
 
-    enters : histories.Fits c me (event_of c r past runs bytes) runs.desk r.orderer.log [] []
-    enters = inputs_fit c me runs.desk runs.desk r.orderer.log r.orderer.log [] past bytes runs.holds free (record {
+    enters : histories.Fits c me (event_of c r past runs bytes) (desk_of c r.desk) r.orderer.log [] []
+    enters = inputs_fit c me (desk_of c r.desk) (desk_of c r.desk) r.orderer.log r.orderer.log [] past bytes runs.holds free (record {
       takes = others_drop c me r.orderer.log past bytes runs.holds.of_log.fits beside.log;
       state = refl;
       snapshots = refl;
       waiting = rw beside.call refl;
       transfer = refl;
       frames = λ frame h. inl h;
-      due_is = sym (beside.asks runs.desk.state);
+      due_is = sym (beside.asks r.desk.executed.state);
     })
 
     passes : Passes c me past e r.orderer.log r.orderer.log
-    passes = inputs_enter c me runs.desk runs.desk r.orderer.log r.orderer.log [] past e runs.holds enters
+    passes = inputs_enter c me (desk_of c r.desk) (desk_of c r.desk) r.orderer.log r.orderer.log [] past e runs.holds enters
 
     stands : (held : List (Option HeldData)) → FitsChanges c me r.orderer.log (record (changes_of r.orderer) { held = held }) (e ∷ past)
         → PartsFitEvent c (event_of c r past runs bytes) (holding held) r.desk [] []
     stands held changes = record {
-      desk = runs.desk;
       is = runs.is_desk;
-      fits = subst (λ (m : ℕ). FitsEvent c m (event_of c r past runs bytes) (holding held) runs.desk r.desk.waiting [] []) (sym one.0) (record {
+      fits = subst (λ (m : ℕ). FitsEvent c m (event_of c r past runs bytes) (holding held) (desk_of c r.desk) r.desk.waiting [] []) (sym one.0) (record {
         fits = enters;
-        numbers = numbers_alike c me r.desk.waiting r.orderer (holding held) runs.desk (e ∷ past) (same_log r.orderer.log) refl
-            (numbers_beside c me r.desk.waiting r.orderer runs.desk past e runs.holds.of_log.fits.faults runs.holds.of_log.fits.own
+        numbers = numbers_alike c me r.desk.waiting r.orderer (holding held) (desk_of c r.desk) (e ∷ past) (same_log r.orderer.log) refl
+            (numbers_beside c me r.desk.waiting r.orderer (desk_of c r.desk) past e runs.holds.of_log.fits.faults runs.holds.of_log.fits.own
             (record { here = refl; none = free; sends = refl }) runs.numbers);
         said = said_on me r.orderer.last_checkpoint past e runs.said;
         changes = changes;
@@ -174,14 +174,14 @@ some_fault (Some x) h = (x, refl)
 
 module _ (r : JoinedData) (one : AreOne r.orderer r.desk) (rules : JudgesAlike r.orderer) (bytes : List ℕ) (x : ℕ × ViewChangeData)
     (signed : signed_change (configuration_of r.orderer.received) bytes ≡ Some x) where
-  rule : (c : Configuration) (past : List Entry) → Runs c r past → members c ≡ r.desk.membership → HaveOneRule (configuration_of r.orderer.received) c
+  rule : (c : Configuration) (past : List Entry) → JoinedMatchesHistory c r past → members c ≡ r.desk.membership → HaveOneRule (configuration_of r.orderer.received) c
   rule c past runs known = rules c (known ∙ one.1) (runs.is_desk.period_is ∙ sym one.2)
 
-  signed_in : (c : Configuration) (past : List Entry) → Runs c r past → members c ≡ r.desk.membership → signed_change c bytes ≡ Some x
+  signed_in : (c : Configuration) (past : List Entry) → JoinedMatchesHistory c r past → members c ≡ r.desk.membership → signed_change c bytes ≡ Some x
   signed_in c past runs known = sym ((rule c past runs known).signed bytes) ∙ signed
 
   -- a refused view change gives no reason to move
-  refused_move : ChangesAreJudged → refusal_of (configuration_of r.orderer.received) r.orderer.log.view r.orderer.received.held x ≢ None → (c : Configuration) (past : List Entry) (runs : Runs c r past) → members c ≡ r.desk.membership
+  refused_move : ChangesAreJudged → refusal_of (configuration_of r.orderer.received) r.orderer.log.view r.orderer.received.held x ≢ None → (c : Configuration) (past : List Entry) (runs : JoinedMatchesHistory c r past) → members c ≡ r.desk.membership
       → (outputs : List Entry) → MovesOn c (me_of r) past (Got (me_of r) bytes) outputs runs.holds.of_desk.point
   refused_move judge faulty c past runs known outputs vc other (inl t) may within says = absurd (no_time c (me_of r) (me_of r) past bytes runs.holds.of_desk.point.waiting vc.view t)
   refused_move judge faulty c past runs known outputs vc other (inr (taken, joins)) may within says = absurd (faulty ((judge (configuration_of r.orderer.received) r.orderer.log.view r.orderer.received.held x).1 (above, inside, newer)))
@@ -232,7 +232,7 @@ module _ (r : JoinedData) (one : AreOne r.orderer r.desk) (rules : JudgesAlike r
         );
   }
     where
-      stays : (c : Configuration) (past : List Entry) (runs : Runs c r past) → members c ≡ r.desk.membership
+      stays : (c : Configuration) (past : List Entry) (runs : JoinedMatchesHistory c r past) → members c ≡ r.desk.membership
           → FitsChanges c (me_of r) r.orderer.log (changes_of r.orderer) (Got (me_of r) bytes ∷ past)
       stays c past runs known =
           changes_stay c (me_of r) past (Got (me_of r) bytes) r.orderer.log r.orderer.log (changes_of r.orderer) r.orderer.claims (passes r one bytes c past runs x is) (record { view = refl; active = refl })
@@ -268,13 +268,13 @@ IsTakenPartless c me s = IsTaken c me s × (brings_part c me s.input ≡ false)
 -- What fits the past fits the event with these outputs, and nothing is left to do.
 record Comes (input : Entry) (old new : JoinedData) (outs : List Output) : Type 0 where
   party : IsOneParty old new
-  begins : (c : Configuration) (past : List Entry) (runs : Runs c old past) → members c ≡ old.desk.membership
+  begins : (c : Configuration) (past : List Entry) (runs : JoinedMatchesHistory c old past) → members c ≡ old.desk.membership
       → PartsFitEvent c (event_with c old past runs input) new.orderer new.desk [] outs × NothingIsLeft new × IsAllNumbered new × IsTakenPartless c (me_of new) (event_with c old past runs input)
 
 -- If the replica has to move and its target is this view, the event has what it owes.
 abbrev MovesAt : Entry → JoinedData → ℕ → Type 0
 MovesAt input old to =
-    (c : Configuration) (past : List Entry) (runs : Runs c old past) → members c ≡ old.desk.membership → (outputs : List Entry)
+    (c : Configuration) (past : List Entry) (runs : JoinedMatchesHistory c old past) → members c ≡ old.desk.membership → (outputs : List Entry)
     → target (after_outputs (event_with c old past runs input) outputs) ≡ to → MovesOn c (me_of old) past input outputs runs.holds.of_desk.point
 
 module _ (input : Entry) (old : JoinedData) (alone : AreOne old.orderer old.desk) where
@@ -293,7 +293,7 @@ module _ (input : Entry) (old : JoinedData) (alone : AreOne old.orderer old.desk
   }
 
   -- then the event has all that the input asks for
-  answered : (a : JoinedData) (x : List Output) → Comes input old a x → MovesAt input old a.orderer.target → (c : Configuration) (past : List Entry) (runs : Runs c old past) → members c ≡ old.desk.membership → (outputs : List Entry) (executed : ℕ)
+  answered : (a : JoinedData) (x : List Output) → Comes input old a x → MovesAt input old a.orderer.target → (c : Configuration) (past : List Entry) (runs : JoinedMatchesHistory c old past) → members c ≡ old.desk.membership → (outputs : List Entry) (executed : ℕ)
       → target (after_outputs (event_with c old past runs input) outputs) ≡ a.orderer.target → AnswersInput c (me_of old) past input outputs runs.holds.of_desk.point executed
   answered a x came moved c past runs known outputs executed at =
       let partless = subst (λ (e : EndpointState). brings_part c e.me input ≡ false) came.party.endpoint (came.begins c past runs known).3.1 in
@@ -377,7 +377,7 @@ module _ (r : JoinedData) (x : Change) (bytes : List ℕ) (one : AreOne r.ordere
         go None e = let above = judged.0 in omega (arith, above)
         go (Some last) e = judged.2 last e
 
-    module _ (c : Configuration) (past : List Entry) (runs : Runs c r past) (known : members c ≡ r.desk.membership) where
+    module _ (c : Configuration) (past : List Entry) (runs : JoinedMatchesHistory c r past) (known : members c ≡ r.desk.membership) where
       hears : heard (members c) (me_of r) bytes ≡ Some (record { sender = x.sender.0; message = ViewChange vc })
       hears = heard_by r one c bytes _ known h
 
@@ -408,7 +408,7 @@ module _ (r : JoinedData) (x : Change) (bytes : List ℕ) (one : AreOne r.ordere
 
     -- ---- the view to which others move the replica
 
-    module _ (c : Configuration) (past : List Entry) (runs : Runs c r past) (known : members c ≡ r.desk.membership) where
+    module _ (c : Configuration) (past : List Entry) (runs : JoinedMatchesHistory c r past) (known : members c ≡ r.desk.membership) where
       passed : Passes c (me_of r) past (Got (me_of r) bytes) r.orderer.log r.orderer.log
       passed = passes r one bytes c past runs (change_pair x) (signed_in r one rules bytes (change_pair x) signed c past runs known)
 
@@ -437,14 +437,14 @@ module _ (r : JoinedData) (x : Change) (bytes : List ℕ) (one : AreOne r.ordere
           at : other_vc.view ≡ v
           at = joined_one r.orderer.endpoint.membership.faults other_vc.view v (later_views (me_of r) (aimed_view with_it.orderer) with_it.orderer.received.held) (joined by.0 other_vc.view reason) by.1
 
-          kept : map snapshot_of (kept_states r.orderer.log.low runs.holds.of_desk.point.snapshots) ≡ runs.desk.snapshots
-          kept = subst (λ (h : ℕ). map snapshot_of (kept_states h runs.holds.of_desk.point.snapshots) ≡ runs.desk.snapshots) runs.holds.of_log.fits.low runs.holds.of_desk.kept
+          kept : map snapshot_of (kept_states r.orderer.log.low runs.holds.of_desk.point.snapshots) ≡ r.desk.snapshots
+          kept = subst (λ (h : ℕ). map snapshot_of (kept_states h runs.holds.of_desk.point.snapshots) ≡ r.desk.snapshots) runs.holds.of_log.fits.low runs.holds.of_desk.kept
 
           spent : r.orderer.spent ≡ 64
           spent =
-              unsaid_spent c (me_of r) runs.desk with_it.orderer (Got (me_of r) bytes ∷ past) runs.holds.of_desk.point passed.new v passed.fits_behind passed.goes (rests c r past runs).0 kept (holds c past runs known)
+              unsaid_spent c (me_of r) (desk_of c r.desk) with_it.orderer (Got (me_of r) bytes ∷ past) runs.holds.of_desk.point passed.new v passed.fits_behind passed.goes (rests c r past runs).0 kept (holds c past runs known)
               runs.holds.of_log.fits.own refl judge (λ y. sym ((rule r one rules bytes (change_pair x) signed c past runs known).within y))
-              (subst (λ (xs : List Snapshot). IsUnsayable with_it.orderer (change_for v (entries_of xs) with_it.orderer)) (sym runs.is_desk.snapshots) unsaid) other_vc other at may within says
+              unsaid other_vc other at may within says
 
     -- what the replica owes if others move it
     moved_at : (moved : JoinedData) (said : List Output) → MayJoin with_it [] moved said → MovesAt (Got (me_of r) bytes) r moved.orderer.target

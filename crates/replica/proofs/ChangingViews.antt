@@ -15,7 +15,6 @@ use Rattle.protocol.specs.System.Trace.{Entry}
 use Rattle.protocol.specs.System.Trace.Entry.{Sent}
 use Rattle.protocol.specs.Replica.Certificates.{target, view as in_view}
 use Rattle.protocol.specs.Replica.RightReplica.{SentBefore, IsPreparedList, IsPrePreparedList, TimesOut, JoinsOthers, sought_view}
-use Rattle.protocol.specs.Replica.State.{Call}
 use Rattle.protocol.specs.Replica.Selection.{signed_change}
 use Rattle.protocol.proofs.Words.Options.{some_injective}
 use Rattle.view_change.specs.declared.changes.Change.{Change}
@@ -39,7 +38,8 @@ use Rattle.replica_histories.proofs.Reasons.{ticks_are_reasons, held_are_joined}
 use Rattle.replica.specs.State.{OrdererData, JoinedData, IsOrderer, AreOne}
 use Rattle.desk.specs.declared.waiting.WaitingRequest.{WaitingRequest}
 use Rattle.desk.specs.Waiting.{WaitingData}
-use Rattle.replica.specs.Desks.{given, changes_of, AreCallsOf, FitsEvent}
+use Rattle.desk.specs.DeskOf.{waiting_calls, desk_of}
+use Rattle.replica.specs.Desks.{given, changes_of, FitsEvent}
 use Rattle.replica.specs.Going.{IsVotedAll}
 use Rattle.replica.specs.Saying.{AreBelow, PostedFrame, PostsChange, SaysLastAlso}
 use Rattle.replica.proofs.PostedAgain.{frame_now}
@@ -114,8 +114,11 @@ module _ (view : ℕ) (old : JoinedData) (signed : OrdererData) (frame : List �
   abbrev new : OrdererData
   new = gone (record old.orderer { received = record old.orderer.received { held = with_held k.own old.orderer.received.held }; spent = old.orderer.spent + 1 })
 
-  module _ (c : Configuration) (s : Start) (desk : Desk) (before after : List Output) (known : members c ≡ old.desk.membership) (voted : IsVotedAll old.orderer.log)
-      (kept : desk.snapshots ≡ old.desk.snapshots) (calls : AreCallsOf c old.desk.waiting.requests desk.waiting) (reason : HasReason c s old view) (f : FitsEvent c me s o desk old.desk.waiting [] before) where
+  module _ (c : Configuration) (s : Start) (before after : List Output) (known : members c ≡ old.desk.membership) (voted : IsVotedAll old.orderer.log)
+      (reason : HasReason c s old view) (f : FitsEvent c me s o (desk_of c old.desk) old.desk.waiting [] before) where
+    abbrev desk : Desk
+    desk = desk_of c old.desk
+
     abbrev past : List Entry
     past = after_outputs s (given me before)
 
@@ -136,12 +139,11 @@ module _ (view : ℕ) (old : JoinedData) (signed : OrdererData) (frame : List �
     sought = ap₂ (λ (a b : ℕ). max a b) (sym f.fits.of_log.view) (sym f.changes.target)
 
     waits : old.desk.waiting.requests ≢ [] → desk.waiting ≢ []
-    waits some none = some (go old.desk.waiting.requests desk.waiting calls none)
+    waits some none = some (go old.desk.waiting.requests none)
       where
-        go : (rs : List WaitingRequest) (xs : List Call) → AreCallsOf c rs xs → xs ≡ [] → rs ≡ []
-        go [] xs are is = refl
-        go (r ∷ rs) [] are is = absurd are
-        go (r ∷ rs) (x ∷ xs) are is = absurd cc
+        go : (rs : List WaitingRequest) → waiting_calls c rs ≡ [] → rs ≡ []
+        go [] is = refl
+        go (r ∷ rs) is = absurd cc
 
     reasons : TimesOut c me past desk.waiting view ⊎ JoinsOthers c me past view
     reasons = go reason
@@ -162,7 +164,7 @@ module _ (view : ℕ) (old : JoinedData) (signed : OrdererData) (frame : List �
       newer = newer;
       is_view = next.1;
       low = refl;
-      checkpoints = ap entries_of (sym kept);
+      checkpoints = refl;
       prepared = lists.0;
       pre_prepared = lists.1;
       reason = reasons;
@@ -203,10 +205,9 @@ module _ (view : ℕ) (old : JoinedData) (signed : OrdererData) (frame : List �
       leaves : SaysFrame new frame before after → LeavesView view old before (record old { orderer = new }) after
       leaves says = record {
         stands = λ c s known voted reason st. record {
-          desk = st.desk;
           is = st.is;
-          fits = subst (λ (m : ℕ). FitsEvent c m s new st.desk old.desk.waiting [] after) (sym one.0)
-              (goes c s st.desk before after known voted st.is.snapshots st.is.waiting reason (subst (λ (m : ℕ). FitsEvent c m s o st.desk old.desk.waiting [] before) one.0 st.fits) says);
+          fits = subst (λ (m : ℕ). FitsEvent c m s new (desk_of c old.desk) old.desk.waiting [] after) (sym one.0)
+              (goes c s before after known voted reason (subst (λ (m : ℕ). FitsEvent c m s o (desk_of c old.desk) old.desk.waiting [] before) one.0 st.fits) says);
         };
         party = record { endpoint = refl; me = refl; membership = refl };
         target = refl;

@@ -19,7 +19,7 @@ use Rattle.protocol.specs.System.Configuration.{Configuration, members}
 use Rattle.protocol.specs.System.Trace.{Entry}
 use Rattle.protocol.specs.System.Trace.Entry.{Got}
 use Rattle.protocol.specs.Replica.Certificates.{taken}
-use Rattle.replica_histories.specs.Desk.{Desk, desk_from, kept_from}
+use Rattle.replica_histories.specs.Desk.{Snapshot, Desk, desk_from, kept_from}
 use Rattle.replica_histories.specs.Events as histories
 use Rattle.replica_histories.specs.Changes.{CutsClaims, FitsChanges, IsNoBatch, KeepsChanges}
 use Rattle.replica_histories.specs.Inputs.{fetch_due}
@@ -40,13 +40,14 @@ use Rattle.replica.specs.Desks.{given, FitsEvent, PartsFitEvent, changes_of}
 use Rattle.replica.specs.Beginning.{CannotBegin}
 use Rattle.replica.specs.Entering.{event_of, IsTakenAlone, IsTakenBeside, IsLeftToDo, TakesBytes, TakesMessage}
 use Rattle.desk.specs.Fetching.{aimed_at, aiming}
-use Rattle.replica.specs.Joined.{Runs, me_of}
+use Rattle.desk.specs.DeskOf.{desk_of}
+use Rattle.replica.specs.Joined.{JoinedMatchesHistory, me_of}
 use Rattle.replica.specs.Going.{CommitsNoMore, IsExecuted, IsOneParty, IsSameLog, IsVotedAll, NothingIsLeft}
 use Rattle.replica.specs.Saying.{Says}
 use Rattle.replica.proofs.Beginning.{IsNoCall, drops, heard_by, none_taken, rests, some_fault}
 use Rattle.replica.proofs.DueCheckpoints.{cut_commits, cut_voted, either, same_cut, settled_claims, settled_desk, settled_orderer, settled_snapshots}
 use Rattle.replica_histories.proofs.Counting.{checkpoint_free}
-use Rattle.replica.proofs.Following.{aim_of, aimed_is, aims, aims_desk}
+use Rattle.replica.proofs.Following.{aimed_same, aims, aims_desk}
 use Rattle.replica.proofs.Choosing.{begun_stays, settled_choice}
 use Rattle.replica.proofs.Staying.{numbers_alike, numbers_beside, said_on, same_but_checkpoints}
 
@@ -145,13 +146,13 @@ module _ (r : JoinedData) (one : AreOne r.orderer r.desk) (s : ℕ) (entry : Che
     checked claims = record r.orderer { log = after; claims = claims }
 
     -- a rule takes it
-    counts : (c : Configuration) (past : List Entry) (runs : Runs c r past) → members c ≡ r.desk.membership → IsTakenBeside c (me_of r) (event_of c r past runs bytes)
+    counts : (c : Configuration) (past : List Entry) (runs : JoinedMatchesHistory c r past) → members c ≡ r.desk.membership → IsTakenBeside c (me_of r) (event_of c r past runs bytes)
     counts c past runs known = (
       (body, hears c known, checkpoints_count c (me_of r) r.orderer.log past runs.holds.of_desk.point s entry bytes runs.holds.of_log.fits (hears c known) none latest),
       (no_call c known).parts,
     )
 
-    module _ (c : Configuration) (past : List Entry) (runs : Runs c r past) (known : members c ≡ r.desk.membership) (claims : ClaimsData)
+    module _ (c : Configuration) (past : List Entry) (runs : JoinedMatchesHistory c r past) (known : members c ≡ r.desk.membership) (claims : ClaimsData)
         (cuts : CutsClaims r.orderer.log.low r.orderer.claims r.orderer.claims → CutsClaims after.low r.orderer.claims claims) where
       abbrev e : Entry
       e = Got (me_of r) bytes
@@ -159,23 +160,23 @@ module _ (r : JoinedData) (one : AreOne r.orderer r.desk) (s : ℕ) (entry : Che
       free : taken c past e ≡ None
       free = none_taken c past e (no_call c known).views
 
-      fitting : histories.Fits c (me_of r) (event_of c r past runs bytes) (desk_from after.low runs.desk) after (fetch_due runs.desk counted entry) []
-      fitting = checkpoints_enter c (me_of r) runs.desk r.orderer.log past s entry bytes runs.holds (hears c known) none
+      fitting : histories.Fits c (me_of r) (event_of c r past runs bytes) (desk_from after.low (desk_of c r.desk)) after (fetch_due (desk_of c r.desk) counted entry) []
+      fitting = checkpoints_enter c (me_of r) (desk_of c r.desk) r.orderer.log past s entry bytes runs.holds (hears c known) none
 
       keeps : KeepsChanges c (me_of r) past e
       keeps = heard_keep c (me_of r) past bytes free (subst IsNoBatch (sym (hears c known)) tt) (λ other ne. others_bring_none c (me_of r) other past bytes (no_call c known).changes ne)
 
       changing : FitsChanges c (me_of r) after (changes_of (checked claims)) (e ∷ past)
       changing = changes_stay c (me_of r) past e r.orderer.log after (changes_of r.orderer) claims
-          (inputs_enter c (me_of r) runs.desk (desk_from after.low runs.desk) r.orderer.log after (fetch_due runs.desk counted entry) past e runs.holds fitting)
+          (inputs_enter c (me_of r) (desk_of c r.desk) (desk_from after.low (desk_of c r.desk)) r.orderer.log after (fetch_due (desk_of c r.desk) counted entry) past e runs.holds fitting)
           (let same = same_counted r.orderer.log s entry in record { view = same.view; active = same.active }) keeps
           (cuts (claims_are_above c (me_of r) r.orderer.log past r.orderer.claims runs.holds.of_log.fits runs.changes.claims)) runs.changes
 
-      enters : FitsEvent c (me_of r) (event_of c r past runs bytes) (checked claims) (desk_from after.low runs.desk) r.desk.waiting (fetch_due runs.desk counted entry) []
+      enters : FitsEvent c (me_of r) (event_of c r past runs bytes) (checked claims) (desk_from after.low (desk_of c r.desk)) r.desk.waiting (fetch_due (desk_of c r.desk) counted entry) []
       enters = record {
         fits = fitting;
-        numbers = numbers_alike c (me_of r) r.desk.waiting r.orderer (checked claims) runs.desk (e ∷ past) (same_counted r.orderer.log s entry) refl
-            (numbers_beside c (me_of r) r.desk.waiting r.orderer runs.desk past e runs.holds.of_log.fits.faults runs.holds.of_log.fits.own
+        numbers = numbers_alike c (me_of r) r.desk.waiting r.orderer (checked claims) (desk_of c r.desk) (e ∷ past) (same_counted r.orderer.log s entry) refl
+            (numbers_beside c (me_of r) r.desk.waiting r.orderer (desk_of c r.desk) past e runs.holds.of_log.fits.faults runs.holds.of_log.fits.own
             (record { here = refl; none = free; sends = refl }) runs.numbers);
         said = said_on (me_of r) r.orderer.last_checkpoint past e runs.said;
         changes = changing;
@@ -183,10 +184,10 @@ module _ (r : JoinedData) (one : AreOne r.orderer r.desk) (s : ℕ) (entry : Che
       }
 
     -- the kept states are those from the low mark on
-    kept : (c : Configuration) (past : List Entry) (runs : Runs c r past) → kept_from r.orderer.log.low r.desk.snapshots ≡ r.desk.snapshots
+    kept : (c : Configuration) (past : List Entry) (runs : JoinedMatchesHistory c r past) → kept_from r.orderer.log.low r.desk.snapshots ≡ r.desk.snapshots
     kept c past runs =
-        let above = kept_are_above c (me_of r) runs.desk r.orderer.log runs.holds.of_desk.point.snapshots past runs.holds.of_log.fits runs.holds.of_desk.kept in
-        ap (kept_from r.orderer.log.low) (sym runs.is_desk.snapshots) ∙ ap (λ (d : Desk). d.snapshots) above ∙ runs.is_desk.snapshots
+        let above = kept_are_above c (me_of r) (desk_of c r.desk) r.orderer.log runs.holds.of_desk.point.snapshots past runs.holds.of_log.fits runs.holds.of_desk.kept in
+        ap (λ (d : Desk). d.snapshots) above
 
     module _ (n : JoinedData) (b : Bool) (settles : Settles entry with_it n b) where
       orderer_is : n.orderer ≡ checked n.orderer.claims
@@ -195,25 +196,22 @@ module _ (r : JoinedData) (one : AreOne r.orderer r.desk) (s : ℕ) (entry : Che
       desk_is : n.desk ≡ record r.desk { snapshots = n.desk.snapshots }
       desk_is = settled_desk entry with_it n b settles
 
-      stands : (c : Configuration) (past : List Entry) (runs : Runs c r past) → members c ≡ r.desk.membership
-          → PartsFitEvent c (event_of c r past runs bytes) n.orderer n.desk (fetch_due runs.desk counted entry) []
+      stands : (c : Configuration) (past : List Entry) (runs : JoinedMatchesHistory c r past) → members c ≡ r.desk.membership
+          → PartsFitEvent c (event_of c r past runs bytes) n.orderer n.desk (fetch_due (desk_of c r.desk) counted entry) []
       stands c past runs known =
-          subst (λ (k : OrdererData). PartsFitEvent c (event_of c r past runs bytes) k n.desk (fetch_due runs.desk counted entry) []) (sym orderer_is)
-          (subst (λ (k : DeskData). PartsFitEvent c (event_of c r past runs bytes) (checked n.orderer.claims) k (fetch_due runs.desk counted entry) []) (sym desk_is) (record {
-            desk = desk_from after.low runs.desk;
+          subst (λ (k : OrdererData). PartsFitEvent c (event_of c r past runs bytes) k n.desk (fetch_due (desk_of c r.desk) counted entry) []) (sym orderer_is)
+          (subst (λ (k : DeskData). PartsFitEvent c (event_of c r past runs bytes) (checked n.orderer.claims) k (fetch_due (desk_of c r.desk) counted entry) []) (sym desk_is) (record {
             is = record {
               members_are = runs.is_desk.members_are;
               period_is = runs.is_desk.period_is;
-              state = runs.is_desk.state;
-              snapshots = ap (kept_from after.low) runs.is_desk.snapshots ∙ settled_snapshots entry with_it n b settles (kept c past runs);
-              transfer = runs.is_desk.transfer;
               rests = runs.is_desk.rests;
-              frames = runs.is_desk.frames;
-              waiting = runs.is_desk.waiting;
+              calls = runs.is_desk.calls;
               differ = runs.is_desk.differ;
             };
-            fits = subst (λ (m : ℕ). FitsEvent c m (event_of c r past runs bytes) (checked n.orderer.claims) (desk_from after.low runs.desk) r.desk.waiting (fetch_due runs.desk counted entry) []) (sym one.0)
-                (enters c past runs known n.orderer.claims (settled_claims entry with_it n b settles));
+            fits = subst (λ (xs : List Snapshot). FitsEvent c r.desk.me (event_of c r past runs bytes) (checked n.orderer.claims) (record (desk_of c r.desk) { snapshots = xs }) r.desk.waiting (fetch_due (desk_of c r.desk) counted entry) [])
+                (settled_snapshots entry with_it n b settles (kept c past runs))
+                (subst (λ (m : ℕ). FitsEvent c m (event_of c r past runs bytes) (checked n.orderer.claims) (desk_from after.low (desk_of c r.desk)) r.desk.waiting (fetch_due (desk_of c r.desk) counted entry) []) (sym one.0)
+                (enters c past runs known n.orderer.claims (settled_claims entry with_it n b settles)));
           }))
 
       party : IsOneParty r n
@@ -223,7 +221,7 @@ module _ (r : JoinedData) (one : AreOne r.orderer r.desk) (s : ℕ) (entry : Che
         membership = ap (λ (d : DeskData). d.membership) desk_is;
       }
 
-      rests_on : (c : Configuration) (past : List Entry) (runs : Runs c r past) → NothingIsLeft n
+      rests_on : (c : Configuration) (past : List Entry) (runs : JoinedMatchesHistory c r past) → NothingIsLeft n
       rests_on c past runs =
           let before = rests c r past runs in
           let is_log = counted_is_log r.orderer.log s entry runs.holds.of_log.fits.is_log in (
@@ -239,7 +237,7 @@ module _ (r : JoinedData) (one : AreOne r.orderer r.desk) (s : ℕ) (entry : Che
     settled n settles = record {
       party = party n true settles;
       begins = λ c past runs known. (
-        subst (λ (due : List Message). PartsFitEvent c (event_of c r past runs bytes) n.orderer n.desk due []) (none_for_stable runs.desk counted entry settles.0) (stands n true settles c past runs known),
+        subst (λ (due : List Message). PartsFitEvent c (event_of c r past runs bytes) n.orderer n.desk due []) (none_for_stable (desk_of c r.desk) counted entry settles.0) (stands n true settles c past runs known),
         (rests_on n true settles c past runs, subst (λ (k : OrdererData). IsTakenAlone c k.endpoint.me (event_of c r past runs bytes)) (sym (orderer_is n true settles)) (alone c past runs known)),
         begun_stays c r.orderer n.orderer (subst (λ (k : OrdererData). IsSameLog r.orderer.log k.log) (sym (orderer_is n true settles)) (same_counted r.orderer.log s entry))
             (ap (λ (k : OrdererData). k.target) (orderer_is n true settles))
@@ -247,7 +245,7 @@ module _ (r : JoinedData) (one : AreOne r.orderer r.desk) (s : ℕ) (entry : Che
       );
     }
       where
-        alone : (c : Configuration) (past : List Entry) (runs : Runs c r past) → members c ≡ r.desk.membership → IsTakenAlone c (me_of r) (event_of c r past runs bytes)
+        alone : (c : Configuration) (past : List Entry) (runs : JoinedMatchesHistory c r past) → members c ≡ r.desk.membership → IsTakenAlone c (me_of r) (event_of c r past runs bytes)
         alone c past runs known =
             let t = counts c past runs known in
             (t.0, λ outputs executed. others_owe_none c (me_of r) past (Got (me_of r) bytes) outputs runs.holds.of_desk.point executed t.1)
@@ -268,10 +266,10 @@ module _ (r : JoinedData) (one : AreOne r.orderer r.desk) (s : ℕ) (entry : Che
         );
       }
         where
-          none_now : (c : Configuration) (past : List Entry) (runs : Runs c r past)
-              → (nat_le (2 * counted.faults + 1) (logs.count_checkpoints counted entry) ≡ false) ⊎ (entry.number ≤ aimed_at r.desk) → fetch_due runs.desk counted entry ≡ []
-          none_now c past runs (inl few) = none_for_few runs.desk counted entry unstable few
-          none_now c past runs (inr behind) = none_behind runs.desk counted entry unstable (subst (λ (k : ℕ). entry.number ≤ k) (sym (aimed_is c r.desk runs.desk runs.is_desk)) behind)
+          none_now : (c : Configuration) (past : List Entry) (runs : JoinedMatchesHistory c r past)
+              → (nat_le (2 * counted.faults + 1) (logs.count_checkpoints counted entry) ≡ false) ⊎ (entry.number ≤ aimed_at r.desk) → fetch_due (desk_of c r.desk) counted entry ≡ []
+          none_now c past runs (inl few) = none_for_few (desk_of c r.desk) counted entry unstable few
+          none_now c past runs (inr behind) = none_behind (desk_of c r.desk) counted entry unstable (subst (λ (k : ℕ). entry.number ≤ k) (sym (aimed_same r.desk.executed.state.number r.desk.transfer)) behind)
 
       fetches : (outs : List Output) → nat_le (2 * counted.faults + 1) (logs.count_checkpoints counted entry) ≡ true → aimed_at r.desk < entry.number
           → Says with_it.orderer (Fetch entry.number levels.Root 0) [] outs → TakesBytes bytes r touched.Nothing (record with_it { desk = aiming entry r.desk }) outs
@@ -287,19 +285,17 @@ module _ (r : JoinedData) (one : AreOne r.orderer r.desk) (s : ℕ) (entry : Che
           over : r.orderer.log.low < entry.number
           over = (checkpoint_free r.orderer.log s entry.number entry.digest none).above
 
-          asked : (c : Configuration) (past : List Entry) (runs : Runs c r past) → members c ≡ r.desk.membership
+          asked : (c : Configuration) (past : List Entry) (runs : JoinedMatchesHistory c r past) → members c ≡ r.desk.membership
               → PartsFitEvent c (event_of c r past runs bytes) with_it.orderer (aiming entry r.desk) [] outs
           asked c past runs known =
-              let due = one_ahead runs.desk counted entry unstable quorum (subst (λ (k : ℕ). k < entry.number) (sym (aimed_is c r.desk runs.desk runs.is_desk)) ahead) in
+              let due = one_ahead (desk_of c r.desk) counted entry unstable quorum (subst (λ (k : ℕ). k < entry.number) (sym (aimed_same r.desk.executed.state.number r.desk.transfer)) ahead) in
               let st = subst (λ (due : List Message). PartsFitEvent c (event_of c r past runs bytes) with_it.orderer r.desk due []) due (stands with_it false (unstable, refl) c past runs known) in
               record {
-                desk = record st.desk { transfer = Some (aim_of entry r.desk).transfer };
-                is = aims_desk c (event_of c r past runs bytes) with_it.orderer r.desk st.desk r.desk.waiting entry [] outs st.is;
-                fits = subst (λ (m : ℕ). FitsEvent c m (event_of c r past runs bytes) with_it.orderer
-                    (record st.desk { transfer = Some (aim_of entry r.desk).transfer }) r.desk.waiting [] outs) (sym one.0)
-                    (aims c (event_of c r past runs bytes) with_it.orderer r.desk st.desk r.desk.waiting entry [] outs st.is [] (known ∙ one.1)
+                is = aims_desk c (event_of c r past runs bytes) with_it.orderer r.desk r.desk.waiting entry [] outs st.is;
+                fits = subst (λ (m : ℕ). FitsEvent c m (event_of c r past runs bytes) with_it.orderer (desk_of c (aiming entry r.desk)) r.desk.waiting [] outs) (sym one.0)
+                    (aims c (event_of c r past runs bytes) with_it.orderer r.desk r.desk.waiting entry [] outs [] (known ∙ one.1)
                     (leb-true (2 * counted.faults + 1) (logs.count_checkpoints counted entry) quorum) over ahead says
-                    (subst (λ (m : ℕ). FitsEvent c m (event_of c r past runs bytes) with_it.orderer st.desk r.desk.waiting (Fetch entry.number levels.Root 0 ∷ []) []) one.0 st.fits));
+                    (subst (λ (m : ℕ). FitsEvent c m (event_of c r past runs bytes) with_it.orderer (desk_of c r.desk) r.desk.waiting (Fetch entry.number levels.Root 0 ∷ []) []) one.0 st.fits));
               }
 
       followed : (n : JoinedData) (outs : List Output) → StartsTransferIfBehind entry with_it [] n outs → TakesBytes bytes r touched.Nothing n outs

@@ -5,7 +5,7 @@ use Rattle.std.specs.Option.{ForSome}
 use Rattle.protocol.specs.Replica.State.{State}
 use Rattle.replica_histories.specs.Transfers.{still_open}
 use Rattle.desk.specs.State.{OpenData}
-use Rattle.replica.specs.Desks.{RestsAt}
+use Rattle.desk.specs.DeskOf.{RestsAt}
 use Rattle.desk.specs.Desking.{above_number}
 
 -- it is closed if the history's is

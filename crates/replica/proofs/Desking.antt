@@ -1,6 +1,8 @@
 -- What a desk does fits: its replies, and its executions.
-use Rattle.std.proofs.Common.{◌≡◌, ◌≢◌, ℕ, suc, ◌+◌, ◌≤◌, Bool, true, false, cond, List, [], ◌∷◌, ◌++◌, map, filter, Some, refl, sym, ap, ◌∙◌, subst, nat_lt, eq-eqb}
+use Rattle.std.proofs.Common.{◌≡◌, ◌≢◌, ℕ, suc, ◌+◌, ◌≤◌, List, [], ◌∷◌, ◌++◌, map, filter, Option, option_map, Some, refl, sym, ap, ◌∙◌, subst, nat_lt, eq-eqb}
 use Rattle.std.proofs.lemmas.List.Kept.{AllPairs-filter}
+use Rattle.std.proofs.lemmas.Simd.{map-map}
+use Rattle.state_transfer.specs.Transfer.{TransferData}
 use Rattle.terms.specs.declared.order.Timestamp.{Timestamp}
 use Rattle.terms.specs.declared.parties.ClientId.{ClientId}
 use Rattle.wire_format.specs.Messages.{MessageData as Message}
@@ -15,10 +17,10 @@ use Rattle.ordering.specs.Log as logs
 use Rattle.protocol.specs.System.Configuration.{Configuration, members}
 use Rattle.protocol.specs.System.Trace.{Entry, Has}
 use Rattle.protocol.specs.System.Trace.Entry.{Executed, Sent}
-use Rattle.protocol.specs.Replica.State.{State, IsReplicatedState, Call, Ran as RanData, execute, kept_of, last_time, ran_in}
+use Rattle.protocol.specs.Replica.State.{State, IsReplicatedState, Call, call_of, Ran as RanData, execute, kept_of, last_time, ran_in}
 use Rattle.protocol.specs.Replica.RightReplica.{reply_of, still_waiting}
-use Rattle.protocol.proofs.Words.Elements.{has_filter, has_map, has_mapped}
-use Rattle.replica_histories.specs.Desk.{Desk}
+use Rattle.protocol.proofs.Words.Elements.{each_filtered, has_filter, has_map, has_mapped}
+use Rattle.replica_histories.specs.Desk.{Desk, Snapshot}
 use Rattle.replica_histories.specs.Events as events
 use Rattle.replica_histories.specs.Events.{Start, after_outputs}
 use Rattle.replica_histories.specs.Inputs.{again_for}
@@ -26,6 +28,8 @@ use Rattle.replica_histories.specs.Outputs.{checkpoint_due, executed_desk, repli
 use Rattle.replica_histories.specs.Transfers.{still_open}
 use Rattle.replica_histories.proofs.Giving.{replies_fit}
 use Rattle.replica_histories.proofs.Executing.{executes_fit}
+use Rattle.replica_histories.specs.Numbers.{NoneFalls}
+use Rattle.replica_histories.proofs.NumbersLists.{mapped_kept}
 use Rattle.replica_histories.proofs.NumbersWaiting.{executions_raise}
 use Rattle.replica_histories.proofs.ChangesKept.{sent_keep, silent_keep}
 use Rattle.desk.specs.declared.waiting.WaitingRequest.{WaitingRequest}
@@ -34,8 +38,9 @@ use Rattle.replica.specs.State.{OrdererData}
 use Rattle.desk.specs.State.{DeskData, IsDesk}
 use Rattle.desk.specs.Waiting.{frames_of, is_new, forgotten}
 use Rattle.replica.specs.Flags.{FitsFlags}
-use Rattle.replica.specs.Desks.{AreCallsOf, FitsWaiting, FitsEvent, IsDeskOf, given, PartsFitEvent}
+use Rattle.replica.specs.Desks.{FitsWaiting, FitsEvent, given, PartsFitEvent}
 use Rattle.desk.specs.Desking.{RepliesAgain, RepliesToAll, RunsBatch, RunsWhole, SaysReply, snapshots_with}
+use Rattle.desk.specs.DeskOf.{waiting_call, waiting_calls, desk_of, SpellCalls, IsDeskOf}
 use Rattle.desk.proofs.Running.{behind_run}
 use Rattle.replica.proofs.Given.{GivesOne, gives_one}
 use Rattle.replica.proofs.Newest.{all_kept, all_with}
@@ -62,13 +67,12 @@ replies_for ran = map (λ r. reply_for (told r)) ran
 pub pays_one : (d : DeskData) (client : ClientId) (kept : Kept) (before after : List Output) → SaysReply d client kept before after → (rest : List Message)
     → Pays d (reply_of client.number kept ∷ rest) before rest after
 pays_one d client kept before after r rest c s o known st = record {
-  desk = st.desk;
   is = st.is;
-  fits = fits_on c d.me s o o st.desk d.waiting (reply ∷ rest) rest before after (Sent d.me r.posts.bytes)
+  fits = fits_on c d.me s o o (desk_of c d) d.waiting (reply ∷ rest) rest before after (Sent d.me r.posts.bytes)
       (gives_one c d.me before after r.output (Sent d.me r.posts.bytes) r.given_is r.posts.sends (r.posts.meant c known))
       (sent_beside c d.me reply ((256 + client.number) ∷ []) r.posts.bytes (after_outputs s (given d.me before)) tt (r.posts.posted c known))
       (sent_keep c d.me (after_outputs s (given d.me before)) reply r.posts.bytes (r.posts.posted c known).says tt (λ signed. absurd cc)) (same_log o.log) refl refl refl refl st.fits
-      (replies_fit c d.me s st.desk o.log rest (given d.me before) client.number kept r.posts.bytes (r.posts.posted c known) st.fits.fits);
+      (replies_fit c d.me s (desk_of c d) o.log rest (given d.me before) client.number kept r.posts.bytes (r.posts.posted c known) st.fits.fits);
 }
   where
     reply : Message
@@ -97,102 +101,102 @@ pays_kept d client timestamp x y (kept, has, same, says) = pays_again d client t
 
 -- ---- waiting requests
 
-calls_kept : (c : Configuration) (st : State) (rs : List WaitingRequest) (calls : List Call) → AreCallsOf c rs calls → AreCallsOf c (filter (is_new st) rs) (still_waiting st calls)
-calls_kept c st [] [] h = h
-calls_kept c st [] (x ∷ calls) h = absurd h
-calls_kept c st (r ∷ rs) [] h = absurd h
-calls_kept c st (r ∷ rs) (x ∷ calls) h = go (is_new st r) (nat_lt (last_time st x.client) x.timestamp) (sym same) (calls_kept c st rs calls h.1)
-  where
-    same : nat_lt (last_time st x.client) x.timestamp ≡ is_new st r
-    same = ap (λ k. nat_lt (last_time st k) x.timestamp) h.0.1 ∙ ap (λ t. nat_lt (last_time st r.client.number) t) h.0.2
+-- A desk with the waiting requests that are newer than a later state.
+pub frames_behind : (later : State) (d : DeskData) (frame : List ℕ) → Has (λ x. x ≡ frame) (frames_of (forgotten later d.waiting)) → Has (λ x. x ≡ frame) (frames_of d.waiting)
+frames_behind later d frame h =
+    has_mapped (λ x. x ≡ frame) (λ (r : WaitingRequest). r.frame.items) d.waiting.requests
+    (has_filter (λ (r : WaitingRequest). r.frame.items ≡ frame) (is_new later) d.waiting.requests (has_map (λ x. x ≡ frame) (λ (r : WaitingRequest). r.frame.items) (forgotten later d.waiting).requests h))
 
-    go : (a b : Bool) → a ≡ b → AreCallsOf c (filter (is_new st) rs) (still_waiting st calls)
-        → AreCallsOf c (cond a (r ∷ filter (is_new st) rs) (filter (is_new st) rs)) (cond b (x ∷ still_waiting st calls) (still_waiting st calls))
-    go true true e rest = (h.0, rest)
-    go false false e rest = rest
-    go true false e rest = absurd cc
-    go false true e rest = absurd cc
+pub calls_behind : (c : Configuration) (later : State) (rs : List WaitingRequest) → still_waiting later (waiting_calls c rs) ≡ waiting_calls c (filter (is_new later) rs)
+calls_behind c later rs = sym (mapped_kept (waiting_call c) (λ x. nat_lt (last_time later x.client) x.timestamp) rs)
 
-frames_kept : (p : WaitingRequest → Bool) (rs : List WaitingRequest) (frame : List ℕ) → Has (λ x. x ≡ frame) (map (λ r. r.frame.items) (filter p rs)) → Has (λ x. x ≡ frame) (map (λ r. r.frame.items) rs)
-frames_kept p rs frame h =
-    has_mapped (λ x. x ≡ frame) (λ (r : WaitingRequest). r.frame.items) rs
-    (has_filter (λ (r : WaitingRequest). r.frame.items ≡ frame) p rs (has_map (λ x. x ≡ frame) (λ (r : WaitingRequest). r.frame.items) (filter p rs) h))
-
--- If the desk's calls are the history's, they still are after another state comes, without those that ran.
-pub calls_behind : (c : Configuration) (st later : State) (rs : List WaitingRequest) (calls : List Call) → st ≡ later → AreCallsOf c rs calls → AreCallsOf c (filter (is_new later) rs) (still_waiting st calls)
-calls_behind c st later rs calls same h = subst (λ (x : State). AreCallsOf c (filter (is_new x) rs) (still_waiting st calls)) same (calls_kept c st rs calls h)
-
-pub frames_behind : (later : State) (d : DeskData) (frames : List (List ℕ)) → frames ≡ frames_of d.waiting → (frame : List ℕ) → Has (λ x. x ≡ frame) (frames_of (forgotten later d.waiting)) → Has (λ x. x ≡ frame) frames
-frames_behind later d frames same frame h = subst (λ (fs : List (List ℕ)). Has (λ x. x ≡ frame) fs) (sym same) (frames_kept (is_new later) d.waiting.requests frame h)
+pub spelled_behind : (c : Configuration) (later : State) (rs : List WaitingRequest) → SpellCalls c rs → SpellCalls c (filter (is_new later) rs)
+spelled_behind c later rs h =
+    each_filtered (λ (r : WaitingRequest). call_of c r.frame.items ≡ Some (waiting_call c r)) (λ r. call_of c r.frame.items ≡ Some (waiting_call c r)) (is_new later) (λ r e x. x) rs h
 
 -- ---- an execution
 
-map_twice : {A B C : Type 0} (f : B → C) (g : A → B) (xs : List A) → map (λ x. f (g x)) xs ≡ map f (map g xs)
-map_twice f g [] = refl
-map_twice f g (x ∷ xs) = ap (λ ys. f (g x) ∷ ys) (map_twice f g xs)
-
 replies_same : (ran : List Ran) (rs : List RanData) → map told ran ≡ map told_of rs → replies_to rs ≡ replies_for ran
-replies_same ran rs e = map_twice reply_for told_of rs ∙ ap (map reply_for) (sym e) ∙ sym (map_twice reply_for told ran)
+replies_same ran rs e = sym (map-map reply_for told_of rs) ∙ ap (map reply_for) (sym e) ∙ map-map reply_for told ran
 
 -- an execution of the text at a desk that stands, with the history's configuration and desk
-record Run (c : Configuration) (d : DeskData) (text : List ℕ) (ran : List Ran) (executed : ExecutedData) (desk : Desk) : Type 0 where
-  is : IsDeskOf c d desk
+record Run (c : Configuration) (d : DeskData) (text : List ℕ) (ran : List Ran) (executed : ExecutedData) : Type 0 where
+  is : IsDeskOf c d
   ex : IsAfter c d.executed text (map told ran) executed
   number : executed.state.number ≡ suc d.executed.state.number
   kept : snapshots_with d.period executed.state d.snapshots ≡ all_with d.period executed.state d.snapshots
   is_state : IsReplicatedState d.executed.state
   few : c.clients ≤ 256
 
-module _ (c : Configuration) (d : DeskData) (text : List ℕ) (ran : List Ran) (executed : ExecutedData) (was : Desk) (r : Run c d text ran executed was) where
-  abbrev run_desk : Desk
-  run_desk = executed_desk c was text (frames_of (forgotten executed.state d.waiting))
+module _ (c : Configuration) (d : DeskData) (text : List ℕ) (ran : List Ran) (executed : ExecutedData) (r : Run c d text ran executed) where
+  abbrev old : State
+  old = d.executed.state
 
-  run_state : execute c was.state text ≡ executed.state
-  run_state = ap (λ (x : State). execute c x text) r.is.state ∙ sym r.ex.state
+  abbrev later : DeskData
+  later = behind_run d executed
 
-  run_is : IsDeskOf c (behind_run d executed) run_desk
+  abbrev calls : List Call
+  calls = waiting_calls c d.waiting.requests
+
+  run_is : IsDeskOf c later
   run_is = record {
     members_are = r.is.members_are;
     period_is = r.is.period_is;
-    state = run_state;
-    snapshots = ap (λ (x : State). snapshots_behind c x was.snapshots) run_state ∙ ap (all_with c.period executed.state) r.is.snapshots
-        ∙ ap (λ (n : ℕ). all_with n executed.state d.snapshots) r.is.period_is ∙ sym r.kept;
-    transfer = ap (λ (x : State). still_open x.number was.transfer) run_state ∙ ap (still_open executed.state.number) r.is.transfer ∙ above_same executed.state.number d.transfer;
-    rests = rests_above d.executed.state executed.state d.transfer r.number r.is.rests;
-    frames = refl;
-    waiting = calls_behind c (execute c was.state text) executed.state d.waiting.requests was.waiting run_state r.is.waiting;
+    rests = rests_above old executed.state d.transfer r.number r.is.rests;
+    calls = spelled_behind c executed.state d.waiting.requests r.is.calls;
     differ = AllPairs-filter (λ (x y : WaitingRequest). x.client.number ≢ y.client.number) (is_new executed.state) d.waiting.requests r.is.differ;
   }
 
-  -- which waiting requests have numbers
-  run_numbers : (o : OrdererData) (history : List Entry) → FitsWaiting c d.me o d.waiting was history → FitsWaiting c d.me o (forgotten executed.state d.waiting) run_desk history
-  run_numbers o history f own =
-      subst (λ (x : State). FitsFlags c d.me o.log.view o.used (forgotten x d.waiting) (execute c was.state text) (still_waiting (execute c was.state text) was.waiting) history) run_state
-      (flags_forgotten c d.me o.log.view o.used d.waiting was.state (execute c was.state text) was.waiting history r.is.waiting (executions_raise c was.state text) (f own))
+  -- the history's desk then, by parts that the state leaves
+  abbrev desk_at : (State → List Snapshot) → (State → List Call) → State → Desk
+  desk_at kept waiting st = record {
+    state = st;
+    snapshots = kept st;
+    waiting = waiting st;
+    frames = frames_of later.waiting;
+    transfer = still_open st.number (option_map (λ o. o.transfer) d.transfer);
+  }
 
-  run_due : replies_to (ran_in c (suc was.state.number) was.state (requests_of text)) ++ checkpoint_due c (execute c was.state text) ≡ replies_for ran ++ checkpoint_due c executed.state
+  run_desk : executed_desk c (desk_of c d) text (frames_of later.waiting) ≡ desk_of c later
+  run_desk =
+      ap (desk_at (λ st. snapshots_behind c st d.snapshots) (λ st. still_waiting st calls)) (sym r.ex.state)
+      ∙ ap (λ (n : ℕ). desk_at (λ st. all_with n st d.snapshots) (λ st. still_waiting st calls) executed.state) r.is.period_is
+      ∙ ap (λ (xs : List Snapshot). desk_at (λ st. xs) (λ st. still_waiting st calls) executed.state) (sym r.kept)
+      ∙ ap (λ (xs : List Call). desk_at (λ st. later.snapshots) (λ st. xs) executed.state) (calls_behind c executed.state d.waiting.requests)
+      ∙ ap (λ (t : Option TransferData). record (desk_of c later) { transfer = t }) (above_same executed.state.number d.transfer)
+
+  run_due : replies_to (ran_in c (suc old.number) old (requests_of text)) ++ checkpoint_due c (execute c old text) ≡ replies_for ran ++ checkpoint_due c executed.state
   run_due =
-      ap (λ (x : State). replies_to (ran_in c (suc x.number) x (requests_of text)) ++ checkpoint_due c (execute c was.state text)) r.is.state
-      ∙ ap (λ (ms : List Message). ms ++ checkpoint_due c (execute c was.state text)) (replies_same ran (ran_in c (suc d.executed.state.number) d.executed.state (requests_of text)) r.ex.ran)
-      ∙ ap (λ (x : State). replies_for ran ++ checkpoint_due c x) run_state
+      ap (λ (ms : List Message). ms ++ checkpoint_due c (execute c old text)) (replies_same ran (ran_in c (suc old.number) old (requests_of text)) r.ex.ran)
+      ∙ ap (λ (x : State). replies_for ran ++ checkpoint_due c x) (sym r.ex.state)
 
-  module _ (s : Start) (o : OrdererData) (before after : List Output) (gives : GivesOne c d.me before after (Executed d.me (suc was.state.number) text))
-      (committed : logs.committed_batch o.log (suc was.state.number) ≡ Some text) (f : FitsEvent c d.me s o was d.waiting [] before) where
+  module _ (s : Start) (o : OrdererData) (before after : List Output) (gives : GivesOne c d.me before after (Executed d.me (suc old.number) text))
+      (committed : logs.committed_batch o.log (suc old.number) ≡ Some text) (f : FitsEvent c d.me s o (desk_of c d) d.waiting [] before) where
     abbrev e : Entry
-    e = Executed d.me (suc was.state.number) text
+    e = Executed d.me (suc old.number) text
 
     abbrev past : List Entry
     past = after_outputs s (given d.me before)
 
-    run_on : events.Fits c d.me s run_desk o.log (replies_for ran ++ checkpoint_due c executed.state) (e ∷ given d.me before)
-    run_on = subst (λ (ms : List Message). events.Fits c d.me s run_desk o.log ms (e ∷ given d.me before)) run_due
-        (executes_fit c d.me s was o.log (given d.me before) text (frames_of (forgotten executed.state d.waiting)) (subst IsReplicatedState (sym r.is.state) r.is_state) r.few committed (frames_behind executed.state d was.frames r.is.frames) f.fits)
+    abbrev due : List Message
+    due = replies_for ran ++ checkpoint_due c executed.state
 
-    run_fits : FitsEvent c d.me s o run_desk (forgotten executed.state d.waiting) (replies_for ran ++ checkpoint_due c executed.state) after
+    run_on : events.Fits c d.me s (desk_of c later) o.log due (e ∷ given d.me before)
+    run_on = subst (λ (desk : Desk). events.Fits c d.me s desk o.log due (e ∷ given d.me before)) run_desk
+        (subst (λ (ms : List Message). events.Fits c d.me s (executed_desk c (desk_of c d) text (frames_of later.waiting)) o.log ms (e ∷ given d.me before)) run_due
+        (executes_fit c d.me s (desk_of c d) o.log (given d.me before) text (frames_of later.waiting) r.is_state r.few committed (frames_behind executed.state d) f.fits))
+
+    -- which waiting requests have numbers
+    run_numbers : FitsWaiting c d.me o later.waiting (desk_of c later) (e ∷ past)
+    run_numbers own =
+        subst (λ (xs : List Call). FitsFlags c d.me o.log.view o.used later.waiting executed.state xs (e ∷ past)) (calls_behind c executed.state d.waiting.requests)
+        (flags_forgotten c d.me o.log.view o.used d.waiting old executed.state calls (e ∷ past) (subst (NoneFalls old) (sym r.ex.state) (executions_raise c old text))
+        (numbers_beside c d.me d.waiting o (desk_of c d) past e f.fits.of_log.faults f.fits.of_log.own (executed_beside c d.me (suc old.number) text past) f.numbers own))
+
+    run_fits : FitsEvent c d.me s o (desk_of c later) later.waiting due after
     run_fits =
-        fits_behind c d.me s o o was run_desk d.waiting (forgotten executed.state d.waiting) [] (replies_for ran ++ checkpoint_due c executed.state) before after e gives refl f run_on
-        (run_numbers o (e ∷ past) (numbers_beside c d.me d.waiting o was past e f.fits.of_log.faults f.fits.of_log.own (executed_beside c d.me (suc was.state.number) text past) f.numbers))
-        (changes_still c d.me s o o was run_desk [] (replies_for ran ++ checkpoint_due c executed.state) (given d.me before) e f.fits run_on
+        fits_behind c d.me s o o (desk_of c d) (desk_of c later) d.waiting later.waiting [] due before after e gives refl f run_on run_numbers
+        (changes_still c d.me s o o (desk_of c d) (desk_of c later) [] due (given d.me before) e f.fits run_on
         (silent_keep c d.me past e tt) (same_log o.log) refl refl f.changes)
 
 -- an execution is no frame
@@ -205,15 +209,12 @@ run_stands : (d : DeskData) (executed : ExecutedData) (text : List ℕ) (ran : L
     → logs.committed_batch o.log (suc d.executed.state.number) ≡ Some text → PartsFitEvent c s o d [] before
     → PartsFitEvent c s o (behind_run d executed) (replies_for ran ++ checkpoint_due c executed.state) after
 run_stands d executed text ran output before after c s o own is_state clients few ex number entry more committed st = record {
-  desk = run_desk c d text ran executed st.desk run;
-  is = run_is c d text ran executed st.desk run;
-  fits = run_fits c d text ran executed st.desk run s o before after
-      (gives_one c d.me before after output (Executed d.me (suc st.desk.state.number) text) more (entry ∙ ap (λ (x : State). Executed d.me (suc x.number) text) (sym st.is.state))
-      (executions_meant c d.me (suc d.executed.state.number) text output entry))
-      (ap (λ (x : State). logs.committed_batch o.log (suc x.number)) st.is.state ∙ committed) st.fits;
+  is = run_is c d text ran executed run;
+  fits = run_fits c d text ran executed run s o before after
+      (gives_one c d.me before after output (Executed d.me (suc d.executed.state.number) text) more entry (executions_meant c d.me (suc d.executed.state.number) text output entry)) committed st.fits;
 }
   where
-    run : Run c d text ran executed st.desk
+    run : Run c d text ran executed
     run = record { is = st.is; ex = ex; number = number; kept = all_kept c s o d before text executed.state own few number committed st; is_state = is_state; few = clients }
 
 runs_batch : (old new : DeskData) (text : List ℕ) (ran : List Ran) (before after : List Output) → RunsBatch old text before new ran after → (c : Configuration) (s : Start) (o : OrdererData) → members c ≡ old.membership

@@ -15,7 +15,7 @@ use Rattle.protocol.specs.Replica.State.{State, root_of}
 use Rattle.protocol.specs.Replica.RightReplica.{Point, MayCheckpoint, others}
 use Rattle.protocol.specs.Replica.Owed.{IsSaying, latest_checkpoint}
 use Rattle.protocol.proofs.Words.Options.{some_injective}
-use Rattle.replica_histories.specs.Desk.{Desk, point_of, desk_from, kept_from}
+use Rattle.replica_histories.specs.Desk.{Snapshot, Desk, point_of, desk_from, kept_from}
 use Rattle.replica_histories.specs.Events as events
 use Rattle.replica_histories.specs.Events.{Start, after_outputs}
 use Rattle.replica_histories.specs.Changes.{CutsClaims, FitsChanges}
@@ -37,6 +37,7 @@ use Rattle.replica.specs.Desks.{given, FitsWaiting, FitsEvent, PartsFitEvent, ch
 use Rattle.replica.specs.Going.{CommitsNoMore, IsSameLog, IsSameOrderer, IsVotedAll, KeepsChoice}
 use Rattle.replica.proofs.Choosing.{settled_choice}
 use Rattle.desk.specs.Desking.{due_entry, is_due, newest_entry}
+use Rattle.desk.specs.DeskOf.{desk_of}
 use Rattle.replica.specs.Checkpoints.{IsDueKept, SaysCheckpoint, SaysDueCheckpoint, Settles}
 use Rattle.replica.specs.Saying.{Says}
 use Rattle.replica.proofs.Staying.{numbers_alike, numbers_beside, sent_beside}
@@ -228,38 +229,35 @@ module _ (a : JoinedData) (o : OrdererData) (n : JoinedData) (entry : Checkpoint
         logged = λ claim has. subst (λ (x : OrdererData). Has (λ y. y ≡ claim) x.claims.logged) says.new_is (k.logged claim has);
       }
 
+  abbrev noted : OrdererData
+  noted = checking a.orderer entry n.orderer.claims
+
   due_stands : (c : Configuration) (s : Start) → members c ≡ a.desk.membership → IsVotedAll a.orderer.log
       → PartsFitEvent c s a.orderer a.desk (checkpoint_due c a.desk.executed.state) x → PartsFitEvent c s n.orderer n.desk [] y
   due_stands c s known voted st =
       subst (λ (k : OrdererData). PartsFitEvent c s k n.desk [] y) (sym orderer_is)
       (subst (λ (k : DeskData). PartsFitEvent c s (checking a.orderer entry n.orderer.claims) k [] y) (sym desk_is) (record {
-        desk = desk_from (checking a.orderer entry n.orderer.claims).log.low st.desk;
         is = record {
           members_are = st.is.members_are;
           period_is = st.is.period_is;
-          state = st.is.state;
-          snapshots = ap (kept_from (checking a.orderer entry n.orderer.claims).log.low) st.is.snapshots ∙ snapshots_are kept;
-          transfer = st.is.transfer;
           rests = st.is.rests;
-          frames = st.is.frames;
-          waiting = st.is.waiting;
+          calls = st.is.calls;
           differ = st.is.differ;
         };
-        fits = subst (λ (m : ℕ). FitsEvent c m s (checking a.orderer entry n.orderer.claims) (desk_from (checking a.orderer entry n.orderer.claims).log.low st.desk) a.desk.waiting [] y) (sym one.0)
-            (says_due c s a.orderer st.desk a.desk.waiting entry n.orderer.claims x y (known ∙ one.1) says.says voted
-            (subst (λ (m : ℕ). FitsEvent c m s a.orderer st.desk a.desk.waiting (Checkpoint entry.number entry.digest ∷ []) x) one.0 fits) claims_are
-            (ap (λ (e : CheckpointEntry). e.number) due.is ∙ sym (ap (λ (st : State). st.number) st.is.state)));
+        fits = subst (λ (xs : List Snapshot). FitsEvent c a.desk.me s noted (record (desk_of c a.desk) { snapshots = xs }) a.desk.waiting [] y)
+            (snapshots_are (ap (λ (d : Desk). d.snapshots) above))
+            (subst (λ (m : ℕ). FitsEvent c m s noted (desk_from noted.log.low (desk_of c a.desk)) a.desk.waiting [] y) (sym one.0)
+            (says_due c s a.orderer (desk_of c a.desk) a.desk.waiting entry n.orderer.claims x y (known ∙ one.1) says.says voted
+            (subst (λ (m : ℕ). FitsEvent c m s a.orderer (desk_of c a.desk) a.desk.waiting (Checkpoint entry.number entry.digest ∷ []) x) one.0 fits) claims_are
+            (ap (λ (e : CheckpointEntry). e.number) due.is)));
       }))
     where
-      fits : FitsEvent c a.desk.me s a.orderer st.desk a.desk.waiting (Checkpoint entry.number entry.digest ∷ []) x
-      fits = subst (λ (ms : List Message). FitsEvent c a.desk.me s a.orderer st.desk a.desk.waiting ms x)
+      fits : FitsEvent c a.desk.me s a.orderer (desk_of c a.desk) a.desk.waiting (Checkpoint entry.number entry.digest ∷ []) x
+      fits = subst (λ (ms : List Message). FitsEvent c a.desk.me s a.orderer (desk_of c a.desk) a.desk.waiting ms x)
           (due_when c a.desk true st.is.period_is due.due ∙ ap (λ (e : CheckpointEntry). Checkpoint e.number e.digest ∷ []) (sym due.is)) st.fits
 
-      above : desk_from a.orderer.log.low st.desk ≡ st.desk
-      above = kept_are_above c a.desk.me st.desk a.orderer.log st.fits.fits.of_desk.states (after_outputs s (given a.desk.me x)) st.fits.fits.of_log st.fits.fits.of_desk.kept
-
-      kept : kept_from a.orderer.log.low a.desk.snapshots ≡ a.desk.snapshots
-      kept = ap (kept_from a.orderer.log.low) (sym st.is.snapshots) ∙ ap (λ (d : Desk). d.snapshots) above ∙ st.is.snapshots
+      above : desk_from a.orderer.log.low (desk_of c a.desk) ≡ (desk_of c a.desk)
+      above = kept_are_above c a.desk.me (desk_of c a.desk) a.orderer.log st.fits.fits.of_desk.states (after_outputs s (given a.desk.me x)) st.fits.fits.of_log st.fits.fits.of_desk.kept
 
   pub says_due_checkpoint : SaysDueCheckpoint a x n y
   says_due_checkpoint = record {

@@ -1,29 +1,30 @@
 -- How a new view begins: the batches that are logged, and the votes that are sent.
-use Rattle.std.proofs.Common.{◌≡◌, ◌≢◌, ℕ, suc, ◌+◌, ◌≤◌, ◌<◌, ◌⊎◌, inl, inr, Bool, true, false, cond, List, [], ◌∷◌, length, map, Option, refl, sym, ap, ◌∙◌, subst, arith, ◌==◌, eqb-true}
+use Rattle.std.proofs.Common.{◌≡◌, ◌≢◌, ℕ, suc, ◌+◌, ◌≤◌, ◌<◌, ◌⊎◌, inl, inr, Bool, true, false, cond, List, [], ◌∷◌, length, map, Option, Some, refl, sym, ap, ◌∙◌, subst, arith, ◌==◌, eqb-true}
 use Rattle.std.specs.Arc.{arc_value}
 use Rattle.std.specs.declared.sync.Arc.{Arc}
 use Rattle.std.specs.declared.alloc.Global.{Global}
 use Rattle.std.proofs.lemmas.Bool.{eqb-false}
 use Rattle.wire_format.specs.Lists.{Each}
 use Rattle.wire_format.specs.Messages.{BatchEntryData as Claim, CheckpointEntryData as CheckpointEntry}
+use Rattle.std.proofs.lemmas.Simd.{map-map}
 use Rattle.ordering.specs.Log.{Row, LogData, is_in_marks, with_batch}
 use Rattle.events.specs.declared.output.Output.{Output}
 use Rattle.claims.specs.ClaimsView.{ClaimsData, claim_of, IsAmong}
 use Rattle.claims.specs.Recording.{with_logged, with_all}
 use Rattle.view_change.specs.Sets.{texts_of}
 use Rattle.protocol.specs.System.Configuration.{Configuration}
-use Rattle.protocol.specs.Replica.State.{Call}
-use Rattle.protocol.proofs.Words.Elements.{each_has, each_weaker}
-use Rattle.protocol.proofs.Words.Pairs.{Pairs, pairs_of, all_pairs}
+use Rattle.protocol.specs.Replica.State.{Call, call_of}
+use Rattle.protocol.proofs.Words.Elements.{each_has, each_mapped, each_weaker}
+use Rattle.protocol.proofs.Words.Pairs.{pairs_of, all_pairs}
 use Rattle.replica_histories.specs.Changes.{AddsLogged, claims_from, texts_from}
 use Rattle.replica_histories.specs.Views.{with_batches}
 use Rattle.desk.specs.declared.waiting.BegunCall.{BegunCall}
-use Rattle.replica_histories.specs.Desk.{Desk, desk_from, kept_from}
+use Rattle.replica_histories.specs.Desk.{desk_from}
+use Rattle.replica_histories.proofs.NumbersLists.{pairs_mapped}
 use Rattle.desk.specs.declared.waiting.WaitingRequest.{WaitingRequest}
 use Rattle.replica.specs.State.{OrdererData, JoinedData}
 use Rattle.desk.specs.State.{DeskData}
-use Rattle.desk.specs.Waiting.{texts, renumbered, with_view}
-use Rattle.replica.specs.Desks.{AreCallsOf, AreOfDifferentClients, IsDeskOf}
+use Rattle.desk.specs.Waiting.{renumbered, with_view}
 use Rattle.desk.specs.Desking.{desk_above}
 use Rattle.replica.specs.Claiming.{LogsBatch}
 use Rattle.replica.specs.Fetching.{SaysFetch}
@@ -33,6 +34,7 @@ use Rattle.replica.specs.Marking.{MovesMarks}
 use Rattle.replica.specs.Saying.{SaysVotes}
 use Rattle.replica.specs.EnteringViews.{entering, Enters, FetchesStart, LogsBatches, SaysVotesOf}
 use Rattle.desk.specs.Begun.{NotesBegun}
+use Rattle.desk.specs.DeskOf.{waiting_call, desk_of, IsDeskOf}
 use Rattle.replica.proofs.Parties.{same_orderer, orderers_twice}
 use Rattle.replica.proofs.Voting.{goes_twice}
 
@@ -158,43 +160,26 @@ all_logged first texts old now n items none left =
 
 -- ---- waiting requests
 
-texts_renumbered : (begun : List BegunCall) (rs : List WaitingRequest) → texts rs ≡ texts (map (renumbered begun) rs)
-texts_renumbered begun [] = refl
-texts_renumbered begun (r ∷ rs) = ap (λ (ts : List (List ℕ)). r.frame.items ∷ ts) (texts_renumbered begun rs)
-
-pub calls_renumbered : (c : Configuration) (begun : List BegunCall) (rs : List WaitingRequest) (calls : List Call) → AreCallsOf c rs calls → AreCallsOf c (map (renumbered begun) rs) calls
-calls_renumbered c begun [] [] h = h
-calls_renumbered c begun [] (x ∷ calls) h = absurd h
-calls_renumbered c begun (r ∷ rs) [] h = absurd h
-calls_renumbered c begun (r ∷ rs) (x ∷ calls) h = (h.0, calls_renumbered c begun rs calls h.1)
-
 abbrev Differ : WaitingRequest → WaitingRequest → Type 0
 Differ r t = r.client.number ≢ t.client.number
 
-each_differs : (begun : List BegunCall) (r : WaitingRequest) (rs : List WaitingRequest) → Each (Differ r) rs → Each (Differ (renumbered begun r)) (map (renumbered begun) rs)
-each_differs begun r [] h = tt
-each_differs begun r (t ∷ rs) h = (h.0, each_differs begun r rs h.1)
+-- the desk, if the view begins with these calls and the low mark has moved
+abbrev pub begun_data : ℕ → List BegunCall → DeskData → DeskData
+begun_data low calls d = desk_above low (record d { waiting = with_view calls d.waiting })
 
-pairs_differ : (begun : List BegunCall) (rs : List WaitingRequest) → Pairs Differ rs → Pairs Differ (map (renumbered begun) rs)
-pairs_differ begun [] h = tt
-pairs_differ begun (r ∷ rs) h = (each_differs begun r rs h.0, pairs_differ begun rs h.1)
-
-differ_renumbered : (begun : List BegunCall) (rs : List WaitingRequest) → AreOfDifferentClients rs → AreOfDifferentClients (map (renumbered begun) rs)
-differ_renumbered begun rs h = all_pairs Differ (map (renumbered begun) rs) (pairs_differ begun rs (pairs_of Differ rs h))
-
--- the desk of a history, if the view begins with these calls and the low mark has moved
-pub begun_desk : (c : Configuration) (d : DeskData) (desk : Desk) (begun : List BegunCall) (low : ℕ) → IsDeskOf c d desk → IsDeskOf c (desk_above low (record d { waiting = with_view begun d.waiting })) (desk_from low desk)
-begun_desk c d desk begun low is = record {
+pub begun_is : (c : Configuration) (low : ℕ) (calls : List BegunCall) (d : DeskData) → IsDeskOf c d → IsDeskOf c (begun_data low calls d)
+begun_is c low calls d is = record {
   members_are = is.members_are;
   period_is = is.period_is;
-  state = is.state;
-  snapshots = ap (kept_from low) is.snapshots;
-  transfer = is.transfer;
   rests = is.rests;
-  frames = is.frames ∙ texts_renumbered begun d.waiting.requests;
-  waiting = calls_renumbered c begun d.waiting.requests desk.waiting is.waiting;
-  differ = differ_renumbered begun d.waiting.requests is.differ;
+  calls = each_mapped (λ (r : WaitingRequest). call_of c r.frame.items ≡ Some (waiting_call c r)) (renumbered calls) d.waiting.requests is.calls;
+  differ = all_pairs Differ (map (renumbered calls) d.waiting.requests) (pairs_mapped Differ (renumbered calls) d.waiting.requests (pairs_of Differ d.waiting.requests is.differ));
 }
+
+pub begun_desk : (c : Configuration) (low : ℕ) (calls : List BegunCall) (d : DeskData) → desk_of c (begun_data low calls d) ≡ desk_from low (desk_of c d)
+begun_desk c low calls d =
+    ap (λ (xs : List Call). record (desk_of c (begun_data low calls d)) { waiting = xs }) (map-map (waiting_call c) (renumbered calls) d.waiting.requests)
+    ∙ ap (λ (xs : List (List ℕ)). record (desk_from low (desk_of c d)) { frames = xs }) (map-map (λ (r : WaitingRequest). r.frame.items) (renumbered calls) d.waiting.requests)
 
 -- ---- the fetch of the start
 

@@ -8,7 +8,6 @@ use Rattle.protocol.specs.System.Trace.{Entry}
 use Rattle.protocol.specs.Replica.State.{State, pages_of}
 use Rattle.protocol.specs.Replica.Transfers.{NoneAsked}
 use Rattle.protocol.proofs.Words.Options.{some_injective}
-use Rattle.replica_histories.specs.Desk.{Desk}
 use Rattle.replica_histories.specs.Events.{Start, after_outputs}
 use Rattle.replica_histories.specs.Transfers.{FitsOpen, MayAsk, AsksNext, IsTold, RestsOnState}
 use Rattle.replica_histories.proofs.Fetching.{transfers_change}
@@ -18,10 +17,11 @@ use Rattle.replica_histories.proofs.TransfersSeeking.{nexts_are_first}
 use Rattle.replica.specs.State.{OrdererData}
 use Rattle.desk.specs.State.{DeskData, OpenData}
 use Rattle.desk.specs.Waiting.{WaitingData}
-use Rattle.replica.specs.Desks.{given, FitsEvent, IsDeskOf, RestsAt}
+use Rattle.replica.specs.Desks.{given, FitsEvent}
 use Rattle.desk.specs.Fetching.{fetch_of, with_transfer}
 use Rattle.replica.specs.Saying.{Says}
 use Rattle.desk.specs.Transferring.{IsRestedAt, AsksPlace}
+use Rattle.desk.specs.DeskOf.{desk_of, RestsAt, IsDeskOf}
 use Rattle.replica.proofs.Asking.{asks}
 
 -- ---- what stays while the next part is sought
@@ -52,24 +52,24 @@ asked_long st n m place (rested, rests, next, m_is, all) =
     ap (λ (x : OpenData). length x.transfer.held) m_is ∙ ap length (asking_held place rested.transfer) ∙ rested_long st n rested rests all.0
 
 -- The transfer n is at the desk, and may ask on. Up to here the event fits with this one open.
-module _ (c : Configuration) (s : Start) (o : OrdererData) (d : DeskData) (desk : Desk) (w : WaitingData) (n : OpenData) (outs : List Output)
-    (there : d.transfer ≡ Some n) (is : IsDeskOf c d desk) (open_one : Option TransferData) (f : FitsEvent c o.endpoint.me s o (record desk { transfer = open_one }) w [] outs)
-    (may : MayAsk c o.endpoint.me n.transfer desk.state.number (after_outputs s (given o.endpoint.me outs))) (told : IsTold n.transfer) (none : NoneAsked (after_outputs s (given o.endpoint.me outs))) where
+module _ (c : Configuration) (s : Start) (o : OrdererData) (d : DeskData) (w : WaitingData) (n : OpenData) (outs : List Output)
+    (there : d.transfer ≡ Some n) (is : IsDeskOf c d) (open_one : Option TransferData) (f : FitsEvent c o.endpoint.me s o (record (desk_of c d) { transfer = open_one }) w [] outs)
+    (may : MayAsk c o.endpoint.me n.transfer d.executed.state.number (after_outputs s (given o.endpoint.me outs))) (told : IsTold n.transfer) (none : NoneAsked (after_outputs s (given o.endpoint.me outs))) where
   abbrev past : List Entry
   past = after_outputs s (given o.endpoint.me outs)
 
   -- rested, it may ask, and rests on the state
-  rested_ask : (rested : OpenData) → IsRestedAt d.executed.state n rested → MayAsk c o.endpoint.me rested.transfer desk.state.number past
-  rested_ask rested (inl (same, at)) = subst (λ (x : OpenData). MayAsk c o.endpoint.me x.transfer desk.state.number past) (sym at) may
-  rested_ask rested (inr (rests, at)) = (pages_rested c o.endpoint.me (pages_of d.executed.state) n.transfer rested.transfer desk.state.number past rests).1 may
+  rested_ask : (rested : OpenData) → IsRestedAt d.executed.state n rested → MayAsk c o.endpoint.me rested.transfer d.executed.state.number past
+  rested_ask rested (inl (same, at)) = subst (λ (x : OpenData). MayAsk c o.endpoint.me x.transfer d.executed.state.number past) (sym at) may
+  rested_ask rested (inr (rests, at)) = (pages_rested c o.endpoint.me (pages_of d.executed.state) n.transfer rested.transfer d.executed.state.number past rests).1 may
 
   rested_told : (rested : OpenData) → IsRestedAt d.executed.state n rested → IsTold rested.transfer
   rested_told rested (inl (same, at)) = subst (λ (x : OpenData). IsTold x.transfer) (sym at) told
   rested_told rested (inr (rests, at)) = (told.0, ap (λ (x : TransferData). x.part_digests) rests.same ∙ told.1)
 
-  rested_open : (rested : OpenData) → IsRestedAt d.executed.state n rested → FitsOpen c o.endpoint.me (Some n.transfer) desk.state.number past → FitsOpen c o.endpoint.me (Some rested.transfer) desk.state.number past
-  rested_open rested (inl (same, at)) fits = subst (λ (x : OpenData). FitsOpen c o.endpoint.me (Some x.transfer) desk.state.number past) (sym at) fits
-  rested_open rested (inr (rests, at)) fits = (pages_rested c o.endpoint.me (pages_of d.executed.state) n.transfer rested.transfer desk.state.number past rests).0 fits
+  rested_open : (rested : OpenData) → IsRestedAt d.executed.state n rested → FitsOpen c o.endpoint.me (Some n.transfer) d.executed.state.number past → FitsOpen c o.endpoint.me (Some rested.transfer) d.executed.state.number past
+  rested_open rested (inl (same, at)) fits = subst (λ (x : OpenData). FitsOpen c o.endpoint.me (Some x.transfer) d.executed.state.number past) (sym at) fits
+  rested_open rested (inr (rests, at)) fits = (pages_rested c o.endpoint.me (pages_of d.executed.state) n.transfer rested.transfer d.executed.state.number past rests).0 fits
 
   rested_on : (rested : OpenData) → IsRestedAt d.executed.state n rested → RestsOnState rested.transfer d.executed.state
   rested_on rested (inl (same, at)) = subst (λ (x : OpenData). RestsOnState x.transfer d.executed.state) (sym at) ((is.rests n there).1 same)
@@ -84,16 +84,12 @@ module _ (c : Configuration) (s : Start) (o : OrdererData) (d : DeskData) (desk 
   rested_at rested (inr (rests, at)) = at
 
   -- the desk with a transfer that rests on its state
-  desk_with : (m : OpenData) → m.rests_at ≡ d.executed.state.number → RestsOnState m.transfer d.executed.state → IsDeskOf c (with_transfer m d) (record desk { transfer = Some m.transfer })
+  desk_with : (m : OpenData) → m.rests_at ≡ d.executed.state.number → RestsOnState m.transfer d.executed.state → IsDeskOf c (with_transfer m d)
   desk_with m at rests = record {
     members_are = is.members_are;
     period_is = is.period_is;
-    state = is.state;
-    snapshots = is.snapshots;
-    transfer = refl;
     rests = λ x e. subst (RestsAt d.executed.state) (some_same m x e) ((let a = at in omega (arith, a)), λ same. rests);
-    frames = is.frames;
-    waiting = is.waiting;
+    calls = is.calls;
     differ = is.differ;
   }
     where
@@ -102,26 +98,26 @@ module _ (c : Configuration) (s : Start) (o : OrdererData) (d : DeskData) (desk 
 
   -- the next place is asked for
   pub asks_next : (m : OpenData) (place : Place) (after : List Output) → members c ≡ o.endpoint.membership → AsksPlace d.executed.state n m (Some place) → Says o (fetch_of m.transfer) outs after
-      → IsDeskOf c (with_transfer m d) (record desk { transfer = Some m.transfer }) × FitsEvent c o.endpoint.me s o (record desk { transfer = Some m.transfer }) w [] after
+      → IsDeskOf c (with_transfer m d) × FitsEvent c o.endpoint.me s o (desk_of c (with_transfer m d)) w [] after
   asks_next m place after known (rested, rests, next, m_is, all) says =
       let at = ap (λ (x : OpenData). x.rests_at) m_is ∙ rested_at rested rests in
-      let asking_on = may_ask_any c o.endpoint.me rested.transfer (Some place) desk.state.number past (rested_ask rested rests) in
-      let first = nexts_are_first c o.endpoint.me rested.transfer desk.state past place (rested_ask rested rests) (subst (λ (st : State). RestsOnState rested.transfer st) (sym is.state) (rested_on rested rests)) (rested_held rested rests all.0) none (rested_told rested rests) (sym next) in (
+      let asking_on = may_ask_any c o.endpoint.me rested.transfer (Some place) d.executed.state.number past (rested_ask rested rests) in
+      let first = nexts_are_first c o.endpoint.me rested.transfer d.executed.state past place (rested_ask rested rests) (rested_on rested rests) (rested_held rested rests all.0) none (rested_told rested rests) (sym next) in (
         desk_with m at (subst (λ (x : OpenData). RestsOnState x.transfer d.executed.state) (sym m_is) (rested_on rested rests)),
-        asks c s o (record desk { transfer = open_one }) w outs after m.transfer known says [] (subst (λ (x : OpenData). MayAsk c o.endpoint.me x.transfer desk.state.number past) (sym m_is) asking_on) (subst (λ (x : OpenData). AsksNext c o.endpoint.me x.transfer desk.state past) (sym m_is) (inl first)) f,
+        asks c s o (record (desk_of c d) { transfer = open_one }) w outs after m.transfer known says [] (subst (λ (x : OpenData). MayAsk c o.endpoint.me x.transfer d.executed.state.number past) (sym m_is) asking_on) (subst (λ (x : OpenData). AsksNext c o.endpoint.me x.transfer d.executed.state past) (sym m_is) (inl first)) f,
       )
 
   -- nothing differs any more: it rests on the state, and may ask; and if it fitted, it fits
   pub rests_now : (m : OpenData) → AsksPlace d.executed.state n m None
-      → IsDeskOf c (with_transfer m d) (record desk { transfer = Some m.transfer }) × MayAsk c o.endpoint.me m.transfer desk.state.number past × RestsOnState m.transfer d.executed.state
-      × (FitsOpen c o.endpoint.me (Some n.transfer) desk.state.number past → FitsEvent c o.endpoint.me s o (record desk { transfer = Some m.transfer }) w [] outs)
+      → IsDeskOf c (with_transfer m d) × MayAsk c o.endpoint.me m.transfer d.executed.state.number past × RestsOnState m.transfer d.executed.state
+      × (FitsOpen c o.endpoint.me (Some n.transfer) d.executed.state.number past → FitsEvent c o.endpoint.me s o (desk_of c (with_transfer m d)) w [] outs)
   rests_now m (rested, rests, next, m_is, all) =
       let at = ap (λ (x : OpenData). x.rests_at) m_is ∙ rested_at rested rests in
       let on = subst (λ (x : OpenData). RestsOnState x.transfer d.executed.state) (sym m_is) (rested_on rested rests) in (
         desk_with m at on,
-        subst (λ (x : OpenData). MayAsk c o.endpoint.me x.transfer desk.state.number past) (sym m_is) (rested_ask rested rests),
+        subst (λ (x : OpenData). MayAsk c o.endpoint.me x.transfer d.executed.state.number past) (sym m_is) (rested_ask rested rests),
         on,
         λ fits.
-            let opened = subst (λ (x : OpenData). FitsOpen c o.endpoint.me (Some x.transfer) desk.state.number past) (sym m_is) (rested_open rested rests fits) in
-            record { fits = transfers_change c o.endpoint.me s (record desk { transfer = open_one }) o.log [] (given o.endpoint.me outs) (Some m.transfer) opened f.fits; numbers = f.numbers; said = f.said; changes = f.changes; meant = f.meant },
+            let opened = subst (λ (x : OpenData). FitsOpen c o.endpoint.me (Some x.transfer) d.executed.state.number past) (sym m_is) (rested_open rested rests fits) in
+            record { fits = transfers_change c o.endpoint.me s (record (desk_of c d) { transfer = open_one }) o.log [] (given o.endpoint.me outs) (Some m.transfer) opened f.fits; numbers = f.numbers; said = f.said; changes = f.changes; meant = f.meant },
       )

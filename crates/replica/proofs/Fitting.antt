@@ -12,7 +12,7 @@ use Rattle.replica.specs.State.{OrdererData, JoinedData}
 use Rattle.replica.specs.Taking.{IsNewOrderer}
 use Rattle.desk.specs.Desking.{IsNewDesk}
 use Rattle.replica.proofs.Flags.{flags_first}
-use Rattle.replica.specs.Joined.{Fits}
+use Rattle.replica.specs.Joined.{JoinedFitsHistory}
 
 -- a new replica
 module _ (c : Configuration) (me : ℕ) (valid : IsConfiguration c) (mine : me < 3 * c.faults + 1) where
@@ -22,24 +22,19 @@ module _ (c : Configuration) (me : ℕ) (valid : IsConfiguration c) (mine : me <
   first : histories.Holds c me first_desk (new_log me c.faults (span c)) []
   first = first_hold c me valid.some_faults valid.most mine few
 
-  pub fits_new : (r : JoinedData) → IsNewOrderer c me r.orderer → IsNewDesk c me r.desk → Fits c r []
+  pub fits_new : (r : JoinedData) → IsNewOrderer c me r.orderer → IsNewDesk c me r.desk → JoinedFitsHistory c r []
   fits_new r orders desks = record {
     members_are = sym (ap (λ (o : OrdererData). o.endpoint.membership) orders.0);
     right = tt;
     runs = record {
-      desk = first_desk;
       is_desk = rw desks (record {
         members_are = refl;
         period_is = refl;
-        state = refl;
-        snapshots = refl;
-        transfer = refl;
         rests = λ o is. absurd (none-some o is);
-        frames = refl;
-        waiting = tt;
+        calls = tt;
         differ = λ i j d l m. absurd (omega (arith, m));
       });
-      holds = rw orders.0 first;
+      holds = rw (orders.0, desks) first;
       numbers = rw (orders.0, desks) (λ own. flags_first c me 0 opening);
       said = rw orders.0 (λ entry is. absurd (none-some entry is));
       changes = rw orders.0 (changes_begin c me);

@@ -1,5 +1,5 @@
 -- The replica starts a transfer to a quorum's checkpoint.
-use Rattle.std.proofs.Common.{◌≡◌, ◌≤◌, ◌<◌, ◌+◌, ◌*◌, ℕ, List, ◌∷◌, Option, Some, None, refl, sym, ap, ◌∙◌, subst, option_map, arith}
+use Rattle.std.proofs.Common.{◌≡◌, ◌≤◌, ◌<◌, ◌+◌, ◌*◌, ℕ, List, ◌∷◌, Option, Some, None, refl, sym, ◌∙◌, subst, option_map, arith}
 use Rattle.std.specs.Option.{ForSome}
 use Rattle.terms.specs.declared.state.Level.TheVariants as levels
 use Rattle.wire_format.specs.Messages.{MessageData as Message, CheckpointEntryData as CheckpointEntry, fetch as Fetch}
@@ -9,7 +9,6 @@ use Rattle.state_transfer.specs.Transfer.{TransferData}
 use Rattle.protocol.specs.System.Configuration.{Configuration, members}
 use Rattle.protocol.specs.Replica.State.{State, pages_of}
 use Rattle.protocol.proofs.Words.Options.{some_injective}
-use Rattle.replica_histories.specs.Desk.{Desk}
 use Rattle.replica_histories.specs.Events.{Start, after_outputs}
 use Rattle.replica_histories.specs.Transfers.{MayAsk, AsksNext, open_number, transfer_to}
 use Rattle.replica_histories.proofs.Fetching.{quorums_may_ask}
@@ -17,8 +16,9 @@ use Rattle.replica_histories.proofs.TransfersInstalling.{started_rests}
 use Rattle.replica.specs.State.{OrdererData}
 use Rattle.desk.specs.State.{OpenData, DeskData}
 use Rattle.desk.specs.Waiting.{WaitingData}
-use Rattle.replica.specs.Desks.{given, FitsEvent, IsDeskOf, RestsAt}
+use Rattle.replica.specs.Desks.{given, FitsEvent}
 use Rattle.desk.specs.Fetching.{aimed_at, aiming, fetch_of, opened}
+use Rattle.desk.specs.DeskOf.{desk_of, RestsAt, IsDeskOf}
 use Rattle.replica.specs.Saying.{Says}
 use Rattle.replica.proofs.Asking.{asks_due}
 
@@ -43,49 +43,39 @@ opened_rests : (st : State) (open_one : Option OpenData) (entry : CheckpointEntr
 opened_rests st None entry rests = ((omega arith), λ same. started_rests entry.number entry.digest st)
 opened_rests st (Some o) entry rests = rests o refl
 
-aimed_same : (number : ℕ) (open_one : Option OpenData) → open_number number (option_map (λ o. o.transfer) open_one) ≡ elim open_one [ Some o ↦ o.transfer.number | None ↦ number ]
+-- the number above which a history's desk fetches
+pub aimed_same : (number : ℕ) (open_one : Option OpenData) → open_number number (option_map (λ o. o.transfer) open_one) ≡ elim open_one [ Some o ↦ o.transfer.number | None ↦ number ]
 aimed_same number None = refl
 aimed_same number (Some o) = refl
 
--- the number above which a history's desk fetches
-pub aimed_is : (c : Configuration) (d : DeskData) (desk : Desk) → IsDeskOf c d desk → open_number desk.state.number desk.transfer ≡ aimed_at d
-aimed_is c d desk is =
-    ap (λ (st : State). open_number st.number desk.transfer) is.state
-    ∙ ap (open_number d.executed.state.number) is.transfer
-    ∙ aimed_same d.executed.state.number d.transfer
-
 -- ---- in an event
 
-module _ (c : Configuration) (s : Start) (o : OrdererData) (d : DeskData) (desk : Desk) (w : WaitingData) (entry : CheckpointEntry) (before after : List Output) (is : IsDeskOf c d desk) where
-  pub aims_desk : IsDeskOf c (aiming entry d) (record desk { transfer = Some (aim_of entry d).transfer })
-  aims_desk = record {
+module _ (c : Configuration) (s : Start) (o : OrdererData) (d : DeskData) (w : WaitingData) (entry : CheckpointEntry) (before after : List Output) where
+  pub aims_desk : IsDeskOf c d → IsDeskOf c (aiming entry d)
+  aims_desk is = record {
     members_are = is.members_are;
     period_is = is.period_is;
-    state = is.state;
-    snapshots = is.snapshots;
-    transfer = refl;
     rests = λ x e. subst (RestsAt d.executed.state) (some_injective (aim_of entry d) x e) (opened_rests d.executed.state d.transfer entry is.rests);
-    frames = is.frames;
-    waiting = is.waiting;
+    calls = is.calls;
     differ = is.differ;
   }
 
-  may_ask : (due : List Message) → 2 * o.log.faults + 1 ≤ logs.count_checkpoints o.log entry → o.log.low < entry.number → aimed_at d < entry.number → FitsEvent c o.endpoint.me s o desk w due before
-      → MayAsk c o.endpoint.me (aim_of entry d).transfer desk.state.number (after_outputs s (given o.endpoint.me before))
-      × AsksNext c o.endpoint.me (aim_of entry d).transfer desk.state (after_outputs s (given o.endpoint.me before))
+  may_ask : (due : List Message) → 2 * o.log.faults + 1 ≤ logs.count_checkpoints o.log entry → o.log.low < entry.number → aimed_at d < entry.number → FitsEvent c o.endpoint.me s o (desk_of c d) w due before
+      → MayAsk c o.endpoint.me (aim_of entry d).transfer d.executed.state.number (after_outputs s (given o.endpoint.me before))
+      × AsksNext c o.endpoint.me (aim_of entry d).transfer d.executed.state (after_outputs s (given o.endpoint.me before))
   may_ask due enough over ahead f =
-      subst (λ (t : TransferData). MayAsk c o.endpoint.me t desk.state.number (after_outputs s (given o.endpoint.me before)) × AsksNext c o.endpoint.me t desk.state (after_outputs s (given o.endpoint.me before)))
-      (ap (λ (t : Option TransferData). transfer_to t entry.number entry.digest (pages_of d.executed.state)) is.transfer ∙ opened_same d.executed.state d.transfer entry)
-      (quorums_may_ask c o.endpoint.me s desk o.log due (given o.endpoint.me before) entry (pages_of d.executed.state) enough over
-      (subst (λ (n : ℕ). n < entry.number) (sym (aimed_is c d desk is)) ahead) f.fits)
+      subst (λ (t : TransferData). MayAsk c o.endpoint.me t d.executed.state.number (after_outputs s (given o.endpoint.me before)) × AsksNext c o.endpoint.me t d.executed.state (after_outputs s (given o.endpoint.me before)))
+      (opened_same d.executed.state d.transfer entry)
+      (quorums_may_ask c o.endpoint.me s (desk_of c d) o.log due (given o.endpoint.me before) entry (pages_of d.executed.state) enough over
+      (subst (λ (n : ℕ). n < entry.number) (sym (aimed_same d.executed.state.number d.transfer)) ahead) f.fits)
 
   -- The due fetch is sent, and the transfer is open after it.
   pub aims : (rest : List Message) → members c ≡ o.endpoint.membership → 2 * o.log.faults + 1 ≤ logs.count_checkpoints o.log entry → o.log.low < entry.number → aimed_at d < entry.number
-      → Says o (Fetch entry.number levels.Root 0) before after → FitsEvent c o.endpoint.me s o desk w (Fetch entry.number levels.Root 0 ∷ rest) before
-      → FitsEvent c o.endpoint.me s o (record desk { transfer = Some (aim_of entry d).transfer }) w rest after
+      → Says o (Fetch entry.number levels.Root 0) before after → FitsEvent c o.endpoint.me s o (desk_of c d) w (Fetch entry.number levels.Root 0 ∷ rest) before
+      → FitsEvent c o.endpoint.me s o (desk_of c (aiming entry d)) w rest after
   aims rest known enough over ahead says f =
       let root = sym (asks_root d.executed.state d.transfer entry) in
       let asking = may_ask (Fetch entry.number levels.Root 0 ∷ rest) enough over ahead f in
-      asks_due c s o desk w before after (aim_of entry d).transfer known (subst (λ (m : Message). Says o m before after) root says) rest
+      asks_due c s o (desk_of c d) w before after (aim_of entry d).transfer known (subst (λ (m : Message). Says o m before after) root says) rest
       asking.0 asking.1
-      (subst (λ (m : Message). FitsEvent c o.endpoint.me s o desk w (m ∷ rest) before) root f)
+      (subst (λ (m : Message). FitsEvent c o.endpoint.me s o (desk_of c d) w (m ∷ rest) before) root f)

@@ -10,24 +10,23 @@ use Rattle.replica.specs.Desks.{FitsEvent, PartsFitEvent}
 use Rattle.replica.specs.Going.{FitIsKept, ExecutesAll, GoesOnWith, GoesOn, IsVoted, IsVotedBut, IsVotedAll}
 use Rattle.replica.specs.Saying.{GoesAgain, SaysVotes}
 use Rattle.replica.proofs.Parties.{orderers_twice}
+use Rattle.desk.specs.DeskOf.{desk_of}
 
 -- what the orderer sends stands on the same desk
 pub said_stands : (a : JoinedData) (o : OrdererData) (x y : List Output) → AreOne a.orderer a.desk → GoesOn a.orderer x o y → FitIsKept a x (record a { orderer = o }) y
 said_stands a o x y one goes c s known st = record {
-  desk = st.desk;
   is = st.is;
-  fits = subst (λ (m : ℕ). FitsEvent c m s o st.desk a.desk.waiting [] y) (sym one.0)
-      (goes c s st.desk a.desk.waiting [] (known ∙ one.1) (subst (λ (m : ℕ). FitsEvent c m s a.orderer st.desk a.desk.waiting [] x) one.0 st.fits));
+  fits = subst (λ (m : ℕ). FitsEvent c m s o (desk_of c a.desk) a.desk.waiting [] y) (sym one.0)
+      (goes c s (desk_of c a.desk) a.desk.waiting [] (known ∙ one.1) (subst (λ (m : ℕ). FitsEvent c m s a.orderer (desk_of c a.desk) a.desk.waiting [] x) one.0 st.fits));
 }
 
 -- what the replica sends again, from the event's beginning on
 pub again_stands : (a : JoinedData) (y : List Output) → AreOne a.orderer a.desk → GoesAgain 0 a.orderer [] a.orderer y → (c : Configuration) (s : Start) → members c ≡ a.desk.membership → PartsFitEvent c s a.orderer a.desk [] []
     → PartsFitEvent c s a.orderer a.desk [] y
 again_stands a y one goes c s known st = record {
-  desk = st.desk;
   is = st.is;
-  fits = subst (λ (m : ℕ). FitsEvent c m s a.orderer st.desk a.desk.waiting [] y) (sym one.0)
-      (goes c s st.desk a.desk.waiting (known ∙ one.1) tt (subst (λ (m : ℕ). FitsEvent c m s a.orderer st.desk a.desk.waiting [] []) one.0 st.fits));
+  fits = subst (λ (m : ℕ). FitsEvent c m s a.orderer (desk_of c a.desk) a.desk.waiting [] y) (sym one.0)
+      (goes c s (desk_of c a.desk) a.desk.waiting (known ∙ one.1) tt (subst (λ (m : ℕ). FitsEvent c m s a.orderer (desk_of c a.desk) a.desk.waiting [] []) one.0 st.fits));
 }
 
 -- if the log asks for votes of one number alone, and these are sent, it asks for none

@@ -15,7 +15,7 @@ use Rattle.protocol.specs.System.Configuration.{Configuration}
 use Rattle.protocol.proofs.Words.Options.{some_injective}
 use Rattle.protocol.specs.System.Trace.{Entry}
 use Rattle.protocol.specs.System.Trace.Entry.{Installed}
-use Rattle.protocol.specs.Replica.State.{State}
+use Rattle.protocol.specs.Replica.State.{State, Call}
 use Rattle.replica_histories.specs.Desk.{Desk, Snapshot, snapshot_of, kept_from}
 use Rattle.replica_histories.specs.Events as events
 use Rattle.replica_histories.specs.Events.{Start, after_outputs}
@@ -30,15 +30,17 @@ use Rattle.claims.specs.ClaimsView.{ClaimsData}
 use Rattle.replica.specs.State.{OrdererData, JoinedData, AreOne}
 use Rattle.desk.specs.State.{OpenData, DeskData}
 use Rattle.desk.specs.Waiting.{forgotten, frames_of, is_new}
-use Rattle.replica.specs.Desks.{given, FitsWaiting, FitsEvent, IsDeskOf, PartsFitEvent}
+use Rattle.replica.specs.Flags.{FitsFlags}
+use Rattle.replica.specs.Desks.{given, FitsWaiting, FitsEvent, PartsFitEvent}
 use Rattle.desk.specs.Desking.{desk_above}
 use Rattle.replica.specs.Fetching.{InstallsFetched}
 use Rattle.desk.specs.Fetching.{Installs}
+use Rattle.desk.specs.DeskOf.{waiting_calls, desk_of, IsDeskOf}
 use Rattle.replica.specs.Going.{IsSameParty, IsVotedAll}
 use Rattle.replica.specs.Marking.{MovesMarks}
 use Rattle.replica.specs.Joined.{me_of}
 use Rattle.replica.proofs.Choosing.{cut_choice}
-use Rattle.replica.proofs.Desking.{calls_behind, frames_behind}
+use Rattle.replica.proofs.Desking.{calls_behind, frames_behind, spelled_behind}
 use Rattle.replica.proofs.DueCheckpoints.{same_cut, cut_voted}
 use Rattle.replica.proofs.Given.{GivesOne, gives_one}
 use Rattle.replica_histories.proofs.Reaching.{reached_asking}
@@ -48,12 +50,12 @@ use Rattle.replica.proofs.Staying.{changes_cut, fits_behind, installed_beside, n
 
 -- All held pages have the wanted root. The transfer rests on the executed state, and may ask. Up to here the event fits
 -- with this one open.
-pub record IsFetched (c : Configuration) (s : Start) (a : JoinedData) (desk : Desk) (m : OpenData) (before : List Output) : Type 0 where
+pub record IsFetched (c : Configuration) (s : Start) (a : JoinedData) (m : OpenData) (before : List Output) : Type 0 where
   pub is_open : a.desk.transfer ≡ Some m
-  pub is : IsDeskOf c a.desk desk
+  pub is : IsDeskOf c a.desk
   pub open_one : Option TransferData
-  pub fits : FitsEvent c (me_of a) s a.orderer (record desk { transfer = open_one }) a.desk.waiting [] before
-  pub may : MayAsk c (me_of a) m.transfer desk.state.number (after_outputs s (given (me_of a) before))
+  pub fits : FitsEvent c (me_of a) s a.orderer (record (desk_of c a.desk) { transfer = open_one }) a.desk.waiting [] before
+  pub may : MayAsk c (me_of a) m.transfer a.desk.executed.state.number (after_outputs s (given (me_of a) before))
   pub rests : RestsOnState m.transfer a.desk.executed.state
   pub root : root_of_pages m.transfer.held ≡ m.transfer.root
 
@@ -88,8 +90,8 @@ record IsInstalled (a : JoinedData) (m : OpenData) (number : Number) (root : Lis
     desk = with_state st (logs.cut_to a.orderer.log m.transfer.number).low a.desk;
   }
 
-module _ (c : Configuration) (s : Start) (a : JoinedData) (desk : Desk) (m : OpenData) (before after : List Output) (st : State)
-    (g : IsFetched c s a desk m before) (has : HasPagesAt m.transfer.number m.transfer.held st) (falls : NoneFalls a.desk.executed.state st)
+module _ (c : Configuration) (s : Start) (a : JoinedData) (m : OpenData) (before after : List Output) (st : State)
+    (g : IsFetched c s a m before) (has : HasPagesAt m.transfer.number m.transfer.held st) (falls : NoneFalls a.desk.executed.state st)
     (below : Each (λ x. x.number ≤ a.desk.executed.state.number) a.desk.snapshots) (voted : IsVotedAll a.orderer.log)
     (claims : ClaimsData) (cuts : CutsClaims (logs.cut_to a.orderer.log m.transfer.number).low a.orderer.claims claims)
     (gives : GivesOne c (me_of a) before after (Installed (me_of a) m.transfer.number m.transfer.root)) where
@@ -105,66 +107,60 @@ module _ (c : Configuration) (s : Start) (a : JoinedData) (desk : Desk) (m : Ope
   abbrev cut : LogData
   cut = logs.cut_to a.orderer.log m.transfer.number
 
-  abbrev frames : List (List ℕ)
-  frames = frames_of (forgotten st a.desk.waiting)
-
   abbrev open_desk : Desk
-  open_desk = record desk { transfer = g.open_one }
+  open_desk = record (desk_of c a.desk) { transfer = g.open_one }
+
+  abbrev installed : DeskData
+  installed = with_state st cut.low a.desk
 
   abbrev later : Desk
-  later = installed_desk desk st frames
+  later = desk_of c installed
 
   small : m.transfer.number < 2 ^ 48
   small = subst (λ (n : ℕ). n < 2 ^ 48) has.number has.state.space.few
 
   low_is : cut.low ≡ st.number
-  low_is = cut_low a.orderer.log m.transfer.number (reached_asking c me a.orderer.log.low desk.state.number m.transfer past g.fits.fits.low g.may) ∙ sym has.number
+  low_is = cut_low a.orderer.log m.transfer.number (reached_asking c me a.orderer.log.low a.desk.executed.state.number m.transfer past g.fits.fits.low g.may) ∙ sym has.number
 
-  rests_here : RestsOnState m.transfer desk.state
-  rests_here = subst (λ (x : State). RestsOnState m.transfer x) (sym g.is.state) g.rests
+  -- the earlier kept states are below the low mark
+  all_below : Each (λ x. x.number < cut.low) a.desk.snapshots
+  all_below =
+      let above = g.may.ahead in let low = low_is in let number = has.number in
+      below_next a.desk.executed.state.number cut.low a.desk.snapshots (omega (arith, above, low, number)) below
 
-  falls_here : NoneFalls desk.state st
-  falls_here = subst (λ (x : State). NoneFalls x st) (sym g.is.state) falls
+  installed_is : IsDeskOf c installed
+  installed_is = record {
+    members_are = g.is.members_are;
+    period_is = g.is.period_is;
+    rests = λ x there. none_some x _ there;
+    calls = spelled_behind c st a.desk.waiting.requests g.is.calls;
+    differ = AllPairs-filter (λ (x y : WaitingRequest). x.client.number ≢ y.client.number) (is_new st) a.desk.waiting.requests g.is.differ;
+  }
+
+  desk_is : installed_desk open_desk st (frames_of installed.waiting) ≡ later
+  desk_is =
+      ap (λ (xs : List Snapshot). record (installed_desk open_desk st (frames_of installed.waiting)) { snapshots = xs })
+      (ap (λ (n : ℕ). kept_from n (snapshot_of st ∷ a.desk.snapshots)) (sym low_is) ∙ kept_alone cut.low (snapshot_of st) a.desk.snapshots all_below)
+      ∙ ap (λ (xs : List Call). record later { waiting = xs }) (calls_behind c st a.desk.waiting.requests)
 
   fitting : events.Fits c me s later cut [] (e ∷ given me before)
-  fitting = installations_fit c me s open_desk a.orderer.log (given me before) m.transfer st frames g.may rests_here g.root has.state has.number has.pages small falls_here
-      (λ i. (voted i).0) (λ i. (voted i).1) (frames_behind st a.desk desk.frames g.is.frames) g.fits.fits
+  fitting = subst (λ (desk : Desk). events.Fits c me s desk cut [] (e ∷ given me before)) desk_is
+      (installations_fit c me s open_desk a.orderer.log (given me before) m.transfer st (frames_of installed.waiting) g.may g.rests g.root has.state has.number has.pages small falls
+      (λ i. (voted i).0) (λ i. (voted i).1) (frames_behind st a.desk) g.fits.fits)
 
   abbrev new : OrdererData
   new = cut_orderer m.transfer.number claims a.orderer
 
-  numbering : FitsWaiting c me new (forgotten st a.desk.waiting) later (e ∷ past)
-  numbering = numbers_alike c me (forgotten st a.desk.waiting) a.orderer new later (e ∷ past) (same_cut a.orderer.log m.transfer.number) refl
-      (λ own. flags_forgotten c me a.orderer.log.view a.orderer.used a.desk.waiting desk.state st desk.waiting (e ∷ past) g.is.waiting falls_here
+  numbering : FitsWaiting c me new installed.waiting later (e ∷ past)
+  numbering = numbers_alike c me installed.waiting a.orderer new later (e ∷ past) (same_cut a.orderer.log m.transfer.number) refl
+      (λ own. subst (λ (xs : List Call). FitsFlags c me a.orderer.log.view a.orderer.used installed.waiting st xs (e ∷ past)) (calls_behind c st a.desk.waiting.requests)
+      (flags_forgotten c me a.orderer.log.view a.orderer.used a.desk.waiting a.desk.executed.state st (waiting_calls c a.desk.waiting.requests) (e ∷ past) falls
       (numbers_beside c me a.desk.waiting a.orderer open_desk past e g.fits.fits.of_log.faults g.fits.fits.of_log.own
-      (installed_beside c me m.transfer.number m.transfer.root past) g.fits.numbers own))
+      (installed_beside c me m.transfer.number m.transfer.root past) g.fits.numbers own)))
 
-  installed_fits : FitsEvent c me s new later (forgotten st a.desk.waiting) [] after
-  installed_fits = fits_behind c me s a.orderer new open_desk later a.desk.waiting (forgotten st a.desk.waiting) [] [] before after e gives refl g.fits fitting numbering
+  installed_fits : FitsEvent c me s new later installed.waiting [] after
+  installed_fits = fits_behind c me s a.orderer new open_desk later a.desk.waiting installed.waiting [] [] before after e gives refl g.fits fitting numbering
       (changes_cut c me s a.orderer new open_desk later [] [] (given me before) e g.fits.fits fitting (silent_keep c me past e tt) (same_cut a.orderer.log m.transfer.number) cuts refl g.fits.changes)
-
-  -- the earlier kept states are below the low mark
-  all_below : Each (λ x. x.number < cut.low) a.desk.snapshots
-  all_below = below_next a.desk.executed.state.number cut.low a.desk.snapshots ahead below
-    where
-      ahead : a.desk.executed.state.number < cut.low
-      ahead =
-          let above = g.may.ahead in let at = ap (λ (x : State). x.number) g.is.state in let low = low_is in let number = has.number in
-          omega (arith, above, at, low, number)
-
-  installed_is : IsDeskOf c (with_state st cut.low a.desk) later
-  installed_is = record {
-    members_are = g.is.members_are;
-    period_is = g.is.period_is;
-    state = refl;
-    snapshots = ap (λ (n : ℕ). kept_from n (snapshot_of st ∷ desk.snapshots)) (sym low_is) ∙ ap (λ (xs : List Snapshot). kept_from cut.low (snapshot_of st ∷ xs)) g.is.snapshots
-        ∙ kept_alone cut.low (snapshot_of st) a.desk.snapshots all_below;
-    transfer = refl;
-    rests = λ x there. none_some x _ there;
-    frames = refl;
-    waiting = calls_behind c st st a.desk.waiting.requests desk.waiting refl g.is.waiting;
-    differ = AllPairs-filter (λ (x y : WaitingRequest). x.client.number ≢ y.client.number) (is_new st) a.desk.waiting.requests g.is.differ;
-  }
 
 -- ---- both parts
 
@@ -216,20 +212,20 @@ moved_party a b m before after there (d, number, root, installs, gives, moves) =
     subst (λ (r : JoinedData). IsSameParty a r) (sym i.new_is) (installed_party a m.transfer.number i.claims d.executed.state (logs.cut_to a.orderer.log m.transfer.number).low i.cuts)
 
 -- The replica installs the fetched state.
-pub installs_fetched : (c : Configuration) (s : Start) (a b : JoinedData) (desk : Desk) (m : OpenData) (before after : List Output) → AreOne a.orderer a.desk → IsFetched c s a desk m before → IsVotedAll a.orderer.log
+pub installs_fetched : (c : Configuration) (s : Start) (a b : JoinedData) (m : OpenData) (before after : List Output) → AreOne a.orderer a.desk → IsFetched c s a m before → IsVotedAll a.orderer.log
     → InstallsFetched a before b after true → PartsFitEvent c s b.orderer b.desk [] after × IsVotedAll b.orderer.log
-installs_fetched c s a b desk m before after one g voted (d, number, root, installs, gives, moves) =
+installs_fetched c s a b m before after one g voted (d, number, root, installs, gives, moves) =
     let i = installs_so a b d m number root g.is_open installs moves in
     let st = d.executed.state in
+    let later : DeskData = with_state st (logs.cut_to a.orderer.log m.transfer.number).low a.desk in
     let is : GivesOne c (me_of a) before after (Installed (me_of a) m.transfer.number m.transfer.root) =
     gives_one c (me_of a) before after (outputs.Installed number root) (Installed (me_of a) m.transfer.number m.transfer.root) gives
     (ap (λ (n : ℕ). Installed (me_of a) n root) i.number_is ∙ ap (λ (r : List ℕ). Installed (me_of a) m.transfer.number r) i.root_is) tt in
     subst (λ (r : JoinedData). PartsFitEvent c s r.orderer r.desk [] after × IsVotedAll r.orderer.log) (sym i.new_is) (
       record {
-        desk = installed_desk desk st (frames_of (forgotten st a.desk.waiting));
-        is = installed_is c s a desk m before after st g i.has i.falls i.below voted i.claims i.cuts is;
-        fits = subst (λ (k : ℕ). FitsEvent c k s (cut_orderer m.transfer.number i.claims a.orderer) (installed_desk desk st (frames_of (forgotten st a.desk.waiting))) (forgotten st a.desk.waiting) [] after)
-            (sym one.0) (installed_fits c s a desk m before after st g i.has i.falls i.below voted i.claims i.cuts is);
+        is = installed_is c s a m before after st g i.has i.falls i.below voted i.claims i.cuts is;
+        fits = subst (λ (k : ℕ). FitsEvent c k s (cut_orderer m.transfer.number i.claims a.orderer) (desk_of c later) later.waiting [] after)
+            (sym one.0) (installed_fits c s a m before after st g i.has i.falls i.below voted i.claims i.cuts is);
       },
       cut_voted a.orderer.log m.transfer.number g.fits.fits.of_log.is_log voted,
     )

@@ -40,13 +40,14 @@ use Rattle.replica.specs.declared.taking.Touched.TheVariants as touched
 use Rattle.replica.specs.State.{JoinedData, AreOne, IsOrderer}
 use Rattle.replica.specs.Desks.{FitsEvent, PartsFitEvent}
 use Rattle.replica.specs.Entering.{event_of, IsTakenAnswered, TakesBytes, TakesMessage}
-use Rattle.replica.specs.Joined.{Runs}
+use Rattle.replica.specs.Joined.{JoinedMatchesHistory}
 use Rattle.replica.proofs.Beginning.{changes_kept, heard_by, rests}
 use Rattle.replica.specs.EnteringViews.{Enters}
 use Rattle.replica.proofs.Parties.{one_self, same_log}
 use Rattle.replica.proofs.Staying.{numbers_beside, said_on}
 use Rattle.replica.proofs.Choosing.{active_begins_none}
 use Rattle.replica.proofs.ViewsEntered.{Entered, entered, entered_active, entered_party, entered_stands, entered_votes, start_in}
+use Rattle.desk.specs.DeskOf.{waiting_calls, desk_of}
 
 -- ---- which new views the replica takes
 
@@ -96,7 +97,7 @@ module _ (judge : NewViewsAreJudged) (decide : SizesDecide) (r : JoinedData) (on
   hears c known = heard_by r one c bytes body known h
 
   -- it is judged as the history's configuration judges it
-  judged : (c : Configuration) (past : List Entry) → Runs c r past → members c ≡ r.desk.membership
+  judged : (c : Configuration) (past : List Entry) → JoinedMatchesHistory c r past → members c ≡ r.desk.membership
       → refusal c (view c past) (target past) sender new ≡ refusal (configuration_of r.orderer.received) r.orderer.log.view r.orderer.target sender new
   judged c past runs known =
       ap (λ (v : ℕ). refusal c v (target past) sender new) runs.holds.of_log.fits.view
@@ -116,35 +117,34 @@ module _ (judge : NewViewsAreJudged) (decide : SizesDecide) (r : JoinedData) (on
 
   -- ---- the replica refuses it
 
-  module _ (c : Configuration) (past : List Entry) (runs : Runs c r past) (known : members c ≡ r.desk.membership) (free : taken c past e ≡ None) where
-    enters : histories.Fits c me (event_of c r past runs bytes) runs.desk r.orderer.log [] []
-    enters = inputs_fit c me runs.desk runs.desk r.orderer.log r.orderer.log [] past bytes runs.holds free (record {
+  module _ (c : Configuration) (past : List Entry) (runs : JoinedMatchesHistory c r past) (known : members c ≡ r.desk.membership) (free : taken c past e ≡ None) where
+    enters : histories.Fits c me (event_of c r past runs bytes) (desk_of c r.desk) r.orderer.log [] []
+    enters = inputs_fit c me (desk_of c r.desk) (desk_of c r.desk) r.orderer.log r.orderer.log [] past bytes runs.holds free (record {
       takes = others_drop c me r.orderer.log past bytes runs.holds.of_log.fits (subst IsBesideLog (sym (hears c known)) tt);
       state = refl;
       snapshots = refl;
-      waiting = ap (λ (o : Option Body). option_map_or (with_waiting runs.desk.state runs.desk.waiting) (option_and_then (call_in c) o) runs.desk.waiting) (sym (hears c known));
+      waiting = ap (λ (o : Option Body). option_map_or (with_waiting r.desk.executed.state (waiting_calls c r.desk.waiting.requests)) (option_and_then (call_in c) o) (waiting_calls c r.desk.waiting.requests)) (sym (hears c known));
       transfer = refl;
       frames = λ frame k. inl k;
-      due_is = ap (asked runs.desk.state) (sym (hears c known));
+      due_is = ap (asked r.desk.executed.state) (sym (hears c known));
     })
 
-    event : FitsEvent c me (event_of c r past runs bytes) r.orderer runs.desk r.desk.waiting [] []
+    event : FitsEvent c me (event_of c r past runs bytes) r.orderer (desk_of c r.desk) r.desk.waiting [] []
     event = record {
       fits = enters;
-      numbers = numbers_beside c me r.desk.waiting r.orderer runs.desk past e runs.holds.of_log.fits.faults runs.holds.of_log.fits.own (record { here = refl; none = free; sends = refl }) runs.numbers;
+      numbers = numbers_beside c me r.desk.waiting r.orderer (desk_of c r.desk) past e runs.holds.of_log.fits.faults runs.holds.of_log.fits.own (record { here = refl; none = free; sends = refl }) runs.numbers;
       said = said_on me r.orderer.last_checkpoint past e runs.said;
       changes = changes_kept r one c past runs bytes r.orderer.log (same_log r.orderer.log) refl
           (λ passes. got_keep c me past bytes r.orderer.log r.orderer.log passes (record { view = refl; active = refl }) free (λ i within. refl)
           (λ s other. others_bring_none c me s past bytes (subst IsNoChange (sym (hears c known)) tt) other))
-          (inputs_enter c me runs.desk runs.desk r.orderer.log r.orderer.log [] past e runs.holds enters);
+          (inputs_enter c me (desk_of c r.desk) (desk_of c r.desk) r.orderer.log r.orderer.log [] past e runs.holds enters);
       meant = tt;
     }
 
     untaken_stands : PartsFitEvent c (event_of c r past runs bytes) r.orderer r.desk [] []
     untaken_stands = record {
-      desk = runs.desk;
       is = runs.is_desk;
-      fits = subst (λ (m : ℕ). FitsEvent c m (event_of c r past runs bytes) r.orderer runs.desk r.desk.waiting [] []) (sym one.0) event;
+      fits = subst (λ (m : ℕ). FitsEvent c m (event_of c r past runs bytes) r.orderer (desk_of c r.desk) r.desk.waiting [] []) (sym one.0) event;
     }
 
   refused_dropped : refusal (configuration_of r.orderer.received) r.orderer.log.view r.orderer.target sender new ≢ None → TakesBytes bytes r touched.Nothing r []
@@ -159,16 +159,16 @@ module _ (judge : NewViewsAreJudged) (decide : SizesDecide) (r : JoinedData) (on
 
   -- ---- the replica takes it
 
-  module _ (clients : r.desk.executed.clients ≡ r.desk.membership.clients) (n : JoinedData) (outs : List Output) (x : Entered new None r [] n outs) (c : Configuration) (past : List Entry) (runs : Runs c r past)
+  module _ (clients : r.desk.executed.clients ≡ r.desk.membership.clients) (n : JoinedData) (outs : List Output) (x : Entered new None r [] n outs) (c : Configuration) (past : List Entry) (runs : JoinedMatchesHistory c r past)
       (known : members c ≡ r.desk.membership) (t : taken c past e ≡ Some new) where
-    begins_it : histories.Fits c me (event_of c r past runs bytes) (desk_from (begun_log r.orderer.log new).low runs.desk) (begun_log r.orderer.log new) (start_due runs.desk new) []
-    begins_it = new_views_enter c me runs.desk r.orderer.log past sender new bytes runs.holds (hears c known) t
+    begins_it : histories.Fits c me (event_of c r past runs bytes) (desk_from (begun_log r.orderer.log new).low (desk_of c r.desk)) (begun_log r.orderer.log new) (start_due (desk_of c r.desk) new) []
+    begins_it = new_views_enter c me (desk_of c r.desk) r.orderer.log past sender new bytes runs.holds (hears c known) t
 
     passes : Passes c me past e r.orderer.log (begun_log r.orderer.log new)
-    passes = inputs_enter c me runs.desk (desk_from (begun_log r.orderer.log new).low runs.desk) r.orderer.log (begun_log r.orderer.log new) (start_due runs.desk new) past e runs.holds begins_it
+    passes = inputs_enter c me (desk_of c r.desk) (desk_from (begun_log r.orderer.log new).low (desk_of c r.desk)) r.orderer.log (begun_log r.orderer.log new) (start_due (desk_of c r.desk) new) past e runs.holds begins_it
 
     taken_stands : PartsFitEvent c (event_of c r past runs bytes) n.orderer n.desk [] outs
-    taken_stands = entered_stands c (event_of c r past runs bytes) r runs.desk new None [] past e sender one clients runs.is_desk refl tt begins_it passes t (hears c known) (not_mine c me past sender new bytes (hears c known) t) (omega arith, λ sent leaf is now. absurd now, λ leaf l. inl l) runs.said runs.changes n outs x
+    taken_stands = entered_stands c (event_of c r past runs bytes) r new None [] past e sender one clients runs.is_desk refl tt begins_it passes t (hears c known) (not_mine c me past sender new bytes (hears c known) t) (omega arith, λ sent leaf is now. absurd now, λ leaf l. inl l) runs.said runs.changes n outs x
 
     taken_answered : IsTakenAnswered c n (event_of c r past runs bytes)
     taken_answered =
@@ -186,7 +186,7 @@ module _ (judge : NewViewsAreJudged) (decide : SizesDecide) (r : JoinedData) (on
         let t = right_taken judge c me sender past new bytes (hears c known) (judged c past runs known ∙ right) in (
           taken_stands clients n outs x c past runs known t,
           (
-            entered_votes c (event_of c r past runs bytes) r runs.desk new None [] past e sender one clients runs.is_desk refl tt (begins_it clients n outs x c past runs known t) (passes clients n outs x c past runs known t) t (hears c known) (not_mine c me past sender new bytes (hears c known) t)
+            entered_votes c (event_of c r past runs bytes) r new None [] past e sender one clients runs.is_desk refl tt (begins_it clients n outs x c past runs known t) (passes clients n outs x c past runs known t) t (hears c known) (not_mine c me past sender new bytes (hears c known) t)
                 (omega arith, λ sent leaf is now. absurd now, λ leaf l. inl l) runs.said runs.changes n outs x,
             taken_answered clients n outs x c past runs known t,
           ),

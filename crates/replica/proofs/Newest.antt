@@ -18,6 +18,7 @@ use Rattle.desk.specs.State.{DeskData, IsDesk}
 use Rattle.replica.specs.Desks.{PartsFitEvent, given}
 use Rattle.desk.specs.Desking.{snapshots_with}
 use Rattle.desk.specs.Keeping.{Descend, AreFew, AreKept, newest_with}
+use Rattle.desk.specs.DeskOf.{desk_of}
 
 -- two multiples of the period are a period apart
 multiples_apart : (period a b : ℕ) → a % period ≡ 0 → b % period ≡ 0 → a < b → a + period ≤ b
@@ -81,8 +82,7 @@ all_kept c s o d before text st is few next committed stands = go (st.number % d
         omega (arith, l, span_is)
 
     same : kept_from log.low d.snapshots ≡ d.snapshots
-    same = subst (λ (xs : List Snapshot). kept_from log.low xs ≡ xs) stands.is.snapshots
-        (ap (λ x. x.snapshots) (kept_are_above c d.me stands.desk log stands.fits.fits.of_desk.states (after_outputs s (given d.me before)) stands.fits.fits.of_log stands.fits.fits.of_desk.kept))
+    same = ap (λ x. x.snapshots) (kept_are_above c d.me (desk_of c d) log stands.fits.fits.of_desk.states (after_outputs s (given d.me before)) stands.fits.fits.of_log stands.fits.fits.of_desk.kept)
 
     go : (b : Bool) → (st.number % d.period == 0) ≡ b → cond b (newest_with (snapshot_of st) d.snapshots) d.snapshots ≡ cond b (snapshot_of st ∷ d.snapshots) d.snapshots
     go true e =

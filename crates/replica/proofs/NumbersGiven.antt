@@ -1,5 +1,5 @@
 -- The primary assigns the next number to the oldest requests without one.
-use Rattle.std.proofs.Common.{◌≡◌, ◌≢◌, ℕ, zero, suc, ◌+◌, ◌≤◌, ◌<◌, inl, inr, Bool, true, false, cond, not, List, [], ◌∷◌, length, map, take, drop, max, refl, sym, ap, ◌∙◌, subst, arith, AllPairs}
+use Rattle.std.proofs.Common.{◌≡◌, ◌≢◌, ℕ, zero, suc, ◌+◌, ◌≤◌, ◌<◌, inl, inr, Bool, true, false, cond, not, List, [], ◌∷◌, length, map, take, drop, max, Some, refl, sym, ap, ◌∙◌, subst, arith, AllPairs}
 use Rattle.std.proofs.lemmas.List.{take-append-drop, length-take, length-map}
 use Rattle.wire_format.specs.Lists.{Each}
 use Rattle.wire_format.specs.Spelling.{pieces_spelling}
@@ -11,10 +11,10 @@ use Rattle.ordering.specs.Log.{LogData}
 use Rattle.protocol.specs.System.Configuration.{Configuration, members}
 use Rattle.protocol.specs.System.Trace.{Entry, Has, either}
 use Rattle.protocol.specs.Replica.Certificates.{low, is_in_marks}
-use Rattle.protocol.specs.Replica.State.{State, Call}
+use Rattle.protocol.specs.Replica.State.{Call, call_of}
 use Rattle.protocol.specs.Replica.RightReplica.{IsFree}
 use Rattle.protocol.specs.Replica.Owed.{IsNumbered, AreDifferent}
-use Rattle.protocol.proofs.Words.Elements.{has_map, has_mapped, each_where, has_filter}
+use Rattle.protocol.proofs.Words.Elements.{has_map, has_mapped, each_mapped, each_where, has_filter}
 use Rattle.protocol.proofs.Words.Pairs.{Pairs, pairs_of, all_pairs}
 use Rattle.replica_histories.specs.Desk.{Desk}
 use Rattle.replica_histories.specs.Logs.{FitsLog}
@@ -24,19 +24,20 @@ use Rattle.replica_histories.specs.Numbers.{AreCalls, Waiting, HasNumber, HasNon
 use Rattle.replica_histories.specs.Outputs.{MayNumber}
 use Rattle.replica_histories.proofs.Words.{marks_are}
 use Rattle.replica_histories.proofs.Numbers.{next_is_free}
-use Rattle.replica_histories.proofs.NumbersLists.{has_taken, pairs_kept, pairs_mapped, pairs_unmapped, pairs_front, IsAt, Spells, spelled_at, Differ, frames_differ}
+use Rattle.replica_histories.proofs.NumbersLists.{each_unmapped, has_taken, pairs_kept, pairs_mapped, pairs_unmapped, pairs_front, IsAt, Spells, spelled_at, Differ, frames_differ}
 use Rattle.desk.specs.declared.waiting.WaitingRequest.{WaitingRequest}
 use Rattle.replica.specs.State.{JoinedData, AreOne}
 use Rattle.desk.specs.State.{DeskData}
 use Rattle.desk.specs.Waiting.{WaitingData, texts, frames_of, all_unnumbered, unnumbered, count_unnumbered, all_numbered, with_numbered}
 use Rattle.replica.specs.Flags.{FitsFlags, flagged}
 use Rattle.desk.specs.Begun.{begun_of}
-use Rattle.replica.specs.Desks.{AreCallsOf, AreOfDifferentClients, given, FitsEvent, PartsFitEvent}
+use Rattle.desk.specs.DeskOf.{waiting_call, waiting_calls, desk_of, SpellCalls, AreOfDifferentClients}
+use Rattle.replica.specs.Desks.{given, FitsEvent, PartsFitEvent}
 use Rattle.replica.specs.Going.{GoesOnWith, IsSameLog, IsSameOrderer, IsSameParty, IsVoted, IsVotedBut, IsVotedAll, FitIsKept, NothingIsLeft}
 use Rattle.replica.specs.Numbering.{next_number, IsAllNumbered}
 use Rattle.replica.specs.NumbersNext.{NumbersNext, GivesNumber, NumbersWaiting}
 use Rattle.desk.proofs.WaitingKept.{few_unnumbered}
-use Rattle.replica.proofs.Flags.{calls_unnumbered, calls_taken, are_calls}
+use Rattle.replica.proofs.Flags.{oldest_spelled}
 use Rattle.replica.proofs.Parties.{same_party, orderers_twice, parties_twice}
 use Rattle.replica.proofs.Rows.{due_prepare_elsewhere, due_commit_elsewhere}
 
@@ -77,17 +78,13 @@ same_numbered {A} f same (suc n) (r ∷ rs) = go r.numbered (same_numbered f sam
     go true many fewer = ap (λ (ts : List A). f r ∷ ts) many
     go false many fewer = ap (λ (ts : List A). f (record r { numbered = true }) ∷ ts) fewer ∙ ap (λ (t : A). t ∷ map f rs) (same r)
 
-calls_numbered : (c : Configuration) (n : ℕ) (rs : List WaitingRequest) (calls : List Call) → AreCallsOf c rs calls → AreCallsOf c (all_numbered n rs) calls
-calls_numbered c n [] [] h = h
-calls_numbered c n [] (x ∷ calls) h = absurd h
-calls_numbered c n (r ∷ rs) [] h = absurd h
-calls_numbered c zero (r ∷ rs) (x ∷ calls) h = h
-calls_numbered c (suc n) (r ∷ rs) (x ∷ calls) h = go r.numbered (calls_numbered c (suc n) rs calls h.1) (calls_numbered c n rs calls h.1)
-  where
-    go : (b : Bool) → AreCallsOf c (all_numbered (suc n) rs) calls → AreCallsOf c (all_numbered n rs) calls
-        → AreCallsOf c (cond b (r ∷ all_numbered (suc n) rs) (record r { numbered = true } ∷ all_numbered n rs)) (x ∷ calls)
-    go true many fewer = (h.0, many)
-    go false many fewer = (h.0, fewer)
+abbrev with_frame : Configuration → WaitingRequest → List ℕ × Call
+with_frame c r = (r.frame.items, waiting_call c r)
+
+spelled_numbered : (c : Configuration) (n : ℕ) (rs : List WaitingRequest) → SpellCalls c rs → SpellCalls c (all_numbered n rs)
+spelled_numbered c n rs h =
+    each_unmapped (λ p. call_of c p.0 ≡ Some p.1) (with_frame c) (all_numbered n rs)
+    (subst (Each (λ p. call_of c p.0 ≡ Some p.1)) (sym (same_numbered (with_frame c) (λ r. refl) n rs)) (each_mapped (λ p. call_of c p.0 ≡ Some p.1) (with_frame c) rs h))
 
 clients_differ : (n : ℕ) (rs : List WaitingRequest) → AreOfDifferentClients rs → AreOfDifferentClients (all_numbered n rs)
 clients_differ n rs h =
@@ -116,9 +113,9 @@ left_numbered (suc n) (r ∷ rs) h = go r.numbered refl (left_numbered (suc n) r
 
 module _ (c : Configuration) (me number used : ℕ) (log : LogData) (text : List ℕ) (w : WaitingData) (desk : Desk) (history : List Entry) (inside : logs.is_in_marks log number ≡ true)
     (active : log.active ≡ true) (primary : logs.primary log log.view ≡ log.me) (free : IsFree c me history desk.state.number log.view number) (reads : requests_of text ≡ texts (unnumbered w)) (frames : desk.frames ≡ frames_of w)
-    (calls : AreCallsOf c w.requests desk.waiting) (of_log : FitsLog c me log history) (f : FitsFlags c me log.view used w desk.state desk.waiting history) where
+    (calls : SpellCalls c w.requests) (of_log : FitsLog c me log history) (f : FitsFlags c me log.view used w desk.state desk.waiting history) where
   abbrev entries : List Waiting
-  entries = flagged w.requests desk.waiting
+  entries = flagged c w.requests
 
   abbrev first_ones : List Waiting
   first_ones = take 16 (numbers.unnumbered entries)
@@ -126,11 +123,8 @@ module _ (c : Configuration) (me number used : ℕ) (log : LogData) (text : List
   abbrev oldest : List Call
   oldest = numbers.calls_of first_ones
 
-  these : AreCallsOf c (unnumbered w) oldest
-  these = calls_taken c 16 (all_unnumbered w.requests) (numbers.unnumbered entries) (calls_unnumbered c w.requests desk.waiting calls)
-
   spells : AreCalls c (texts (unnumbered w)) oldest
-  spells = are_calls c (unnumbered w) oldest these
+  spells = oldest_spelled c 16 w.requests calls
 
   abbrev CallsDiffer : Waiting → Waiting → Type 0
   CallsDiffer = λ x y. Differ c x.call y.call
@@ -190,42 +184,42 @@ module _ (number : ℕ) (a b : JoinedData) (x y : List Output) (one : AreOne a.o
     abbrev past : List Entry
     past = after_outputs s (given me x)
 
-    fits : FitsEvent c me s a.orderer st.desk w [] x
-    fits = subst (λ (m : ℕ). FitsEvent c m s a.orderer st.desk w [] x) one.0 st.fits
+    fits : FitsEvent c me s a.orderer (desk_of c a.desk) w [] x
+    fits = subst (λ (m : ℕ). FitsEvent c m s a.orderer (desk_of c a.desk) w [] x) one.0 st.fits
 
     -- the next number by the log is the next one by the history
-    free : IsFree c me past st.desk.state.number a.orderer.log.view number
+    free : IsFree c me past a.desk.executed.state.number a.orderer.log.view number
     free =
         let of_log = fits.fits.of_log in
         let same : numbers.next_number c me past a.orderer.used ≡ number = ap (λ (l : ℕ). suc (max l a.orderer.used)) of_log.low ∙ sym is_next in
-        let near' : number ≤ st.desk.state.number + 2 = subst (λ (x : State). number ≤ x.number + 2) (sym st.is.state) near in
         let marks : is_in_marks c (low c me past) number ≡ true = marks_are c me a.orderer.log past number of_log ∙ inside in
-        subst (λ (i : ℕ). IsFree c me past st.desk.state.number a.orderer.log.view i) same
-        (next_is_free c me a.orderer.log.view a.orderer.used (begun_of w.begun) (flagged w.requests st.desk.waiting) st.desk.state st.desk.waiting past (fits.numbers primary) (
+        subst (λ (i : ℕ). IsFree c me past a.desk.executed.state.number a.orderer.log.view i) same
+        (next_is_free c me a.orderer.log.view a.orderer.used (begun_of w.begun) (flagged c w.requests) a.desk.executed.state (waiting_calls c w.requests) past (fits.numbers primary) (
           subst (λ (i : ℕ). is_in_marks c (low c me past) i ≡ true) (sym same) marks,
-          subst (λ (i : ℕ). i ≤ st.desk.state.number + 2) (sym same) near',
+          subst (λ (i : ℕ). i ≤ a.desk.executed.state.number + 2) (sym same) near,
         ))
 
-    numbered_fits : FitsEvent c me s b.orderer st.desk more [] y
+    abbrev later : DeskData
+    later = record a.desk { waiting = more }
+
+    numbered_fits : FitsEvent c me s b.orderer (desk_of c later) more [] y
     numbered_fits =
-        n.says.goes c s st.desk w [] (known ∙ one.1) st.is.waiting reads
-        (may_number c me number a.orderer.used a.orderer.log text w st.desk past inside active primary free reads st.is.frames st.is.waiting fits.fits.of_log (fits.numbers primary)) fits
+        subst (λ (k : Desk). FitsEvent c me s b.orderer k more [] y)
+        (sym (ap (λ (xs : List Call). record (desk_of c later) { waiting = xs }) (same_numbered (waiting_call c) (λ r. refl) (length (unnumbered w)) w.requests)
+        ∙ ap (λ (xs : List (List ℕ)). record (desk_of c a.desk) { frames = xs }) (same_numbered (λ (r : WaitingRequest). r.frame.items) (λ r. refl) (length (unnumbered w)) w.requests)))
+        (n.says.goes c s (desk_of c a.desk) w [] (known ∙ one.1) st.is.calls reads
+        (may_number c me number a.orderer.used a.orderer.log text w (desk_of c a.desk) past inside active primary free reads refl st.is.calls fits.fits.of_log (fits.numbers primary)) fits)
 
     next_stands : PartsFitEvent c s b.orderer b.desk [] y
     next_stands = subst (λ (d : DeskData). PartsFitEvent c s b.orderer d [] y) (sym n.waits) (record {
-      desk = st.desk;
       is = record {
         members_are = st.is.members_are;
         period_is = st.is.period_is;
-        state = st.is.state;
-        snapshots = st.is.snapshots;
-        transfer = st.is.transfer;
         rests = st.is.rests;
-        frames = st.is.frames ∙ sym (same_numbered (λ (r : WaitingRequest). r.frame.items) (λ r. refl) (length (unnumbered w)) w.requests);
-        waiting = calls_numbered c (length (unnumbered w)) w.requests st.desk.waiting st.is.waiting;
+        calls = spelled_numbered c (length (unnumbered w)) w.requests st.is.calls;
         differ = clients_differ (length (unnumbered w)) w.requests st.is.differ;
       };
-      fits = subst (λ (m : ℕ). FitsEvent c m s b.orderer st.desk more [] y) (sym one.0) numbered_fits;
+      fits = subst (λ (m : ℕ). FitsEvent c m s b.orderer (desk_of c later) more [] y) (sym one.0) numbered_fits;
     })
 
   same_orderer : IsSameOrderer a.orderer b.orderer

@@ -21,7 +21,6 @@ use Rattle.protocol.specs.System.Trace.Entry.{Sent}
 use Rattle.protocol.specs.Replica.Certificates.{view, target, is_later, new_view_from, new_view_in, taken}
 use Rattle.protocol.specs.Replica.RightReplica.{HasSeen}
 use Rattle.protocol.specs.Replica.Selection.{is_start, may_all_stand, may_select, null_batch}
-use Rattle.protocol.specs.Replica.State.{State}
 use Rattle.protocol.proofs.Agreement.Marks.{largest_of-le}
 use Rattle.protocol.proofs.Words.Elements.{each_append, each_has}
 use Rattle.view_change.specs.Laws.{AreAlike, SizesDecide}
@@ -46,13 +45,14 @@ use Rattle.replica_histories.proofs.Seeing.{logged_are_seen}
 use Rattle.replica_histories.proofs.Words.{primary_same}
 use Rattle.replica.specs.State.{OrdererData, JoinedData, IsOrderer, AreOne}
 use Rattle.desk.specs.Waiting.{with_view}
+use Rattle.desk.specs.DeskOf.{desk_of, IsDeskOf}
 use Rattle.replica.specs.Beginning.{BeginsView}
 use Rattle.replica.specs.Claiming.{SaysFrame}
-use Rattle.replica.specs.Desks.{given, changes_of, IsDeskOf, FitsEvent, FitsWaiting, PartsFitEvent}
+use Rattle.replica.specs.Desks.{given, changes_of, FitsEvent, FitsWaiting, PartsFitEvent}
 use Rattle.replica.specs.EnteringViews.{Enters, IsSelection, MaySignView, SignsView, new_view_of}
 use Rattle.replica.specs.Flags.{FitsFlags}
 use Rattle.replica.specs.Going.{NothingIsLeft}
-use Rattle.replica.proofs.BegunViews.{Begins, begins, begun_orderer, begun_stands, calls_differ, all_voted, one_active, one_party, one_target, start_of}
+use Rattle.replica.proofs.BegunViews.{Begins, begins, begun_orderer, begun_stands, all_voted, one_active, one_party, one_target, start_of}
 use Rattle.replica.proofs.Flags.{flags_begun}
 use Rattle.replica.proofs.Given.{GivesOne, gives_one}
 use Rattle.replica.proofs.Staying.{fits_behind}
@@ -178,7 +178,10 @@ module _ (decide : SizesDecide) (r : JoinedData) (start : ℕ) (root frame : Lis
   abbrev low : ℕ
   low = (begun_log o.log its).low
 
-  module _ (c : Configuration) (s : Start) (desk : Desk) (known : members c ≡ r.desk.membership) (rests : NothingIsLeft r) (is : IsDeskOf c r.desk desk) (f : FitsEvent c mine s o desk r.desk.waiting [] before) where
+  module _ (c : Configuration) (s : Start) (known : members c ≡ r.desk.membership) (rests : NothingIsLeft r) (is : IsDeskOf c r.desk) (f : FitsEvent c mine s o (desk_of c r.desk) r.desk.waiting [] before) where
+    abbrev desk : Desk
+    desk = desk_of c r.desk
+
     abbrev past : List Entry
     past = after_outputs s (given mine before)
 
@@ -205,8 +208,7 @@ module _ (decide : SizesDecide) (r : JoinedData) (start : ℕ) (root frame : Lis
 
     on : events.Fits c mine s (desk_from low desk) (begun_log o.log its) (start_due desk its) (e ∷ given mine before)
     on =
-        new_views_fit c mine s desk o.log (given mine before) its frame (λ i. (rests.0 i).1)
-        (subst (λ (st : State). logs.committed_batch o.log (suc st.number) ≡ None) (sym is.state) rests.1) leads takes seen signed
+        new_views_fit c mine s desk o.log (given mine before) its frame (λ i. (rests.0 i).1) rests.1 leads takes seen signed
         (next_leaf_is_own frame o.spent past signs.by_leaf f.changes.leaves) f.fits
 
     changes : FitsChanges c mine (begun_log o.log its) (changes_of begun) (e ∷ past)
@@ -218,8 +220,8 @@ module _ (decide : SizesDecide) (r : JoinedData) (start : ℕ) (root frame : Lis
     numbers : FitsWaiting c mine begun (with_view k.calls r.desk.waiting) (desk_from low desk) (e ∷ past)
     numbers own =
         subst (λ (v : ℕ). FitsFlags c mine v begun.used (with_view k.calls r.desk.waiting) desk.state desk.waiting (e ∷ past)) (sym (begun_view o.log its is_log small))
-        (flags_begun c mine r.desk.waiting k.calls desk.state desk.waiting past e its is.waiting takes (logs_are_of_no_later_view c mine o.log past f.fits.of_log)
-        (calls_differ c r.desk.waiting.requests desk.waiting is.waiting is.differ) (k.are c (ap (λ m. m.clients) known ∙ sym clients)))
+        (flags_begun c mine r.desk.waiting k.calls desk.state past e its is.differ takes (logs_are_of_no_later_view c mine o.log past f.fits.of_log)
+        (k.are c (ap (λ m. m.clients) known ∙ sym clients)))
 
     gives : GivesOne c mine before said e
     gives = gives_one c mine before said says.output e says.given_is says.sends.sends (says.sends.meant c (NewView its) to signed)
@@ -232,11 +234,11 @@ module _ (decide : SizesDecide) (r : JoinedData) (start : ℕ) (root frame : Lis
     once = subst (λ (es : List Entry). Once (λ earlier x. taken c earlier x ≡ Some its) (after_outputs s es)) (sym gives.is) (inl takes)
 
     stands : PartsFitEvent c s n.orderer n.desk [] after
-    stands = begun_stands its (Some frame) (signing r) said n after k c s desk to one.0 is once fits
+    stands = begun_stands its (Some frame) (signing r) said n after k c s to one.0 is once fits
 
   pub own_view_begins : BeginsView r before n after
   own_view_begins = record {
-    stands = λ c s known rests st. stands c s st.desk known rests st.is (subst (λ (m : ℕ). FitsEvent c m s o st.desk r.desk.waiting [] before) one.0 st.fits);
+    stands = λ c s known rests st. stands c s known rests st.is (subst (λ (m : ℕ). FitsEvent c m s o (desk_of c r.desk) r.desk.waiting [] before) one.0 st.fits);
     party = let p = one_party its (Some frame) (signing r) said n after k in record { endpoint = p.endpoint; me = p.me; membership = p.membership };
     target = one_target its (Some frame) (signing r) said n after k;
     active = one_active its (Some frame) (signing r) said n after k is_log small;

@@ -34,13 +34,14 @@ use Rattle.desk.specs.declared.open_transfer.Taken.{Taken}
 use Rattle.replica.specs.declared.taking.Touched.TheVariants as touched
 use Rattle.replica.specs.State.{JoinedData, AreOne}
 use Rattle.desk.specs.State.{DeskData, OpenData}
-use Rattle.replica.specs.Desks.{given, FitsEvent, IsDeskOf, RestsAt}
+use Rattle.replica.specs.Desks.{given, FitsEvent}
 use Rattle.replica.specs.Entering.{event_of, TakesBytes}
 use Rattle.replica.specs.Fetching.{AsksOn, SaysFetch}
 use Rattle.desk.specs.Fetching.{fetch_of, with_transfer, TakesDigests, TakesPage}
-use Rattle.replica.specs.Joined.{Runs, me_of}
+use Rattle.replica.specs.Joined.{JoinedMatchesHistory, me_of}
 use Rattle.replica.specs.Saying.{Says}
 use Rattle.desk.specs.Transferring.{TakesDigestsOf, TakesPageOf, AsksPlace}
+use Rattle.desk.specs.DeskOf.{desk_of, RestsAt, IsDeskOf}
 use Rattle.replica.proofs.Beginning.{rests}
 use Rattle.replica.proofs.Beside.{IsBeside, changes_beside, heard_so, drops_beside, takes_none}
 use Rattle.replica.proofs.Fetched.{asked_number, asks_next}
@@ -65,31 +66,31 @@ told_with t levels.Page index digests digest h = told_below t levels.Page index 
 
 -- In the event that begins with the bytes, which are a part, this transfer may ask on. It has the open one's number. Up
 -- to here the event fits with that one open, and nothing else changed.
-pub record Comes (c : Configuration) (r : JoinedData) (past : List Entry) (runs : Runs c r past) (bytes : List ℕ) (n : OpenData) : Type 0 where
-  pub is : IsDeskOf c (with_transfer n r.desk) (record runs.desk { transfer = Some n.transfer })
+pub record Comes (c : Configuration) (r : JoinedData) (past : List Entry) (runs : JoinedMatchesHistory c r past) (bytes : List ℕ) (n : OpenData) : Type 0 where
+  pub is : IsDeskOf c (with_transfer n r.desk)
   pub open_one : Option TransferData
-  pub fits : FitsEvent c (me_of r) (event_of c r past runs bytes) r.orderer (record runs.desk { transfer = open_one }) r.desk.waiting [] []
-  pub may : MayAsk c (me_of r) n.transfer runs.desk.state.number (Got (me_of r) bytes ∷ past)
+  pub fits : FitsEvent c (me_of r) (event_of c r past runs bytes) r.orderer (record (desk_of c r.desk) { transfer = open_one }) r.desk.waiting [] []
+  pub may : MayAsk c (me_of r) n.transfer r.desk.executed.state.number (Got (me_of r) bytes ∷ past)
   pub told : IsTold n.transfer
   pub taken : IsTaken c (me_of r) (event_of c r past runs bytes)
   pub was : TransferData
-  pub is_open : runs.desk.transfer ≡ Some was
+  pub is_open : (desk_of c r.desk).transfer ≡ Some was
   pub number : n.transfer.number ≡ was.number
   pub body : Body
   pub heard_is : heard (members c) (me_of r) bytes ≡ Some body
   pub part : is_part body ≡ true
 
 -- after the bytes it is open
-abbrev pub IsOpen : (c : Configuration) (r : JoinedData) (past : List Entry) → Runs c r past → List ℕ → OpenData → Type 0
-IsOpen c r past runs bytes n = FitsOpen c (me_of r) (Some n.transfer) runs.desk.state.number (Got (me_of r) bytes ∷ past)
+abbrev pub IsOpen : (c : Configuration) (r : JoinedData) (past : List Entry) → JoinedMatchesHistory c r past → List ℕ → OpenData → Type 0
+IsOpen c r past runs bytes n = FitsOpen c (me_of r) (Some n.transfer) r.desk.executed.state.number (Got (me_of r) bytes ∷ past)
 
 module _ (r : JoinedData) (one : AreOne r.orderer r.desk) (bytes : List ℕ) (sender : ℕ) (o n : OpenData) (there : r.desk.transfer ≡ Some o) (c : Configuration) (past : List Entry)
-    (runs : Runs c r past) (known : members c ≡ r.desk.membership) where
+    (runs : JoinedMatchesHistory c r past) (known : members c ≡ r.desk.membership) where
   abbrev me : ℕ
   me = me_of r
 
-  open_there : runs.desk.transfer ≡ Some o.transfer
-  open_there = runs.is_desk.transfer ∙ ap (option_map (λ (x : OpenData). x.transfer)) there
+  open_there : (desk_of c r.desk).transfer ≡ Some o.transfer
+  open_there = ap (option_map (λ (x : OpenData). x.transfer)) there
 
   -- the event that begins with a received part, from which the transfer has this
   module _ (message : Message) (t : TransferData) (n_is : n ≡ record o { transfer = t }) (hears : heard r.desk.membership r.desk.me bytes ≡ Some (record { sender = sender; message = message })) where
@@ -97,18 +98,14 @@ module _ (r : JoinedData) (one : AreOne r.orderer r.desk) (bytes : List ℕ) (se
     body = record { sender = sender; message = message }
 
     comes : is_part body ≡ true → t.number ≡ o.transfer.number → new_view_from c body ≡ None → IsNoChange (Some body) → (RestsOnState o.transfer r.desk.executed.state → RestsOnState t r.desk.executed.state) → Counts c me past runs.holds.of_desk.point bytes sender message
-        → (open_one : Option TransferData) → histories.Fits c me (event_of c r past runs bytes) (record runs.desk { transfer = open_one }) r.orderer.log [] []
-        → MayAsk c me t runs.desk.state.number (Got me bytes ∷ past) → IsTold t → Comes c r past runs bytes n
+        → (open_one : Option TransferData) → histories.Fits c me (event_of c r past runs bytes) (record (desk_of c r.desk) { transfer = open_one }) r.orderer.log [] []
+        → MayAsk c me t r.desk.executed.state.number (Got me bytes ∷ past) → IsTold t → Comes c r past runs bytes n
     comes part number views changes rests counts open_one fits may told = subst (Comes c r past runs bytes) (sym n_is) (record {
       is = record {
         members_are = runs.is_desk.members_are;
         period_is = runs.is_desk.period_is;
-        state = runs.is_desk.state;
-        snapshots = runs.is_desk.snapshots;
-        transfer = refl;
         rests = λ x e. subst (RestsAt r.desk.executed.state) (some_injective (record o { transfer = t }) x e) (let at = runs.is_desk.rests o there in (at.0, λ same. rests (at.1 same)));
-        frames = runs.is_desk.frames;
-        waiting = runs.is_desk.waiting;
+        calls = runs.is_desk.calls;
         differ = runs.is_desk.differ;
       };
       open_one = open_one;
@@ -116,10 +113,10 @@ module _ (r : JoinedData) (one : AreOne r.orderer r.desk) (bytes : List ℕ) (se
       told = told;
       fits = record {
         fits = fits;
-        numbers = numbers_beside c me r.desk.waiting r.orderer runs.desk past (Got me bytes) runs.holds.of_log.fits.faults runs.holds.of_log.fits.own
+        numbers = numbers_beside c me r.desk.waiting r.orderer (desk_of c r.desk) past (Got me bytes) runs.holds.of_log.fits.faults runs.holds.of_log.fits.own
             (record { here = refl; none = takes_none r one c past runs bytes body known hears views; sends = refl }) runs.numbers;
         said = said_on me r.orderer.last_checkpoint past (Got me bytes) runs.said;
-        changes = changes_beside r one c past runs bytes body known hears (record runs.desk { transfer = open_one }) [] views changes fits;
+        changes = changes_beside r one c past runs bytes body known hears (record (desk_of c r.desk) { transfer = open_one }) [] views changes fits;
         meant = tt;
       };
       taken = (body, heard_so r one c past runs bytes body known hears, counts);
@@ -154,15 +151,15 @@ module _ (r : JoinedData) (one : AreOne r.orderer r.desk) (bytes : List ℕ) (se
 
     pub digests_come : Comes c r past runs bytes n
     digests_come =
-        let enters = digests_enter c me runs.desk r.orderer.log past o.transfer sender place meta.digests.items bytes runs.holds open_there heard_here wants in
+        let enters = digests_enter c me (desk_of c r.desk) r.orderer.log past o.transfer sender place meta.digests.items bytes runs.holds open_there heard_here wants in
         comes told (with_digests o.transfer place meta.digests.items) n_is_told heard_told refl (digests_keep o.transfer meta.level meta.index meta.digests.items).0 refl tt (digests_rest o.transfer r.desk.executed.state place meta.digests.items)
-        (asked_digests_count c me runs.desk r.orderer.log past o.transfer sender place meta.digests.items bytes runs.holds open_there takes.1 wants)
+        (asked_digests_count c me (desk_of c r.desk) r.orderer.log past o.transfer sender place meta.digests.items bytes runs.holds open_there takes.1 wants)
         (Some (with_digests o.transfer place meta.digests.items)) enters.0 enters.1 (told_with o.transfer meta.level meta.index meta.digests.items (digest_of_children meta.digests.items) wants)
 
     pub digests_stay : IsOpen c r past runs bytes n
     digests_stay = subst (IsOpen c r past runs bytes) (sym n_is_told)
-        (digests_open c me o.transfer runs.desk.state.number past bytes sender o.transfer.number place meta.digests.items heard_here wants
-        (subst (λ (t : Option TransferData). FitsOpen c me t runs.desk.state.number past) open_there runs.holds.of_desk.opened))
+        (digests_open c me o.transfer r.desk.executed.state.number past bytes sender o.transfer.number place meta.digests.items heard_here wants
+        (subst (λ (t : Option TransferData). FitsOpen c me t r.desk.executed.state.number past) open_there runs.holds.of_desk.opened))
 
   -- a page is taken
   pub page_comes : (page : Page) (replaced : Taken) → heard r.desk.membership r.desk.me bytes ≡ Some (record { sender = sender; message = PageMessage page.number.0 page.index page.text.items })
@@ -171,15 +168,15 @@ module _ (r : JoinedData) (one : AreOne r.orderer r.desk) (bytes : List ℕ) (se
       let text = page.text.items in
       let heard_it = subst (λ (k : ℕ). heard r.desk.membership r.desk.me bytes ≡ Some (record { sender = sender; message = PageMessage k page.index text })) number hears in
       let message = PageMessage o.transfer.number page.index text in
-      let enters = pages_enter c me runs.desk r.orderer.log past o.transfer sender page.index text bytes runs.holds open_there asked
+      let enters = pages_enter c me (desk_of c r.desk) r.orderer.log past o.transfer sender page.index text bytes runs.holds open_there asked
       (heard_so r one c past runs bytes (record { sender = sender; message = message }) known heard_it) all.0 all.1 in
       comes message (with_page o.transfer page.index text) n_is heard_it refl refl refl tt (pages_rest o.transfer r.desk.executed.state page.index text all.1 below)
-      (asked_pages_count c me runs.desk r.orderer.log past o.transfer sender page.index text bytes runs.holds open_there asked wants)
-      runs.desk.transfer enters.0 enters.1 (told_below o.transfer levels.Page page.index (sha256 text) wants (λ same. cc))
+      (asked_pages_count c me (desk_of c r.desk) r.orderer.log past o.transfer sender page.index text bytes runs.holds open_there asked wants)
+      (desk_of c r.desk).transfer enters.0 enters.1 (told_below o.transfer levels.Page page.index (sha256 text) wants (λ same. cc))
 
 -- If more is to be fetched then, the event asks for it.
 module _ (r : JoinedData) (one : AreOne r.orderer r.desk) (bytes : List ℕ) (n : OpenData)
-    (comes : (c : Configuration) (past : List Entry) (runs : Runs c r past) → members c ≡ r.desk.membership → Comes c r past runs bytes n) where
+    (comes : (c : Configuration) (past : List Entry) (runs : JoinedMatchesHistory c r past) → members c ≡ r.desk.membership → Comes c r past runs bytes n) where
   -- the fetch is sent
   fetch_given : (c : Configuration) → members c ≡ r.orderer.endpoint.membership → (m : OpenData) (outs : List Output) → Says r.orderer (fetch_of m.transfer) [] outs → (k : ℕ) → m.transfer.number ≡ k
       → Has (λ e. fetch_sent e ≡ k) (given (me_of r) outs)
@@ -194,17 +191,16 @@ module _ (r : JoinedData) (one : AreOne r.orderer r.desk) (bytes : List ℕ) (n 
     party = record { endpoint = refl; me = refl; membership = refl };
     begins = λ c past runs known.
         let came = comes c past runs known in
-        let asked = asks_next c (event_of c r past runs bytes) r.orderer (with_transfer n r.desk) (record runs.desk { transfer = Some n.transfer }) r.desk.waiting n [] refl came.is came.open_one came.fits came.may came.told tt m place outs
+        let asked = asks_next c (event_of c r past runs bytes) r.orderer (with_transfer n r.desk) r.desk.waiting n [] refl came.is came.open_one came.fits came.may came.told tt m place outs
         (known ∙ one.1) asks says in (
           record {
-            desk = record runs.desk { transfer = Some m.transfer };
             is = asked.0;
-            fits = subst (λ (x : ℕ). FitsEvent c x (event_of c r past runs bytes) r.orderer (record runs.desk { transfer = Some m.transfer }) r.desk.waiting [] outs) (sym one.0) asked.1;
+            fits = subst (λ (x : ℕ). FitsEvent c x (event_of c r past runs bytes) r.orderer (desk_of c (with_transfer m r.desk)) r.desk.waiting [] outs) (sym one.0) asked.1;
           },
           (
             rests c r past runs,
             runs.all,
-            fetches_suffice c (me_of r) runs.desk r.orderer.log past came.was came.body bytes (given (me_of r) outs) r.desk.executed.state.number runs.holds came.is_open came.heard_is came.part
+            fetches_suffice c (me_of r) (desk_of c r.desk) r.orderer.log past came.was came.body bytes (given (me_of r) outs) r.desk.executed.state.number runs.holds came.is_open came.heard_is came.part
                 (fetch_given c (known ∙ one.1) m outs says came.was.number (asked_number r.desk.executed.state n m (Some place) asks ∙ came.number)),
             inr came.taken,
           ),
@@ -228,15 +224,15 @@ module _ (r : JoinedData) (one : AreOne r.orderer r.desk) (bytes : List ℕ) (n 
 module _ (r : JoinedData) (one : AreOne r.orderer r.desk) (bytes : List ℕ) (sender : ℕ) (desk : DeskData) (outs : List Output) where
   -- an input to which the replica owes nothing is dropped, with the same desk
   dropped : (message : Message) → heard r.desk.membership r.desk.me bytes ≡ Some (record { sender = sender; message = message }) → ((c : Configuration) → IsBeside c (record { sender = sender; message = message }))
-      → ((c : Configuration) (past : List Entry) (runs : Runs c r past) → members c ≡ r.desk.membership → AnswersInput c (me_of r) past (Got (me_of r) bytes) [] runs.holds.of_desk.point r.desk.executed.state.number)
+      → ((c : Configuration) (past : List Entry) (runs : JoinedMatchesHistory c r past) → members c ≡ r.desk.membership → AnswersInput c (me_of r) past (Got (me_of r) bytes) [] runs.holds.of_desk.point r.desk.executed.state.number)
       → desk ≡ r.desk → outs ≡ [] → TakesBytes bytes r touched.Nothing (record r { desk = desk }) outs
   dropped message hears beside answers same silent =
       subst (λ (os : List Output). TakesBytes bytes r touched.Nothing (record r { desk = desk }) os) (sym silent)
       (subst (λ (d : DeskData). TakesBytes bytes r touched.Nothing (record r { desk = d }) []) (sym same) (drops_beside r one bytes (record { sender = sender; message = message }) hears beside answers))
 
   -- the transfer that is open is the one at the desk
-  of_open : (c : Configuration) (past : List Entry) (runs : Runs c r past) (P : TransferData → Type 0) → ((o : OpenData) → r.desk.transfer ≡ Some o → P o.transfer) → (t : TransferData) → runs.desk.transfer ≡ Some t → P t
-  of_open c past runs P each t there = go r.desk.transfer refl (sym runs.is_desk.transfer ∙ there)
+  of_open : (c : Configuration) (past : List Entry) (runs : JoinedMatchesHistory c r past) (P : TransferData → Type 0) → ((o : OpenData) → r.desk.transfer ≡ Some o → P o.transfer) → (t : TransferData) → (desk_of c r.desk).transfer ≡ Some t → P t
+  of_open c past runs P each t there = go r.desk.transfer refl there
     where
       go : (x : Option OpenData) → r.desk.transfer ≡ x → option_map (λ (y : OpenData). y.transfer) x ≡ Some t → P t
       go None e f = absurd cc
@@ -247,7 +243,7 @@ module _ (r : JoinedData) (one : AreOne r.orderer r.desk) (bytes : List ℕ) (se
   digests_dropped meta hears (same, others) silent =
       dropped (MetaMessage meta.number.0 meta.level meta.index meta.digests.items) hears (λ c. record { log = tt; call = refl; asks = λ st. refl; views = refl; changes = tt })
       (λ c past runs known.
-      other_digests_owe_none c (me_of r) runs.desk r.orderer.log past sender meta.number.0 r.desk.executed.state.number (record { level = meta.level; index = meta.index }) meta.digests.items bytes [] runs.holds
+      other_digests_owe_none c (me_of r) (desk_of c r.desk) r.orderer.log past sender meta.number.0 r.desk.executed.state.number (record { level = meta.level; index = meta.index }) meta.digests.items bytes [] runs.holds
       (heard_so r one c past runs bytes (record { sender = sender; message = MetaMessage meta.number.0 meta.level meta.index meta.digests.items }) known hears)
       (of_open c past runs (λ t. IsOther t meta.number.0 (record { level = meta.level; index = meta.index }) (digest_of_children meta.digests.items)) others)) same silent
 
@@ -256,14 +252,14 @@ module _ (r : JoinedData) (one : AreOne r.orderer r.desk) (bytes : List ℕ) (se
   page_dropped page hears (same, others) silent =
       dropped (PageMessage page.number.0 page.index page.text.items) hears (λ c. record { log = tt; call = refl; asks = λ st. refl; views = refl; changes = tt })
       (λ c past runs known.
-      other_pages_owe_none c (me_of r) runs.desk r.orderer.log past sender page.number.0 page.index r.desk.executed.state.number page.text.items bytes [] runs.holds
+      other_pages_owe_none c (me_of r) (desk_of c r.desk) r.orderer.log past sender page.number.0 page.index r.desk.executed.state.number page.text.items bytes [] runs.holds
       (heard_so r one c past runs bytes (record { sender = sender; message = PageMessage page.number.0 page.index page.text.items }) known hears)
       (of_open c past runs (λ t. IsOther t page.number.0 (page_place page.index) (sha256 page.text.items)) others)) same silent
 
   module _ (before : List Output) (first : before ≡ []) (new : JoinedData) (asks : AsksOn (record r { desk = desk }) before new outs true) where
     -- the transfer takes it, and asks for more after it
     asked : (n : OpenData) → desk ≡ with_transfer n r.desk
-        → ((c : Configuration) (past : List Entry) (runs : Runs c r past) → members c ≡ r.desk.membership → Comes c r past runs bytes n) → TakesBytes bytes r touched.Nothing new outs
+        → ((c : Configuration) (past : List Entry) (runs : JoinedMatchesHistory c r past) → members c ≡ r.desk.membership → Comes c r past runs bytes n) → TakesBytes bytes r touched.Nothing new outs
     asked n desk_is comes = asks_on r one bytes n comes new outs (subst (λ (d : DeskData). AsksOn (record r { desk = d }) [] new outs true) desk_is (subst (λ (os : List Output). AsksOn (record r { desk = desk }) os new outs true) first asks))
 
     pub digests_asked : (meta : Meta) → heard r.desk.membership r.desk.me bytes ≡ Some (record { sender = sender; message = MetaMessage meta.number.0 meta.level meta.index meta.digests.items })

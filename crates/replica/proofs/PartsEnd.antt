@@ -17,7 +17,6 @@ use Rattle.replica_histories.proofs.Transfers.{pages_give_back}
 use Rattle.replica_histories.specs.Events.{IsTaken}
 use Rattle.replica_histories.specs.Fetching.{Reaches}
 use Rattle.replica_histories.specs.Questions.{AnswersInput}
-use Rattle.replica_histories.specs.Transfers.{RestsOnState}
 use Rattle.replica_histories.proofs.PartsOwed.{fetched_suffice}
 use Rattle.desk.specs.declared.open_transfer.Taken.{Taken}
 use Rattle.replica.specs.declared.taking.Touched.TheVariants as touched
@@ -27,9 +26,10 @@ use Rattle.replica.specs.Desks.{FitsEvent}
 use Rattle.replica.specs.Entering.{event_of, IsAnswered, TakesBytes, TakesMessage}
 use Rattle.replica.specs.Fetching.{AsksOn, InstallsFetched}
 use Rattle.desk.specs.Fetching.{CannotInstall, GivesBack, TakesDigests, TakesPage, with_transfer}
-use Rattle.replica.specs.Joined.{Runs, me_of}
+use Rattle.replica.specs.Joined.{JoinedMatchesHistory, me_of}
 use Rattle.replica.specs.Going.{IsOneParty, IsSameParty}
 use Rattle.desk.specs.Transferring.{AsksPlace, IsRestedAt, TakesPageOf}
+use Rattle.desk.specs.DeskOf.{desk_of}
 use Rattle.replica.proofs.Beginning.{rests}
 use Rattle.replica.proofs.Beside.{drops_beside}
 use Rattle.replica.proofs.Fetched.{asked_long, asked_number, rests_now}
@@ -68,27 +68,27 @@ rested_so r n a outs (desk, inr (o, m, there, desk_is, asks, root), new_is, give
 )
 
 module _ (r : JoinedData) (one : AreOne r.orderer r.desk) (bytes : List ℕ) (n m : OpenData)
-    (comes : (c : Configuration) (past : List Entry) (runs : Runs c r past) → members c ≡ r.desk.membership → Comes c r past runs bytes n)
+    (comes : (c : Configuration) (past : List Entry) (runs : JoinedMatchesHistory c r past) → members c ≡ r.desk.membership → Comes c r past runs bytes n)
     (a b : JoinedData) (mid outs : List Output) (f : Rested r n m a mid) where
-  fetched : (c : Configuration) (past : List Entry) (runs : Runs c r past) → members c ≡ r.desk.membership
-      → IsFetched c (event_of c r past runs bytes) (holding m r) (record runs.desk { transfer = Some m.transfer }) m []
+  fetched : (c : Configuration) (past : List Entry) (runs : JoinedMatchesHistory c r past) → members c ≡ r.desk.membership
+      → IsFetched c (event_of c r past runs bytes) (holding m r) m []
   fetched c past runs known =
       let k = comes c past runs known in
-      let now = rests_now c (event_of c r past runs bytes) r.orderer (with_transfer n r.desk) (record runs.desk { transfer = Some n.transfer }) r.desk.waiting n [] refl k.is k.open_one k.fits k.may k.told tt m f.asks in
+      let now = rests_now c (event_of c r past runs bytes) r.orderer (with_transfer n r.desk) r.desk.waiting n [] refl k.is k.open_one k.fits k.may k.told tt m f.asks in
       record { is_open = refl; is = now.0; open_one = k.open_one; fits = k.fits; may = now.1; rests = now.2; root = f.root }
 
   -- The replica owes nothing to the part, if pages of a state that can be installed imply that the number is reached.
-  whole : (c : Configuration) (past : List Entry) (runs : Runs c r past) → members c ≡ r.desk.membership → (given : List Entry) (executed : ℕ) → Reaches r.desk.executed.state m.transfer executed
+  whole : (c : Configuration) (past : List Entry) (runs : JoinedMatchesHistory c r past) → members c ≡ r.desk.membership → (given : List Entry) (executed : ℕ) → Reaches r.desk.executed.state m.transfer executed
       → AnswersInput c (me_of r) past (Got (me_of r) bytes) given runs.holds.of_desk.point executed
   whole c past runs known given executed reaches =
       let k = comes c past runs known in
       let g = fetched c past runs known in
-      fetched_suffice c (me_of r) runs.desk r.orderer.log past k.was m.transfer k.body bytes given executed runs.holds k.is_open k.heard_is k.part (asked_number r.desk.executed.state n m None f.asks ∙ k.number) g.may
-      (subst (λ (st : State). RestsOnState m.transfer st) (sym runs.is_desk.state) g.rests) (asked_long r.desk.executed.state n m None f.asks) f.root
-      (subst (λ (st : State). Reaches st m.transfer executed) (sym runs.is_desk.state) reaches)
+      fetched_suffice c (me_of r) (desk_of c r.desk) r.orderer.log past k.was m.transfer k.body bytes given executed runs.holds k.is_open k.heard_is k.part (asked_number r.desk.executed.state n m None f.asks ∙ k.number) g.may
+      g.rests (asked_long r.desk.executed.state n m None f.asks) f.root
+      reaches
 
   -- no state can be installed
-  pub none_owed : CannotInstall a.desk → (c : Configuration) (past : List Entry) (runs : Runs c r past) → members c ≡ r.desk.membership
+  pub none_owed : CannotInstall a.desk → (c : Configuration) (past : List Entry) (runs : JoinedMatchesHistory c r past) → members c ≡ r.desk.membership
       → AnswersInput c (me_of r) past (Got (me_of r) bytes) [] runs.holds.of_desk.point r.desk.executed.state.number
   none_owed cannot c past runs known =
       whole c past runs known [] r.desk.executed.state.number
@@ -100,7 +100,7 @@ module _ (r : JoinedData) (one : AreOne r.orderer r.desk) (bytes : List ℕ) (n 
     party = party;
     begins = λ c past runs known.
         let on = taken_on c past runs known in
-        let stands = installs_fetched c (event_of c r past runs bytes) (holding m r) b (record runs.desk { transfer = Some m.transfer }) m [] outs one (fetched c past runs known) (rests c r past runs).0 here in (
+        let stands = installs_fetched c (event_of c r past runs bytes) (holding m r) b m [] outs one (fetched c past runs known) (rests c r past runs).0 here in (
           stands.0,
           (stands.1, on.0, on.1),
           begun_same c r.orderer b.orderer (parties_twice r (holding m r) b (same_holding r m) (moved_party (holding m r) b m [] outs refl here)).orderer runs.begun,
@@ -116,7 +116,7 @@ module _ (r : JoinedData) (one : AreOne r.orderer r.desk) (bytes : List ℕ) (n 
       party : IsOneParty r b
       party = one_of_same r b (parties_twice r (holding m r) b (same_holding r m) (moved_party (holding m r) b m [] outs refl here))
 
-      taken_on : (c : Configuration) (past : List Entry) (runs : Runs c r past) → members c ≡ r.desk.membership
+      taken_on : (c : Configuration) (past : List Entry) (runs : JoinedMatchesHistory c r past) → members c ≡ r.desk.membership
           → IsTaken c (me_of b) (event_of c r past runs bytes) × IsAnswered c (me_of b) (event_of c r past runs bytes) b.desk.executed.state.number
       taken_on c past runs known =
           subst (λ (k : ℕ). IsTaken c k (event_of c r past runs bytes) × IsAnswered c k (event_of c r past runs bytes) b.desk.executed.state.number) (sym (ap (λ e. e.me) party.endpoint)) (
@@ -125,7 +125,7 @@ module _ (r : JoinedData) (one : AreOne r.orderer r.desk) (bytes : List ℕ) (n 
           )
 
   -- it is none, and the open transfer stays
-  pub none_comes : ((c : Configuration) (past : List Entry) (runs : Runs c r past) → members c ≡ r.desk.membership → IsOpen c r past runs bytes n)
+  pub none_comes : ((c : Configuration) (past : List Entry) (runs : JoinedMatchesHistory c r past) → members c ≡ r.desk.membership → IsOpen c r past runs bytes n)
       → InstallsFetched a mid b outs false → TakesBytes bytes r touched.Nothing b outs
   none_comes opened (same, none, cannot) =
       subst (λ (x : JoinedData). TakesBytes bytes r touched.Nothing x outs) (sym (same ∙ f.new_is))
@@ -133,11 +133,10 @@ module _ (r : JoinedData) (one : AreOne r.orderer r.desk) (bytes : List ℕ) (n 
         party = one_of_same r (holding m r) (same_holding r m);
         begins = λ c past runs known.
             let k = comes c past runs known in
-            let now = rests_now c (event_of c r past runs bytes) r.orderer (with_transfer n r.desk) (record runs.desk { transfer = Some n.transfer }) r.desk.waiting n [] refl k.is k.open_one k.fits k.may k.told tt m f.asks in (
+            let now = rests_now c (event_of c r past runs bytes) r.orderer (with_transfer n r.desk) r.desk.waiting n [] refl k.is k.open_one k.fits k.may k.told tt m f.asks in (
               record {
-                desk = record runs.desk { transfer = Some m.transfer };
                 is = now.0;
-                fits = subst (λ (k : ℕ). FitsEvent c k (event_of c r past runs bytes) r.orderer (record runs.desk { transfer = Some m.transfer }) r.desk.waiting [] []) (sym one.0) (now.3 (opened c past runs known));
+                fits = subst (λ (k : ℕ). FitsEvent c k (event_of c r past runs bytes) r.orderer (desk_of c (with_transfer m r.desk)) r.desk.waiting [] []) (sym one.0) (now.3 (opened c past runs known));
               },
               (
                 rests c r past runs,
@@ -188,7 +187,7 @@ desk_back d e o m back there same (inr (k, x, is_open, e_is, gives)) =
 -- So is the replica, and it drops the page.
 pub page_back : (r : JoinedData) (one : AreOne r.orderer r.desk) (sender : ReplicaId) (page : Page) (bytes : List ℕ) (o n m : OpenData) (back : Taken) (a b : JoinedData) (d : DeskData) (mid outs : List Output)
     → heard r.desk.membership r.desk.me bytes ≡ Some (record { sender = sender.0; message = PageMessage page.number.0 page.index page.text.items })
-    → ((c : Configuration) (past : List Entry) (runs : Runs c r past) → members c ≡ r.desk.membership → AnswersInput c (me_of r) past (Got (me_of r) bytes) [] runs.holds.of_desk.point r.desk.executed.state.number)
+    → ((c : Configuration) (past : List Entry) (runs : JoinedMatchesHistory c r past) → members c ≡ r.desk.membership → AnswersInput c (me_of r) past (Got (me_of r) bytes) [] runs.holds.of_desk.point r.desk.executed.state.number)
     → r.desk.transfer ≡ Some o → TakesPageOf o page n (Some back) → Rested r n m a mid → InstallsFetched a mid b outs false → GivesBack b.desk back d
     → TakesBytes bytes r touched.Nothing (record b { desk = d }) outs
 page_back r one sender page bytes o n m back a b d mid outs hears answers there takes f (same, none, cannot) gives =
@@ -212,8 +211,8 @@ module _ (r : JoinedData) (one : AreOne r.orderer r.desk) (sender : ReplicaId) (
     (asks : AsksOn (record r { desk = d }) [] a mid false) where
   digests_so : (bytes : List ℕ) → heard r.desk.membership r.desk.me bytes ≡ Some (record { sender = sender.0; message = MetaMessage meta.number.0 meta.level meta.index meta.digests.items })
       → (n : OpenData) × (m : OpenData) × Rested r n m a mid
-      × ((c : Configuration) (past : List Entry) (runs : Runs c r past) → members c ≡ r.desk.membership → Comes c r past runs bytes n)
-      × ((c : Configuration) (past : List Entry) (runs : Runs c r past) → members c ≡ r.desk.membership → IsOpen c r past runs bytes n)
+      × ((c : Configuration) (past : List Entry) (runs : JoinedMatchesHistory c r past) → members c ≡ r.desk.membership → Comes c r past runs bytes n)
+      × ((c : Configuration) (past : List Entry) (runs : JoinedMatchesHistory c r past) → members c ≡ r.desk.membership → IsOpen c r past runs bytes n)
   digests_so bytes hears =
       let there = takes.2 in
       let now = rested_so r takes.1 a mid (subst (λ (x : DeskData). AsksOn (record r { desk = x }) [] a mid false) takes.3 asks) in (

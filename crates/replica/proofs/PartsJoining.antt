@@ -16,7 +16,7 @@ use Rattle.protocol.specs.System.Trace.{Entry, Once, Has, either}
 use Rattle.protocol.specs.System.Trace.Entry.{Got, Sent}
 use Rattle.protocol.specs.Replica.RightReplica.{SendsBytes, SentBefore, HasSeen, IsFree}
 use Rattle.protocol.specs.Replica.Certificates.{target, view, taken, is_later, low, is_in_marks, logged, prepare_of, commit_of, Prepared, Committed}
-use Rattle.protocol.specs.Replica.State.{State, Call}
+use Rattle.protocol.specs.Replica.State.{Call}
 use Rattle.protocol.specs.Replica.Owed.{IsSaying, BeginsViewWith, BringsChange, HasLatestChange, HasBatch, CanBeginView, AreKeysSpent, StartsAhead}
 use Rattle.claims.specs.ClaimsView.{ClaimsData}
 use Rattle.view_change.specs.ReceivedData.{HeldData}
@@ -39,11 +39,12 @@ use Rattle.replica.proofs.SameWords.{words_same, taken_same}
 use Rattle.protocol.specs.System.Reads.{without_reads}
 use Rattle.replica.specs.State.{OrdererData}
 use Rattle.desk.specs.State.{DeskData}
+use Rattle.desk.specs.DeskOf.{waiting_calls, desk_of}
 use Rattle.replica.specs.Desks.{FitsWaiting, WasSaid, changes_of}
 use Rattle.replica.specs.Flags.{FitsFlags, flagged}
 use Rattle.replica.specs.Numbering.{next_number, IsAllNumbered}
 use Rattle.replica.specs.Joined.{joined, me_of}
-use Rattle.replica.specs.Parted.{HoldsDesk, HoldsOrderer, IsUsed}
+use Rattle.replica.specs.Parted.{DeskMatchesHistory, OrdererMatchesHistory, IsUsed}
 use Rattle.replica.specs.PartedLaws.{PartsJoin, HoldsPart}
 use Rattle.replica.specs.Changing.{AreChanges}
 use Rattle.replica.proofs.Flags.{count_same as flags_count}
@@ -360,7 +361,7 @@ none_left c me v history (w ∷ ws) right all = go w.numbered right.0 (none_left
 
 -- ---- together
 
-module _ (c : Configuration) (o : OrdererData) (d : DeskData) (h : List Entry) (hd : HoldsDesk c o.endpoint.me d h) (ho : HoldsOrderer c o.endpoint.me o (without_reads h)) where
+module _ (c : Configuration) (o : OrdererData) (d : DeskData) (h : List Entry) (hd : DeskMatchesHistory c o.endpoint.me d h) (ho : OrdererMatchesHistory c o.endpoint.me o (without_reads h)) where
   abbrev me : ℕ
   me = o.endpoint.me
 
@@ -370,20 +371,20 @@ module _ (c : Configuration) (o : OrdererData) (d : DeskData) (h : List Entry) (
   fits : FitsLog c me o.log h
   fits = log_joins c me (without_reads h) h p o.log ho.holds.fits
 
-  holds : histories.Holds c me hd.desk o.log h
+  holds : histories.Holds c me (desk_of c d) o.log h
   holds = record {
     of_desk = hd.holds;
     of_log = record { fits = fits; prepares = ho.holds.prepares; commits = ho.holds.commits };
-    low = subst (λ (n : ℕ). histories.IsReached c me n hd.desk.state.number [] h) fits.low hd.low;
+    low = subst (λ (n : ℕ). histories.IsReached c me n d.executed.state.number [] h) fits.low hd.low;
   }
 
-  numbered : FitsWaiting c me o d.waiting hd.desk h
+  numbered : FitsWaiting c me o d.waiting (desk_of c d) h
   numbered own =
       let mine : primary c (view c h) ≡ me = ap (primary c) fits.view ∙ sym (primary_same c o.log o.log.view fits.faults) ∙ own ∙ fits.own in
       let f = hd.flags mine in
       let s = words_same c me (without_reads h) h p in
       let u = used_over c me o.used (without_reads h) h s (ho.used (ap (primary c) (sym s.view) ∙ mine)) in
-      subst (λ (v : ℕ). FitsFlags c me v o.used d.waiting hd.desk.state hd.desk.waiting h) fits.view
+      subst (λ (v : ℕ). FitsFlags c me v o.used d.waiting d.executed.state (waiting_calls c d.waiting.requests) h) fits.view
       (record { calls = f.1.calls; free = u.free; full = u.full; rightly = f.1.rightly; numbered = f.1.numbered; known = f.1.known; differ = f.1.differ })
 
   all : IsAllNumbered (joined o d)
@@ -394,20 +395,19 @@ module _ (c : Configuration) (o : OrdererData) (d : DeskData) (h : List Entry) (
       subst (λ (l : ℕ). (nat_lt l n && nat_le n (l + span c) && nat_lt n (2 ^ 48)) ≡ true) (sym fits.low)
       (subst (λ (k : ℕ). (nat_lt o.log.low n && nat_le n (o.log.low + k) && nat_lt n (2 ^ 48)) ≡ true) fits.span marks) in
       let same : low c me h ≡ o.log.low = fits.low in
-      let free : IsFree c me h hd.desk.state.number o.log.view n = record {
+      let free : IsFree c me h d.executed.state.number o.log.view n = record {
         in_marks = in_marks;
-        near = subst (λ (st : State). n ≤ st.number + 2) (sym hd.is_desk.state) near;
+        near = near;
         used = λ j above below. f.full j above (omega (arith, above, below, same));
         unused = λ j above. f.free j (omega (arith, above));
       } in
-      let settled = held_are_settled c me hd.desk o.log h holds in
-      flags_count c d.waiting hd.desk.waiting hd.is_desk.waiting
-      ∙ ap (λ (ws : List numbers.Waiting). length ws) (none_left c me o.log.view h (flagged d.waiting.requests hd.desk.waiting) f.rightly
+      let settled = held_are_settled c me (desk_of c d) o.log h holds in
+      flags_count c d.waiting
+      ∙ ap (λ (ws : List numbers.Waiting). length ws) (none_left c me o.log.view h (flagged c d.waiting.requests) f.rightly
       (λ call has. settled.numbers n call active own (subst (λ (xs : List Call). Has (λ x. x ≡ call) xs) f.calls has) free))
 
 pub parts_join : PartsJoin
 parts_join c o d h one hd ho = record {
-  desk = hd.desk;
   is_desk = hd.is_desk;
   holds = holds c o d h hd ho;
   numbers = numbered c o d h hd ho;
@@ -422,10 +422,9 @@ parts_join c o d h one hd ho = record {
 pub holds_part : HoldsPart
 holds_part c r h one are runs = (
   record {
-    desk = runs.desk;
     is_desk = runs.is_desk;
     holds = runs.holds.of_desk;
-    low = subst (λ (n : ℕ). histories.IsReached c me n runs.desk.state.number [] h) (sym fits.low) runs.holds.low;
+    low = subst (λ (n : ℕ). histories.IsReached c me n r.desk.executed.state.number [] h) (sym fits.low) runs.holds.low;
     flags = λ mine. (r.orderer.used, flags mine);
   },
   record {
@@ -450,6 +449,6 @@ holds_part c r h one are runs = (
     fits : FitsLog c me r.orderer.log h
     fits = runs.holds.of_log.fits
 
-    flags : primary c (view c h) ≡ me → FitsFlags c me (view c h) r.orderer.used r.desk.waiting runs.desk.state runs.desk.waiting h
-    flags mine = subst (λ (v : ℕ). FitsFlags c me v r.orderer.used r.desk.waiting runs.desk.state runs.desk.waiting h) (sym fits.view)
+    flags : primary c (view c h) ≡ me → FitsFlags c me (view c h) r.orderer.used r.desk.waiting r.desk.executed.state (waiting_calls c r.desk.waiting.requests) h
+    flags mine = subst (λ (v : ℕ). FitsFlags c me v r.orderer.used r.desk.waiting r.desk.executed.state (waiting_calls c r.desk.waiting.requests) h) (sym fits.view)
         (runs.numbers (primary_same c r.orderer.log r.orderer.log.view fits.faults ∙ ap (primary c) (sym fits.view) ∙ mine ∙ sym fits.own))

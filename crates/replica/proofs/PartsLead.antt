@@ -26,8 +26,8 @@ use Rattle.desk.specs.State.{DeskData}
 use Rattle.desk.specs.Desking.{IsNewDesk}
 use Rattle.replica.specs.Taking.{IsNewOrderer}
 use Rattle.replica.specs.Inputs.{input_of}
-use Rattle.replica.specs.Joined as joined_ones
-use Rattle.replica.specs.Parted.{HoldsDesk, HoldsOrderer, FitsDesk, FitsOrderer, FitBoth, AreTogether, BothLead, BothSendAsMeant, Reacts}
+use Rattle.replica.specs.Joined.{JoinedEventLeads, JoinedFitsHistory}
+use Rattle.replica.specs.Parted.{DeskMatchesHistory, OrdererMatchesHistory, DeskFitsHistory, OrdererFitsHistory, FitBoth, AreTogether, BothLead, BothSendAsMeant, Reacts}
 use Rattle.replica.specs.Changing.{AreChanges}
 use Rattle.replica.specs.Joined.{joined}
 use Rattle.replica.proofs.Fitting.{fits_new}
@@ -58,32 +58,32 @@ orders m o = record { member = m; holds = Some o }
 abbrev pub answers : MemberData → DeskData → DeskPart
 answers m d = record { member = m; holds = Some d }
 
-desk_fits : (c : Configuration) (me : ℕ) (m : MemberData) (d : DeskData) (history : List Entry) → m.me ≡ me → members c ≡ m.membership → IsReplica c me history → HoldsDesk c me d history
-    → FitsDesk c me (answers m d) history
+desk_fits : (c : Configuration) (me : ℕ) (m : MemberData) (d : DeskData) (history : List Entry) → m.me ≡ me → members c ≡ m.membership → IsReplica c me history → DeskMatchesHistory c me d history
+    → DeskFitsHistory c me (answers m d) history
 desk_fits c me m d history mine members_are right holds = record {
   me_is = mine;
   members_are = members_are;
   right = right;
-  running = λ x is. subst (λ (y : DeskData). HoldsDesk c me y history) (some_injective d x is) holds;
+  running = λ x is. subst (λ (y : DeskData). DeskMatchesHistory c me y history) (some_injective d x is) holds;
 }
 
-orderer_fits : (c : Configuration) (me : ℕ) (m : MemberData) (o : OrdererData) (ordering : List Entry) → m.me ≡ me → members c ≡ m.membership → HoldsOrderer c me o ordering
-    → FitsOrderer c me (orders m o) ordering
+orderer_fits : (c : Configuration) (me : ℕ) (m : MemberData) (o : OrdererData) (ordering : List Entry) → m.me ≡ me → members c ≡ m.membership → OrdererMatchesHistory c me o ordering
+    → OrdererFitsHistory c me (orders m o) ordering
 orderer_fits c me m o ordering mine members_are holds = record {
   me_is = mine;
   members_are = members_are;
-  running = λ x is. subst (λ (y : OrdererData). HoldsOrderer c me y ordering) (some_injective o x is) holds;
+  running = λ x is. subst (λ (y : OrdererData). OrdererMatchesHistory c me y ordering) (some_injective o x is) holds;
 }
 
 -- both fit the histories that they fit when joined
 both_fit : (c : Configuration) (m : MemberData) (o : OrdererData) (d : DeskData) (history : List Entry) → AreOne o d → AreChanges o.received.held → o.endpoint.me ≡ m.me
-    → members c ≡ m.membership → joined_ones.Fits c (joined o d) history → FitBoth c m.me (orders m o) (answers m d) history
+    → members c ≡ m.membership → JoinedFitsHistory c (joined o d) history → FitBoth c m.me (orders m o) (answers m d) history
 both_fit c m o d history one are mine members_are fits = (
-  desk_fits c m.me m d history refl members_are (subst (λ (n : ℕ). IsReplica c n history) mine fits.right) (subst (λ (n : ℕ). HoldsDesk c n d history) mine parts.0),
-  orderer_fits c m.me m o (without_reads history) refl members_are (subst (λ (n : ℕ). HoldsOrderer c n o (without_reads history)) mine parts.1),
+  desk_fits c m.me m d history refl members_are (subst (λ (n : ℕ). IsReplica c n history) mine fits.right) (subst (λ (n : ℕ). DeskMatchesHistory c n d history) mine parts.0),
+  orderer_fits c m.me m o (without_reads history) refl members_are (subst (λ (n : ℕ). OrdererMatchesHistory c n o (without_reads history)) mine parts.1),
 )
   where
-    parts : HoldsDesk c o.endpoint.me d history × HoldsOrderer c o.endpoint.me o (without_reads history)
+    parts : DeskMatchesHistory c o.endpoint.me d history × OrdererMatchesHistory c o.endpoint.me o (without_reads history)
     parts = holds_part c (joined o d) history one are fits.runs
 
 -- ---- a replica that begins
@@ -104,21 +104,21 @@ both_new c m me o d valid few mine membership new_orderer new_desk are =
 
 module _ (m n : MemberData) (o later_o : OrdererData) (d later_d : DeskData) (event : Event) (outs : List Output) (same : n ≡ m) (mine : o.endpoint.me ≡ m.me) (membership : o.endpoint.membership ≡ m.membership)
     (one : AreOne o d) (later_one : AreOne later_o later_d) (are : AreChanges later_o.received.held) (endpoint : later_o.endpoint ≡ o.endpoint)
-    (leads : joined_ones.EventLeads (joined o d) event outs (joined later_o later_d)) where
+    (leads : JoinedEventLeads (joined o d) event outs (joined later_o later_d)) where
   -- the joined replica fits what both fit
-  fits_joined : (c : Configuration) (history : List Entry) → FitBoth c m.me (orders m o) (answers m d) history → joined_ones.Fits c (joined o d) history
+  fits_joined : (c : Configuration) (history : List Entry) → FitBoth c m.me (orders m o) (answers m d) history → JoinedFitsHistory c (joined o d) history
   fits_joined c history (fits_desk, fits_orderer) = record {
     members_are = fits_desk.members_are ∙ sym membership;
     right = subst (λ (k : ℕ). IsReplica c k history) (sym mine) fits_desk.right;
-    runs = parts_join c o d history one (subst (λ (k : ℕ). HoldsDesk c k d history) (sym mine) (fits_desk.running d refl))
-        (subst (λ (k : ℕ). HoldsOrderer c k o (without_reads history)) (sym mine) (fits_orderer.running o refl));
+    runs = parts_join c o d history one (subst (λ (k : ℕ). DeskMatchesHistory c k d history) (sym mine) (fits_desk.running d refl))
+        (subst (λ (k : ℕ). OrdererMatchesHistory c k o (without_reads history)) (sym mine) (fits_orderer.running o refl));
   }
 
   lead_at : (c : Configuration) (history : List Entry) → FitBoth c m.me (orders m o) (answers m d) history
       → FitBoth c m.me (orders m later_o) (answers m later_d) (after_event m.me (input_of m.me event) outs history)
   lead_at c history fits =
       both_fit c m later_o later_d (after_event m.me (input_of m.me event) outs history) later_one are (ap (λ e. e.me) endpoint ∙ mine) fits.0.members_are
-      (subst (λ (k : ℕ). joined_ones.Fits c (joined later_o later_d) (after_event k (input_of k event) outs history)) mine (leads c history (fits_joined c history fits)).0)
+      (subst (λ (k : ℕ). JoinedFitsHistory c (joined later_o later_d) (after_event k (input_of k event) outs history)) mine (leads c history (fits_joined c history fits)).0)
 
   -- both fit this as parts of one replica
   fit_at : (c : Configuration) (me : ℕ) (history : List Entry) → FitBoth c me (orders m o) (answers n d) history → FitBoth c m.me (orders m o) (answers m d) history
@@ -176,7 +176,7 @@ replica_sends r outs meant c history fits = meant c r.desk.member.me history fit
 
 -- an event of a replica that runs
 pub joined_steps : (m : MemberData) (h : Option JoinedData) (x later : JoinedData) (event : Event) (outs : List Output) → h ≡ Some x → IsOrdererPart (both_of m h).orderer → AreOne x.orderer x.desk
-    → joined_ones.EventLeads x event outs later → AreOne later.orderer later.desk → AreChanges later.orderer.received.held → later.orderer.endpoint ≡ x.orderer.endpoint
+    → JoinedEventLeads x event outs later → AreOne later.orderer later.desk → AreChanges later.orderer.received.held → later.orderer.endpoint ≡ x.orderer.endpoint
     → EventLeads (both_of m h) event outs (both_of m (Some later)) × SendsAsMeant (both_of m h) outs
 joined_steps m h x later event outs is own one leads later_one are endpoint =
     subst (λ (k : Option JoinedData). EventLeads (both_of m k) event outs (both_of m (Some later)) × SendsAsMeant (both_of m k) outs) (sym is) (
@@ -215,8 +215,8 @@ fit_none o d o_runs d_runs apart c me history (fits_desk, fits_orderer) = go o.h
 
 -- ---- parts that stopped
 
-stopped_desk : (c : Configuration) (me : ℕ) (d stopped : DeskPart) (history other : List Entry) → stopped.member ≡ d.member → stopped.holds ≡ None → FitsDesk c me d history → IsReplica c me other
-    → FitsDesk c me stopped other
+stopped_desk : (c : Configuration) (me : ℕ) (d stopped : DeskPart) (history other : List Entry) → stopped.member ≡ d.member → stopped.holds ≡ None → DeskFitsHistory c me d history → IsReplica c me other
+    → DeskFitsHistory c me stopped other
 stopped_desk c me d stopped history other same none fits right = record {
   me_is = ap (λ (m : MemberData). m.me) same ∙ fits.me_is;
   members_are = fits.members_are ∙ sym (ap (λ (m : MemberData). m.membership) same);
@@ -224,8 +224,8 @@ stopped_desk c me d stopped history other same none fits right = record {
   running = λ x is. absurd (none-some x (sym none ∙ is));
 }
 
-stopped_orderer : (c : Configuration) (me : ℕ) (o stopped : OrdererPart) (ordering other : List Entry) → stopped.member ≡ o.member → stopped.holds ≡ None → FitsOrderer c me o ordering
-    → FitsOrderer c me stopped other
+stopped_orderer : (c : Configuration) (me : ℕ) (o stopped : OrdererPart) (ordering other : List Entry) → stopped.member ≡ o.member → stopped.holds ≡ None → OrdererFitsHistory c me o ordering
+    → OrdererFitsHistory c me stopped other
 stopped_orderer c me o stopped ordering other same none fits = record {
   me_is = ap (λ (m : MemberData). m.me) same ∙ fits.me_is;
   members_are = fits.members_are ∙ sym (ap (λ (m : MemberData). m.membership) same);

@@ -7,10 +7,10 @@ use Rattle.protocol.specs.System.Trace.{Entry}
 use Rattle.protocol.specs.Replica.Owed.{IsPromptReplica}
 use Rattle.desk.specs.State.{DeskData}
 use Rattle.replica.specs.Fits as replica_fits
-use Rattle.replica.specs.Parted.{HoldsDesk}
+use Rattle.replica.specs.Parted.{DeskMatchesHistory}
 use Rattle.replica.specs.PartedLaws.{DesksArePrompt, ReplicasArePrompt}
 
-running : (c : Configuration) (me : ℕ) (history : List Entry) (o : Option DeskData) → ForSome o (λ x. HoldsDesk c me x history)
+running : (c : Configuration) (me : ℕ) (history : List Entry) (o : Option DeskData) → ForSome o (λ x. DeskMatchesHistory c me x history)
     → is_none o ≡ false → IsPromptReplica c me history
 running c me history None holds runs = absurd cc
 running c me history (Some x) holds runs = let desk = (holds x refl).holds in (desk.point, desk.proceeds)

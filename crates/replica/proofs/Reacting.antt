@@ -1,5 +1,5 @@
 -- A whole event: if nothing is left to do, the history after it fits.
-use Rattle.std.proofs.Common.{◌≡◌, ℕ, suc, ◌+◌, ◌≤◌, ◌⊎◌, inl, inr, true, false, List, [], ◌∷◌, ◌++◌, reverse, map, None, refl, sym, ap, ◌∙◌, subst, append_assoc, arith, max}
+use Rattle.std.proofs.Common.{◌≡◌, ℕ, suc, ◌+◌, ◌≤◌, ◌⊎◌, inl, inr, true, false, List, [], ◌∷◌, ◌++◌, reverse, map, refl, sym, ap, ◌∙◌, subst, append_assoc, arith, max}
 use Rattle.std.proofs.lemmas.List.{reverse-append}
 use Rattle.events.specs.declared.output.Output.{Output}
 use Rattle.events.specs.Outputs.{entry_of, after_entries, after_event, AreSentAsMeant}
@@ -11,7 +11,6 @@ use Rattle.protocol.specs.Replica.Certificates.{target}
 use Rattle.protocol.specs.Replica.State.{State}
 use Rattle.posting.specs.Endpoint.{EndpointState}
 use Rattle.replica_histories.specs.Questions.{AnswersInput}
-use Rattle.replica_histories.specs.Desk.{Desk}
 use Rattle.replica_histories.specs.Logs.{FitsLog}
 use Rattle.protocol.specs.Replica.Owed.{IsReplica}
 use Rattle.replica_histories.specs.Events as histories
@@ -28,16 +27,17 @@ use Rattle.replica.specs.declared.taking.Touched.{Touched}
 use Rattle.replica.specs.declared.taking.Touched.TheVariants as touched
 use Rattle.replica.specs.State.{JoinedData, AreOne}
 use Rattle.replica.specs.Beginning.{CannotBegin}
-use Rattle.replica.specs.Desks.{given, PartsFitEvent, FitsEvent, FitsWaiting, WasSaid, IsDeskOf, changes_of}
+use Rattle.replica.specs.Desks.{given, PartsFitEvent, FitsEvent, FitsWaiting, WasSaid, changes_of}
 use Rattle.desk.specs.Waiting.{count_unnumbered}
+use Rattle.desk.specs.DeskOf.{waiting_calls, desk_of}
 use Rattle.replica.specs.Going.{IsSameParty, IsOneParty, NothingIsLeft}
-use Rattle.replica.specs.Numbering.{next_number, IsAllNumbered}
+use Rattle.replica.specs.Numbering.{IsAllNumbered}
 use Rattle.replica.specs.NumbersNext.{NumbersWaiting}
 use Rattle.replica.specs.FollowingUp.{FollowsUp, ExecutesAndNumbers}
 use Rattle.replica.specs.declared.replica.Event.{Event}
 use Rattle.replica.specs.declared.replica.Event.TheVariants as events
 use Rattle.replica.specs.Inputs.{input_of}
-use Rattle.replica.specs.Joined.{Runs, Fits, HistoryStaysRight, me_of}
+use Rattle.replica.specs.Joined.{JoinedMatchesHistory, JoinedFitsHistory, JoinedStaysRight, me_of}
 use Rattle.replica.specs.Entering.{event_with, IsAnswered, IsTakenBeside, TakesInput}
 use Rattle.replica.proofs.Choosing.{begun_same}
 use Rattle.replica.proofs.Flags.{flags_given}
@@ -58,40 +58,38 @@ next_free c me used executed log history fits next = rw (fits.span, sym fits.low
 
 -- ---- settled
 
-pub settled : (c : Configuration) (me : ℕ) (r : JoinedData) (desk : Desk) (history : List Entry) → IsDeskOf c r.desk desk → FitsLog c me r.orderer.log history
-    → FitsWaiting c me r.orderer r.desk.waiting desk history → NothingIsLeft r → IsAllNumbered r → IsSettled c me desk r.orderer.log history
-settled c me r desk history is fits count rest all = record {
+pub settled : (c : Configuration) (me : ℕ) (r : JoinedData) (history : List Entry) → FitsLog c me r.orderer.log history
+    → FitsWaiting c me r.orderer r.desk.waiting (desk_of c r.desk) history → NothingIsLeft r → IsAllNumbered r → IsSettled c me (desk_of c r.desk) r.orderer.log history
+settled c me r history fits count rest all = record {
   prepares = λ i. (rest.0 i).0;
   commits = λ i. (rest.0 i).1;
-  executes = subst (λ (st : State). logs.committed_batch r.orderer.log (suc st.number) ≡ None) (sym is.state) rest.1;
+  executes = rest.1;
   numbers = λ i call active own has free.
-      flags_given c me r.orderer.log.view r.orderer.used r.desk.waiting desk.state desk.waiting history is.waiting (count own) (enough active own) i call has free;
+      flags_given c me r.orderer.log.view r.orderer.used r.desk.waiting r.desk.executed.state (waiting_calls c r.desk.waiting.requests) history (count own) (enough active own) i call has free;
 }
   where
-    enough : r.orderer.log.active ≡ true → logs.primary r.orderer.log r.orderer.log.view ≡ r.orderer.log.me → numbers.IsNextFree c me history r.orderer.used desk.state.number
+    enough : r.orderer.log.active ≡ true → logs.primary r.orderer.log r.orderer.log.view ≡ r.orderer.log.me → numbers.IsNextFree c me history r.orderer.used r.desk.executed.state.number
         → count_unnumbered r.desk.waiting ≡ 0
     enough active own next =
-        let n = next_free c me r.orderer.used desk.state.number r.orderer.log history fits next in
-        let near = subst (λ (st : State). next_number r.orderer ≤ st.number + 2) is.state n.1 in
-        all (own, n.0, near, active)
+        let n = next_free c me r.orderer.used r.desk.executed.state.number r.orderer.log history fits next in
+        all (own, n.0, n.1, active)
 
 -- ---- the end of an event
 
 module _ (old new : JoinedData) (one : AreOne old.orderer old.desk) (party : IsOneParty old new) where
-  pub ends : (c : Configuration) (past : List Entry) (input : Entry) (outs : List Output) (f : Fits c old past) (runs : Runs c old past) → is_output input ≡ false
-      → PartsFitEvent c (start_at c (me_of old) runs.desk old.orderer.log past runs.holds input) new.orderer new.desk [] outs → NothingIsLeft new → IsAllNumbered new
+  pub ends : (c : Configuration) (past : List Entry) (input : Entry) (outs : List Output) (f : JoinedFitsHistory c old past) (runs : JoinedMatchesHistory c old past) → is_output input ≡ false
+      → PartsFitEvent c (start_at c (me_of old) (desk_of c old.desk) old.orderer.log past runs.holds input) new.orderer new.desk [] outs → NothingIsLeft new → IsAllNumbered new
       → AnswersInput c (me_of old) past input (given (me_of old) outs) runs.holds.of_desk.point new.desk.executed.state.number → CannotBegin c new.orderer
-      → (outs ≡ []) ⊎ IsTaken c (me_of old) (start_at c (me_of old) runs.desk old.orderer.log past runs.holds input)
-      → Fits c new (after_event (me_of old) input outs past) × AreSentAsMeant c (me_of old) outs
+      → (outs ≡ []) ⊎ IsTaken c (me_of old) (start_at c (me_of old) (desk_of c old.desk) old.orderer.log past runs.holds input)
+      → JoinedFitsHistory c new (after_event (me_of old) input outs past) × AreSentAsMeant c (me_of old) outs
   ends c past input outs f runs is st rest all answered begun why = (
-    subst (Fits c new) (behind_is (map (entry_of (me_of old)) outs) (input ∷ past)) (record {
+    subst (JoinedFitsHistory c new) (behind_is (map (entry_of (me_of old)) outs) (input ∷ past)) (record {
       members_are = f.members_are ∙ sym (ap (λ (e : EndpointState). e.membership) party.endpoint);
-      right = subst (λ (e : EndpointState). IsReplica c e.me now) (sym party.endpoint) (held_are_replicas c (me_of old) st.desk new.orderer.log now held);
+      right = subst (λ (e : EndpointState). IsReplica c e.me now) (sym party.endpoint) (held_are_replicas c (me_of old) (desk_of c new.desk) new.orderer.log now held);
       runs = record {
-        desk = st.desk;
         is_desk = st.is;
-        holds = subst (λ (x : EndpointState). histories.Holds c x.me st.desk new.orderer.log now) (sym party.endpoint) held;
-        numbers = subst (λ (x : EndpointState). FitsWaiting c x.me new.orderer new.desk.waiting st.desk now) (sym party.endpoint) event.numbers;
+        holds = subst (λ (x : EndpointState). histories.Holds c x.me (desk_of c new.desk) new.orderer.log now) (sym party.endpoint) held;
+        numbers = subst (λ (x : EndpointState). FitsWaiting c x.me new.orderer new.desk.waiting (desk_of c new.desk) now) (sym party.endpoint) event.numbers;
         said = subst (λ (x : EndpointState). WasSaid x.me new.orderer.last_checkpoint now) (sym party.endpoint) event.said;
         changes = subst (λ (x : EndpointState). FitsChanges c x.me new.orderer.log (changes_of new.orderer) now) (sym party.endpoint) event.changes;
         all = all;
@@ -102,7 +100,7 @@ module _ (old new : JoinedData) (one : AreOne old.orderer old.desk) (party : IsO
   )
     where
       s : Start
-      s = start_at c (me_of old) runs.desk old.orderer.log past runs.holds input
+      s = start_at c (me_of old) (desk_of c old.desk) old.orderer.log past runs.holds input
 
       now : List Entry
       now = given (me_of old) outs ++ input ∷ past
@@ -110,8 +108,8 @@ module _ (old new : JoinedData) (one : AreOne old.orderer old.desk) (party : IsO
       mine : new.desk.me ≡ me_of old
       mine = party.me ∙ one.0
 
-      event : FitsEvent c (me_of old) s new.orderer st.desk new.desk.waiting [] outs
-      event = subst (λ (m : ℕ). FitsEvent c m s new.orderer st.desk new.desk.waiting [] outs) mine st.fits
+      event : FitsEvent c (me_of old) s new.orderer (desk_of c new.desk) new.desk.waiting [] outs
+      event = subst (λ (m : ℕ). FitsEvent c m s new.orderer (desk_of c new.desk) new.desk.waiting [] outs) mine st.fits
 
       taken_so : (outs ≡ []) ⊎ IsTaken c (me_of old) s → (given (me_of old) outs ≡ []) ⊎ IsTaken c (me_of old) s
       taken_so (inl e) = inl (ap (given (me_of old)) e)
@@ -119,19 +117,19 @@ module _ (old new : JoinedData) (one : AreOne old.orderer old.desk) (party : IsO
 
       -- no new view is left
       none_left : LeavesNoView c (me_of old) now
-      none_left = no_views_are_left c (me_of old) new.orderer.log (changes_of new.orderer) now (point_of st.desk event.fits.of_desk.states event.fits.of_desk.ran)
-          (steps_leave c (me_of old) s (given (me_of old) outs) (point_of st.desk event.fits.of_desk.states event.fits.of_desk.ran) event.fits.of_desk.leaves event.fits.of_desk.steps)
+      none_left = no_views_are_left c (me_of old) new.orderer.log (changes_of new.orderer) now (point_of (desk_of c new.desk) event.fits.of_desk.states event.fits.of_desk.ran)
+          (steps_leave c (me_of old) s (given (me_of old) outs) (point_of (desk_of c new.desk) event.fits.of_desk.states event.fits.of_desk.ran) event.fits.of_desk.leaves event.fits.of_desk.steps)
           event.fits.of_log event.changes begun
 
-      held : histories.Holds c (me_of old) st.desk new.orderer.log now
-      held = events_end c (me_of old) runs.desk st.desk old.orderer.log new.orderer.log past (given (me_of old) outs) input runs.holds event.fits
-          (settled c (me_of old) new st.desk now st.is event.fits.of_log event.numbers rest all)
-          (subst (λ (x : State). AnswersInput c (me_of old) past input (given (me_of old) outs) runs.holds.of_desk.point x.number) (sym st.is.state) answered) none_left is (taken_so why)
+      held : histories.Holds c (me_of old) (desk_of c new.desk) new.orderer.log now
+      held = events_end c (me_of old) (desk_of c old.desk) (desk_of c new.desk) old.orderer.log new.orderer.log past (given (me_of old) outs) input runs.holds event.fits
+          (settled c (me_of old) new now event.fits.of_log event.numbers rest all)
+          answered none_left is (taken_so why)
 
 -- ---- by what the event touched
 
 module _ (input : Entry) (old : JoinedData) (one : AreOne old.orderer old.desk) (is_input : is_output input ≡ false) where
-  known : (c : Configuration) (past : List Entry) → Fits c old past → members c ≡ old.desk.membership
+  known : (c : Configuration) (past : List Entry) → JoinedFitsHistory c old past → members c ≡ old.desk.membership
   known c past f = f.members_are ∙ sym one.1
 
   -- a rule that takes it at the later replica takes it at the earlier one
@@ -147,11 +145,11 @@ module _ (input : Entry) (old : JoinedData) (one : AreOne old.orderer old.desk) 
   beside_answered c me s number t = (t.0, λ outputs executed above. others_owe_none c me s.before s.input outputs s.old executed t.1)
 
   -- an event that ends with numbers for waiting requests
-  ends_numbered : (c : Configuration) (past : List Entry) (mid before new : JoinedData) (x outs : List Output) (f : Fits c old past) (runs : Runs c old past)
+  ends_numbered : (c : Configuration) (past : List Entry) (mid before new : JoinedData) (x outs : List Output) (f : JoinedFitsHistory c old past) (runs : JoinedMatchesHistory c old past)
       → IsOneParty old mid → IsSameParty mid before → NumbersWaiting before x new outs → mid.desk.executed.state.number ≤ before.desk.executed.state.number → NothingIsLeft before
       → PartsFitEvent c (event_with c old past runs input) before.orderer before.desk [] x → CannotBegin c mid.orderer
       → IsTaken c (me_of mid) (event_with c old past runs input) × IsAnswered c (me_of mid) (event_with c old past runs input) mid.desk.executed.state.number
-      → Fits c new (after_event (me_of old) input outs past) × AreSentAsMeant c (me_of old) outs
+      → JoinedFitsHistory c new (after_event (me_of old) input outs past) × AreSentAsMeant c (me_of old) outs
   ends_numbered c past mid before new x outs f runs first then n above rest st begun t =
       let party = ones_twice old mid before first (one_of_same mid before then) in
       let p = n.proceeds rest c (event_with c old past runs input) (known c past f ∙ sym party.membership) st in
@@ -161,7 +159,7 @@ module _ (input : Entry) (old : JoinedData) (one : AreOne old.orderer old.desk) 
       (begun_same c before.orderer new.orderer n.party.orderer (begun_same c mid.orderer before.orderer then.orderer begun)) (inr (taken_then c (event_with c old past runs input) mid first t.0))
 
   -- The event's own part, and then what follows by what it touched.
-  leads_nothing : (new : JoinedData) (outs : List Output) → TakesInput input old touched.Nothing new outs → HistoryStaysRight old input outs new
+  leads_nothing : (new : JoinedData) (outs : List Output) → TakesInput input old touched.Nothing new outs → JoinedStaysRight old input outs new
   leads_nothing new outs t c past f =
       let runs = f.runs in
       let b = t.begins c past runs (known c past f) in
@@ -169,13 +167,13 @@ module _ (input : Entry) (old : JoinedData) (one : AreOne old.orderer old.desk) 
       (subst (λ (e : EndpointState). AnswersInput c e.me past input (given e.me outs) runs.holds.of_desk.point new.desk.executed.state.number) t.party.endpoint b.1.2) b.2
       (why c (event_with c old past runs input) new outs t.party b.1.3)
 
-  leads_waiting : (mid new : JoinedData) (x outs : List Output) → TakesInput input old touched.Waiting mid x → NumbersWaiting mid x new outs → HistoryStaysRight old input outs new
+  leads_waiting : (mid new : JoinedData) (x outs : List Output) → TakesInput input old touched.Waiting mid x → NumbersWaiting mid x new outs → JoinedStaysRight old input outs new
   leads_waiting mid new x outs t n c past f =
       let runs = f.runs in
       let b = t.begins c past runs (known c past f) in
       ends_numbered c past mid mid new x outs f runs t.party (same_party mid) n (omega arith) b.1.0 b.0 b.2 (b.1.1.0, λ outputs executed above. b.1.1.1 outputs executed)
 
-  leads_row : (number : Number) (mid new : JoinedData) (x outs : List Output) → TakesInput input old (touched.Row number) mid x → FollowsUp (touched.Row number) mid x new outs → HistoryStaysRight old input outs new
+  leads_row : (number : Number) (mid new : JoinedData) (x outs : List Output) → TakesInput input old (touched.Row number) mid x → FollowsUp (touched.Row number) mid x new outs → JoinedStaysRight old input outs new
   leads_row number mid new x outs t (voted, y, g, n) c past f =
       let runs = f.runs in
       let b = t.begins c past runs (known c past f) in
@@ -183,14 +181,14 @@ module _ (input : Entry) (old : JoinedData) (one : AreOne old.orderer old.desk) 
       ends_numbered c past mid voted new y outs f runs t.party g.party n g.rises (g.rests b.1.0) st b.2
       (beside_answered c (me_of mid) (event_with c old past runs input) mid.desk.executed.state.number b.1.1)
 
-  leads_state : (mid new : JoinedData) (x outs : List Output) → TakesInput input old touched.State mid x → ExecutesAndNumbers mid x new outs → HistoryStaysRight old input outs new
+  leads_state : (mid new : JoinedData) (x outs : List Output) → TakesInput input old touched.State mid x → ExecutesAndNumbers mid x new outs → JoinedStaysRight old input outs new
   leads_state mid new x outs t (run, y, g, n) c past f =
       let runs = f.runs in
       let b = t.begins c past runs (known c past f) in
       let st = g.proceeds b.1.0 c (event_with c old past runs input) (known c past f ∙ sym t.party.membership) b.0 in
       ends_numbered c past mid run new y outs f runs t.party g.party n g.rises (g.rests b.1.0) st b.2 (b.1.1, b.1.2)
 
-  leads_view : (mid new : JoinedData) (x outs : List Output) → TakesInput input old touched.View mid x → ExecutesAndNumbers mid x new outs → HistoryStaysRight old input outs new
+  leads_view : (mid new : JoinedData) (x outs : List Output) → TakesInput input old touched.View mid x → ExecutesAndNumbers mid x new outs → JoinedStaysRight old input outs new
   leads_view mid new x outs t (run, y, g, n) c past f =
       let runs = f.runs in
       let b = t.begins c past runs (known c past f) in
@@ -208,9 +206,9 @@ module _ (input : Entry) (old : JoinedData) (one : AreOne old.orderer old.desk) 
       (inr (taken_then c s mid t.party b.1.1.0))
 
   -- whatever it touched
-  pub leads_on : (what : Touched) (mid new : JoinedData) (x outs : List Output) → TakesInput input old what mid x → FollowsUp what mid x new outs → HistoryStaysRight old input outs new
+  pub leads_on : (what : Touched) (mid new : JoinedData) (x outs : List Output) → TakesInput input old what mid x → FollowsUp what mid x new outs → JoinedStaysRight old input outs new
   leads_on touched.Nothing mid new x outs t (same, still) =
-      subst (λ (a : JoinedData). HistoryStaysRight old input outs a) (sym same) (subst (λ (os : List Output). HistoryStaysRight old input os mid) (sym still) (leads_nothing mid x t))
+      subst (λ (a : JoinedData). JoinedStaysRight old input outs a) (sym same) (subst (λ (os : List Output). JoinedStaysRight old input os mid) (sym still) (leads_nothing mid x t))
   leads_on touched.Waiting mid new x outs t n = leads_waiting mid new x outs t n
   leads_on (touched.Row number) mid new x outs t u = leads_row number mid new x outs t u
   leads_on touched.State mid new x outs t u = leads_state mid new x outs t u

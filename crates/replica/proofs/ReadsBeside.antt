@@ -29,9 +29,10 @@ use Rattle.replica_histories.specs.Desk.{snapshot_of, point_of}
 use Rattle.replica_histories.specs.Events.{FitsFrames, FitsSnapshots, IsFetched, IsReached}
 use Rattle.replica_histories.specs.Transfers.{FitsOpen}
 use Rattle.desk.specs.State.{DeskData}
+use Rattle.desk.specs.DeskOf.{waiting_calls, desk_of}
 use Rattle.protocol.proofs.Words.Posting.{unsigned_have_no_leaf}
 use Rattle.replica.specs.Flags.{FitsFlags}
-use Rattle.replica.specs.Parted.{HoldsDesk}
+use Rattle.replica.specs.Parted.{DeskMatchesHistory}
 use Rattle.replica_histories.proofs.Resting.{Rests, rests}
 use Rattle.replica.specs.Idle.{IsIdle, IsQuiet, CertifySame}
 use Rattle.replica.specs.Reads.{is_read_request, is_read_reply}
@@ -164,39 +165,38 @@ module _ (c : Configuration) (me : ℕ) (h : List Entry) (p : Point) (bytes answ
 
 -- ---- what the desk holds
 
-module _ (c : Configuration) (me : ℕ) (d : DeskData) (h : List Entry) (hd : HoldsDesk c me d h) where
+module _ (c : Configuration) (me : ℕ) (d : DeskData) (h : List Entry) (hd : DeskMatchesHistory c me d h) where
   -- idle entries: the point stays, except for what ran
   module _ (now : List Entry) (s : CertifySame c me h now) (later : Point) (proceeds : HistoryIsPrompt c me now [] later later)
-      (same_point : later ≡ record hd.holds.point { ran = [] }) (frames : FitsFrames c me hd.desk now) (opened : FitsOpen c me hd.desk.transfer hd.desk.state.number now)
-      (flags : (v used : ℕ) → FitsFlags c me v used d.waiting hd.desk.state hd.desk.waiting h → FitsFlags c me v used d.waiting hd.desk.state hd.desk.waiting now)
+      (same_point : later ≡ record hd.holds.point { ran = [] }) (frames : FitsFrames c me (desk_of c d) now) (opened : FitsOpen c me (desk_of c d).transfer d.executed.state.number now)
+      (flags : (v used : ℕ) → FitsFlags c me v used d.waiting d.executed.state (waiting_calls c d.waiting.requests) h → FitsFlags c me v used d.waiting d.executed.state (waiting_calls c d.waiting.requests) now)
       (started : (k : ℕ) → Once (StartsAhead c k) now → Once (StartsAhead c k) h) where
     over : CertifySame c me now h
     over = turned c me h now s
 
-    fetched : QuorumsFetched c hd.desk.state.number now
+    fetched : QuorumsFetched c d.executed.state.number now
     fetched k root (inl q) above =
         subst (λ (n : ℕ). k ≤ n) (sym s.fetching)
         (hd.holds.fetches k root (inl (subst (λ (n : ℕ). is_quorum c n ≡ true) (count_checkpoints_same c h now s.checkpoints (record { number = k; digest = root })) q)) above)
     fetched k root (inr start) above = subst (λ (n : ℕ). k ≤ n) (sym s.fetching) (hd.holds.fetches k root (inr (started k start)) above)
 
-    reached : IsReached c me (low c me h) hd.desk.state.number [] h → IsReached c me (low c me now) hd.desk.state.number [] now
-    reached (inl below) = inl (subst (λ (n : ℕ). n ≤ hd.desk.state.number) (sym s.low) below)
-    reached (inr (got, none)) = inr (there got, λ v batch k. none v batch (committed_same c me h now v (suc hd.desk.state.number) batch s k))
+    reached : IsReached c me (low c me h) d.executed.state.number [] h → IsReached c me (low c me now) d.executed.state.number [] now
+    reached (inl below) = inl (subst (λ (n : ℕ). n ≤ d.executed.state.number) (sym s.low) below)
+    reached (inr (got, none)) = inr (there got, λ v batch k. none v batch (committed_same c me h now v (suc d.executed.state.number) batch s k))
       where
         there : IsFetched (low c me h) [] h → IsFetched (low c me now) [] now
         there (inl k) = inl (subst (λ (n : ℕ). n ≤ fetching now) (sym s.low) (subst (λ (n : ℕ). low c me h ≤ n) (sym s.fetching) k))
         there (inr k) = absurd k
 
-    pub holds_on : HoldsDesk c me d now
+    pub holds_on : DeskMatchesHistory c me d now
     holds_on = record {
-      desk = hd.desk;
       is_desk = hd.is_desk;
       holds = record {
         point = later;
         proceeds = proceeds;
         is = same_point ∙ ap (λ (q : Point). record q { ran = [] }) hd.holds.is
-            ∙ ap (λ (q : Point). point_of hd.desk q.snapshots q.ran) (sym same_point);
-        kept = subst (λ (q : Point). FitsSnapshots c me hd.desk q.snapshots now) (sym same_point)
+            ∙ ap (λ (q : Point). point_of (desk_of c d) q.snapshots q.ran) (sym same_point);
+        kept = subst (λ (q : Point). FitsSnapshots c me (desk_of c d) q.snapshots now) (sym same_point)
             (ap (λ (n : ℕ). map snapshot_of (kept_states n hd.holds.point.snapshots)) s.low ∙ hd.holds.kept);
         frames = frames;
         opened = opened;
@@ -204,5 +204,5 @@ module _ (c : Configuration) (me : ℕ) (d : DeskData) (h : List Entry) (hd : Ho
       };
       low = reached hd.low;
       flags = λ mine. let f = hd.flags (ap (primary c) (sym s.view) ∙ mine) in
-          (f.0, subst (λ (v : ℕ). FitsFlags c me v f.0 d.waiting hd.desk.state hd.desk.waiting now) (sym s.view) (flags (view c h) f.0 f.1));
+          (f.0, subst (λ (v : ℕ). FitsFlags c me v f.0 d.waiting d.executed.state (waiting_calls c d.waiting.requests) now) (sym s.view) (flags (view c h) f.0 f.1));
     }

@@ -10,7 +10,6 @@ use Rattle.protocol.specs.System.Configuration.{Configuration, members}
 use Rattle.protocol.specs.System.Frames.{IsPosted}
 use Rattle.protocol.specs.System.Trace.{Entry}
 use Rattle.protocol.specs.System.Trace.Entry.{Got, Sent}
-use Rattle.protocol.specs.Replica.State.{State}
 use Rattle.replica_histories.specs.Questions.{AnswersInput, read_from, read_reply}
 use Rattle.replica_histories.specs.Events.{IsTaken}
 use Rattle.replica_histories.proofs.Answering.{reads_fit, reads_suffice, other_operations_owe_none}
@@ -20,7 +19,8 @@ use Rattle.replica.specs.State.{JoinedData, AreOne}
 use Rattle.replica.specs.Desks.{given, FitsEvent}
 use Rattle.replica.specs.Entering.{event_of, TakesBytes}
 use Rattle.desk.specs.Reading.{AnswersRead, HearsNoRead, AnswersBytes}
-use Rattle.replica.specs.Joined.{Runs, me_of}
+use Rattle.desk.specs.DeskOf.{desk_of}
+use Rattle.replica.specs.Joined.{JoinedMatchesHistory, me_of}
 use Rattle.replica.proofs.Beginning.{rests, silence_dropped}
 use Rattle.replica.proofs.Beside.{begins, heard_so}
 use Rattle.replica.proofs.Given.{GivesOne, gives_one}
@@ -30,38 +30,38 @@ use Rattle.replica.proofs.Staying.{fits_on, sent_beside}
 -- ---- a received request is to be answered beside the order
 
 module _ (r : JoinedData) (one : AreOne r.orderer r.desk) (client t : ℕ) (op : Operation) (bytes : List ℕ) (hears : heard r.desk.membership r.desk.me bytes ≡ Some (read_from client t op)) where
-  module _ (c : Configuration) (past : List Entry) (runs : Runs c r past) (known : members c ≡ r.desk.membership) where
+  module _ (c : Configuration) (past : List Entry) (runs : JoinedMatchesHistory c r past) (known : members c ≡ r.desk.membership) where
     abbrev me : ℕ
     me = me_of r
 
-    begun : FitsEvent c me (event_of c r past runs bytes) r.orderer runs.desk r.desk.waiting [] []
+    begun : FitsEvent c me (event_of c r past runs bytes) r.orderer (desk_of c r.desk) r.desk.waiting [] []
     begun = begins r one c past runs bytes (read_from client t op) known hears (record { log = tt; call = refl; asks = λ st. refl; views = refl; changes = tt })
 
     is_heard : heard (members c) me bytes ≡ Some (read_from client t op)
     is_heard = heard_so r one c past runs bytes (read_from client t op) known hears
 
     abbrev Left : List Output → Type 0
-    Left outs = FitsEvent c me (event_of c r past runs bytes) r.orderer runs.desk r.desk.waiting [] outs
+    Left outs = FitsEvent c me (event_of c r past runs bytes) r.orderer (desk_of c r.desk) r.desk.waiting [] outs
         × AnswersInput c me past (Got me bytes) (given me outs) runs.holds.of_desk.point r.desk.executed.state.number
         × ((outs ≡ []) ⊎ IsTaken c me (event_of c r past runs bytes))
 
     -- what is no read gets no answer
     drops : is_read_only op ≡ false → Left []
-    drops unread = (begun, other_operations_owe_none c me runs.desk r.orderer.log past (Got me bytes) [] client t r.desk.executed.state.number op runs.holds is_heard unread, inl refl)
+    drops unread = (begun, other_operations_owe_none c me (desk_of c r.desk) r.orderer.log past (Got me bytes) [] client t r.desk.executed.state.number op runs.holds is_heard unread, inl refl)
 
     abbrev reply : Message
-    reply = read_reply runs.desk.state client t op
+    reply = read_reply r.desk.executed.state client t op
 
     -- and a read its answer
     gives : is_read_only op ≡ true → (output : Output) (sent : List ℕ) → entry_of me output ≡ Sent me sent → IsSentAsMeant c me output → IsPosted c me reply (client ∷ []) sent → Left (output ∷ [])
     gives is output sent sends meant posted = (
-      fits_on c me (event_of c r past runs bytes) r.orderer r.orderer runs.desk r.desk.waiting [] [] [] (output ∷ []) (Sent me sent) one_given
+      fits_on c me (event_of c r past runs bytes) r.orderer r.orderer (desk_of c r.desk) r.desk.waiting [] [] [] (output ∷ []) (Sent me sent) one_given
           (sent_beside c me reply (client ∷ []) sent (Got me bytes ∷ past) tt posted)
           (sent_keep c me (Got me bytes ∷ past) reply sent posted.says tt (λ signed. absurd cc))
           (same_log r.orderer.log) refl refl refl refl begun
-          (reads_fit c me (event_of c r past runs bytes) runs.desk r.orderer.log [] [] client t op sent (inl is_heard) is (λ given. given) posted begun.fits),
+          (reads_fit c me (event_of c r past runs bytes) (desk_of c r.desk) r.orderer.log [] [] client t op sent (inl is_heard) is (λ given. given) posted begun.fits),
       subst (λ (es : List Entry). AnswersInput c me past (Got me bytes) es runs.holds.of_desk.point r.desk.executed.state.number) (sym one_given.is)
-          (reads_suffice c me runs.desk r.orderer.log past (Got me bytes) (Sent me sent ∷ []) client t r.desk.executed.state.number op runs.holds is_heard (inl posted.says)),
+          (reads_suffice c me (desk_of c r.desk) r.orderer.log past (Got me bytes) (Sent me sent ∷ []) client t r.desk.executed.state.number op runs.holds is_heard (inl posted.says)),
       inr (read_from client t op, is_heard, is),
     )
       where
@@ -70,14 +70,13 @@ module _ (r : JoinedData) (one : AreOne r.orderer r.desk) (client t : ℕ) (op :
 
   -- in whatever event, nothing else is left to do
   takes : (outs : List Output)
-      → ((c : Configuration) (past : List Entry) (runs : Runs c r past) (known : members c ≡ r.desk.membership) → Left c past runs known outs) → TakesBytes bytes r touched.Nothing r outs
+      → ((c : Configuration) (past : List Entry) (runs : JoinedMatchesHistory c r past) (known : members c ≡ r.desk.membership) → Left c past runs known outs) → TakesBytes bytes r touched.Nothing r outs
   takes outs left = record {
     party = one_self r;
     begins = λ c past runs known. let l = left c past runs known in (
       record {
-        desk = runs.desk;
         is = runs.is_desk;
-        fits = subst (λ (m : ℕ). FitsEvent c m (event_of c r past runs bytes) r.orderer runs.desk r.desk.waiting [] outs) (sym one.0) l.0;
+        fits = subst (λ (m : ℕ). FitsEvent c m (event_of c r past runs bytes) r.orderer (desk_of c r.desk) r.desk.waiting [] outs) (sym one.0) l.0;
       },
       (rests c r past runs, runs.all, l.1, l.2),
       runs.begun,
@@ -104,11 +103,10 @@ module _ (r : JoinedData) (one : AreOne r.orderer r.desk) (bytes : List ℕ) (ou
       meant : (c : Configuration) → members c ≡ r.desk.membership → IsSentAsMeant c (me_of r) a.says.output
       meant c known = subst (λ (m : ℕ). IsSentAsMeant c m a.says.output) one.0 (a.says.posts.meant c known)
 
-      posted : (c : Configuration) (past : List Entry) (runs : Runs c r past) → members c ≡ r.desk.membership
-          → IsPosted c (me_of r) (read_reply runs.desk.state client a.timestamp a.op) (client ∷ []) a.says.posts.bytes
+      posted : (c : Configuration) (past : List Entry) (runs : JoinedMatchesHistory c r past) → members c ≡ r.desk.membership
+          → IsPosted c (me_of r) (read_reply r.desk.executed.state client a.timestamp a.op) (client ∷ []) a.says.posts.bytes
       posted c past runs known =
-          subst (λ (st : State). IsPosted c (me_of r) (read_reply st client a.timestamp a.op) (client ∷ []) a.says.posts.bytes) (sym runs.is_desk.state)
-          (subst (λ (m : ℕ). IsPosted c m (read_reply r.desk.executed.state client a.timestamp a.op) (client ∷ []) a.says.posts.bytes) one.0 (a.says.posts.posted c known))
+          subst (λ (m : ℕ). IsPosted c m (read_reply r.desk.executed.state client a.timestamp a.op) (client ∷ []) a.says.posts.bytes) one.0 (a.says.posts.posted c known)
 
 -- ---- whatever asks
 

@@ -28,9 +28,10 @@ use Rattle.replica.specs.State.{DeskPart, IsDeskPart}
 use Rattle.desk.specs.State.{DeskData}
 use Rattle.replica.specs.Flags.{FitsFlags}
 use Rattle.replica.specs.Idle.{IsIdle}
-use Rattle.replica.specs.Parted.{HoldsDesk, ReadLeads, ReadSendsAsMeant}
+use Rattle.replica.specs.Parted.{DeskMatchesHistory, ReadLeads, ReadSendsAsMeant}
 use Rattle.replica.specs.Reads.{is_read_request}
 use Rattle.desk.specs.Reading.{AnswersRead, HearsNoRead, AnswersBytes}
+use Rattle.desk.specs.DeskOf.{waiting_calls, desk_of}
 use Rattle.replica.proofs.Flags.{flags_stay}
 use Rattle.replica.proofs.ReadMarks.{marked_are_requests, replies_are_marked}
 use Rattle.replica.proofs.ReadsBeside as beside
@@ -47,27 +48,27 @@ frames_on c me desk h e fits frame has = let f = fits frame has in (inr f.0, f.1
 
 -- what a read leaves
 abbrev pub Left : Configuration → ℕ → DeskData → List Entry → List Entry → Type 0
-Left c me d h now = HoldsDesk c me d now × IsReplica c me now × (without_reads now ≡ without_reads h)
+Left c me d h now = DeskMatchesHistory c me d now × IsReplica c me now × (without_reads now ≡ without_reads h)
 
-module _ (c : Configuration) (me : ℕ) (d : DeskData) (h : List Entry) (bytes : List ℕ) (hd : HoldsDesk c me d h) (marks : asks_read bytes ≡ true) where
+module _ (c : Configuration) (me : ℕ) (d : DeskData) (h : List Entry) (bytes : List ℕ) (hd : DeskMatchesHistory c me d h) (marks : asks_read bytes ≡ true) where
   abbrev p : Point
   p = hd.holds.point
 
   abbrev got : List Entry
   got = Got me bytes ∷ h
 
-  state_is : p.state ≡ hd.desk.state
+  state_is : p.state ≡ d.executed.state
   state_is = ap (λ (q : Point). q.state) hd.holds.is
 
   fetched : QuorumsFetched c p.state.number h
   fetched = subst (λ (s : State). QuorumsFetched c s.number h) (sym state_is) hd.holds.fetches
 
-  flags_on : (v used : ℕ) (past : List Entry) (e : Entry) → IsIdle c me e → FitsFlags c me v used d.waiting hd.desk.state hd.desk.waiting past
-      → FitsFlags c me v used d.waiting hd.desk.state hd.desk.waiting (e ∷ past)
-  flags_on v used past e idle = flags_stay c me v used d.waiting hd.desk.state hd.desk.waiting past e (idle_keeps c me v past e idle)
+  flags_on : (v used : ℕ) (past : List Entry) (e : Entry) → IsIdle c me e → FitsFlags c me v used d.waiting d.executed.state (waiting_calls c d.waiting.requests) past
+      → FitsFlags c me v used d.waiting d.executed.state (waiting_calls c d.waiting.requests) (e ∷ past)
+  flags_on v used past e idle = flags_stay c me v used d.waiting d.executed.state (waiting_calls c d.waiting.requests) past e (idle_keeps c me v past e idle)
 
-  opened : FitsOpen c me hd.desk.transfer hd.desk.state.number got
-  opened = open_stays c me hd.desk.transfer hd.desk.state.number h (Got me bytes) refl tt hd.holds.opened
+  opened : FitsOpen c me (desk_of c d).transfer d.executed.state.number got
+  opened = open_stays c me (desk_of c d).transfer d.executed.state.number h (Got me bytes) refl tt hd.holds.opened
 
   -- the point, except for what ran
   abbrev mid : Point
@@ -91,8 +92,8 @@ module _ (c : Configuration) (me : ℕ) (d : DeskData) (h : List Entry) (bytes :
       holds_on c me d h hd (Sent me answer ∷ got) (beside.same c me h p bytes answer client t op hd.holds.proceeds fetched hears is_read frame) mid
           (beside.goes_on c me h p bytes answer client t op hd.holds.proceeds fetched hears is_read frame)
           (same_point (beside.waits c me h p bytes answer client t op hd.holds.proceeds fetched hears is_read frame))
-          (frames_on c me hd.desk got (Sent me answer) (frames_on c me hd.desk h (Got me bytes) hd.holds.frames))
-          (open_stays c me hd.desk.transfer hd.desk.state.number got (Sent me answer) (asks_none answer me (read_reply p.state client t op) frame.says refl) tt opened)
+          (frames_on c me (desk_of c d) got (Sent me answer) (frames_on c me (desk_of c d) h (Got me bytes) hd.holds.frames))
+          (open_stays c me (desk_of c d).transfer d.executed.state.number got (Sent me answer) (asks_none answer me (read_reply p.state client t op) frame.says refl) tt opened)
           (λ v used f. flags_on v used got (Sent me answer) sent_quiet (flags_on v used h (Got me bytes) got_quiet f))
           (beside.started c me h p bytes answer client t op hd.holds.proceeds fetched hears is_read frame),
       inl (mid, beside.goes_on c me h p bytes answer client t op hd.holds.proceeds fetched hears is_read frame),
@@ -110,7 +111,7 @@ module _ (c : Configuration) (me : ℕ) (d : DeskData) (h : List Entry) (bytes :
       holds_on c me d h hd got (dropped.same c me h p bytes hd.holds.proceeds fetched says never) mid
           (dropped.goes_on c me h p bytes hd.holds.proceeds fetched says never)
           (same_point (dropped.waits c me h p bytes hd.holds.proceeds fetched says never))
-          (frames_on c me hd.desk h (Got me bytes) hd.holds.frames) opened
+          (frames_on c me (desk_of c d) h (Got me bytes) hd.holds.frames) opened
           (λ v used f. flags_on v used h (Got me bytes) (dropped.got_quiet c me h p bytes hd.holds.proceeds fetched says never) f)
           (dropped.started c me h p bytes hd.holds.proceeds fetched says never),
       inl (mid, dropped.goes_on c me h p bytes hd.holds.proceeds fetched says never),
@@ -132,7 +133,7 @@ module _ (c : Configuration) (me : ℕ) (d : DeskData) (h : List Entry) (bytes :
         sends = subst (λ (m : ℕ). entry_of m a.says.output ≡ Sent m a.says.posts.bytes) mine a.says.posts.sends
 
         posted : IsPosted c me (read_reply p.state (256 + a.client.number) a.timestamp a.op) ((256 + a.client.number) ∷ []) a.says.posts.bytes
-        posted = subst (λ (s : State). IsPosted c me (read_reply s (256 + a.client.number) a.timestamp a.op) ((256 + a.client.number) ∷ []) a.says.posts.bytes) (sym (state_is ∙ hd.is_desk.state))
+        posted = subst (λ (s : State). IsPosted c me (read_reply s (256 + a.client.number) a.timestamp a.op) ((256 + a.client.number) ∷ []) a.says.posts.bytes) (sym state_is)
             (subst (λ (m : ℕ). IsPosted c m (read_reply d.executed.state (256 + a.client.number) a.timestamp a.op) ((256 + a.client.number) ∷ []) a.says.posts.bytes) mine (a.says.posts.posted c known))
 
     never_heard : HearsNoRead d bytes → (client t : ℕ) (op : Operation) → heard (members c) me bytes ≡ Some (read_from client t op) → is_read_only op ≡ true → ⊥
@@ -165,7 +166,7 @@ read_leads part later d bytes outs holds are marks same answers = subst (ReadLea
         me_is = f.me_is;
         members_are = f.members_are;
         right = l.1;
-        running = λ x is. subst (λ (y : DeskData). HoldsDesk c me y (after_event me (Got me bytes) outs h)) (some_injective d x (sym holds ∙ is)) l.0;
+        running = λ x is. subst (λ (y : DeskData). DeskMatchesHistory c me y (after_event me (Got me bytes) outs h)) (some_injective d x (sym holds ∙ is)) l.0;
       },
       l.2,
     )

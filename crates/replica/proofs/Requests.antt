@@ -3,7 +3,7 @@ use Rattle.std.proofs.Common.{◌≡◌, ℕ, ◌+◌, ◌-◌, ◌<◌, ◌≤�
 use Rattle.std.specs.Prelude.{nat_le, option_and_then}
 use Rattle.std.specs.Option.{option_map_or}
 use Rattle.std.proofs.lemmas.Bool.{le-leb}
-use Rattle.tuple_codec.specs.Operations.{Operation}
+use Rattle.tuple_codec.specs.Operations.{Operation, upgrade as Upgrade}
 use Rattle.terms.specs.declared.parties.ClientId.{ClientId}
 use Rattle.terms.specs.declared.order.Mode.TheVariants as modes
 use Rattle.terms.specs.declared.order.Timestamp.{Timestamp}
@@ -23,7 +23,6 @@ use Rattle.protocol.specs.Replica.State.{State, Call, call_in, call_of, kept_of,
 use Rattle.protocol.specs.Replica.RightReplica.{Point, with_waiting}
 use Rattle.protocol.specs.Replica.Owed.{IsNoOlder}
 use Rattle.replica_histories.specs.Questions.{AnswersInput}
-use Rattle.replica_histories.specs.Resending.{AllGoes}
 use Rattle.replica_histories.specs.Desk.{Desk}
 use Rattle.replica_histories.specs.Logs.{FitsLog}
 use Rattle.replica_histories.specs.Events as histories
@@ -44,12 +43,14 @@ use Rattle.replica.specs.declared.taking.Touched.TheVariants as touched
 use Rattle.replica.specs.State.{OrdererData, JoinedData, AreOne}
 use Rattle.desk.specs.State.{DeskData}
 use Rattle.desk.specs.Waiting.{WaitingData, frames_of, is_begun, is_of, request_of, with_request, without}
-use Rattle.replica.specs.Desks.{IsCallOf, IsDeskOf, FitsWaiting, FitsEvent, PartsFitEvent, given, changes_of}
+use Rattle.replica.specs.Flags.{FitsFlags}
+use Rattle.replica.specs.Desks.{FitsWaiting, FitsEvent, PartsFitEvent, given, changes_of}
 use Rattle.replica.proofs.Desking.{PaysAgain}
 use Rattle.desk.specs.Desking.{HasReply, Waits}
 use Rattle.desk.specs.Arriving.{IsBehind, IsPast, IsWaitingAlready, IsNewer}
+use Rattle.desk.specs.DeskOf.{waiting_call, waiting_calls, desk_of, IsDeskOf}
 use Rattle.replica.specs.Saying.{AllAgain}
-use Rattle.replica.specs.Joined.{Runs, me_of}
+use Rattle.replica.specs.Joined.{JoinedMatchesHistory, me_of}
 use Rattle.replica.specs.Entering.{event_of, IsLeftToDo, TakesBytes, TakesRequest}
 use Rattle.replica.proofs.Beginning.{rests, none_taken, changes_kept}
 use Rattle.replica.proofs.GoingOn.{again_stands}
@@ -57,7 +58,7 @@ use Rattle.replica.proofs.Parties.{one_self, same_log}
 use Rattle.replica.proofs.Flags.{flags_waiting}
 use Rattle.replica.proofs.Staying.{numbers_beside, said_on}
 use Rattle.replica.proofs.PostedAgain.{all_goes}
-use Rattle.replica.proofs.WaitingOn.{AreOlder, found_call, none_waits, older, no_older, no_older_same, is_latest, seen_before, waits_before, latest, calls_replaced, differ_replaced, frames_replaced}
+use Rattle.replica.proofs.WaitingOn.{AreOlder, found_call, found_spells, none_waits, older, no_older, no_older_same, is_latest, seen_before, waits_before, latest, calls_replaced, spelled_replaced, differ_replaced, frames_replaced}
 
 -- ---- received requests
 
@@ -118,9 +119,10 @@ module _ (c : Configuration) (me : ℕ) (bytes : List ℕ) (k t : ℕ) (op : Ope
       here frame (inr x) = inr (x, ap is_some h)
 
 -- a request older than the waiting one is not the waiting one
-not_behind : (c : Configuration) (me : ℕ) (bytes : List ℕ) (k t : ℕ) (op : Operation) (r : WaitingRequest) → heard (members c) me bytes ≡ Some (body_of k t op) → IsCallOf c r (call_for k t op) → IsBehind r t bytes → ⊥
-not_behind c me bytes k t op r hears is (inl below) = let same = is.2 in omega (arith, below, same)
-not_behind c me bytes k t op r hears is (inr (same, other)) = other (call_body c r.frame.items (call_for k t op) is.0 ∙ sym (heard_said c me bytes (body_of k t op) hears))
+not_behind : (c : Configuration) (me : ℕ) (bytes : List ℕ) (k t : ℕ) (op : Operation) (r : WaitingRequest) → heard (members c) me bytes ≡ Some (body_of k t op) → call_of c r.frame.items ≡ Some (call_for k t op)
+    → waiting_call c r ≡ call_for k t op → IsBehind r t bytes → ⊥
+not_behind c me bytes k t op r hears spells is (inl below) = let same = ap (λ (x : Call). x.timestamp) is in omega (arith, below, same)
+not_behind c me bytes k t op r hears spells is (inr (same, other)) = other (call_body c r.frame.items (call_for k t op) spells ∙ sym (heard_said c me bytes (body_of k t op) hears))
 
 -- ---- a replica gets it
 
@@ -143,7 +145,7 @@ module _ (old : JoinedData) (client : ClientId) (timestamp : Timestamp) (bytes :
   abbrev due : List Message
   due = again_for k t (kept_of old.desk.executed.state k)
 
-  module _ (c : Configuration) (past : List Entry) (runs : Runs c old past) (known : members c ≡ old.desk.membership) where
+  module _ (c : Configuration) (past : List Entry) (runs : JoinedMatchesHistory c old past) (known : members c ≡ old.desk.membership) where
     abbrev start : Start
     start = event_of c old past runs bytes
 
@@ -153,16 +155,13 @@ module _ (old : JoinedData) (client : ClientId) (timestamp : Timestamp) (bytes :
     h : heard (members c) (me_of old) bytes ≡ Some (body_of k t op)
     h = ap (λ m. heard m (me_of old) bytes) known ∙ ap (λ (n : ℕ). heard old.desk.membership n bytes) (sym one.0) ∙ hears
 
-    state_is : runs.desk.state ≡ old.desk.executed.state
-    state_is = runs.is_desk.state
-
     -- it brings no new view
     free : taken c past input ≡ None
     free = none_taken c past input (ap (option_and_then (new_view_from c)) h)
 
     -- which requests have a number after it
-    numbers : FitsWaiting c (me_of old) old.orderer old.desk.waiting runs.desk (input ∷ past)
-    numbers = numbers_beside c (me_of old) old.desk.waiting old.orderer runs.desk past input runs.holds.of_log.fits.faults runs.holds.of_log.fits.own
+    numbers : FitsWaiting c (me_of old) old.orderer old.desk.waiting (desk_of c old.desk) (input ∷ past)
+    numbers = numbers_beside c (me_of old) old.desk.waiting old.orderer (desk_of c old.desk) past input runs.holds.of_log.fits.faults runs.holds.of_log.fits.own
         (record { here = refl; none = free; sends = refl }) runs.numbers
 
     -- the view-change data stay
@@ -171,38 +170,36 @@ module _ (old : JoinedData) (client : ClientId) (timestamp : Timestamp) (bytes :
         (λ passes. heard_keep c (me_of old) past bytes free (subst IsNoBatch (sym h) tt) (λ s other. others_bring_none c (me_of old) s past bytes (subst IsNoChange (sym h) tt) other))
 
     -- the kept reply is due
-    stands : (desk : Desk) (d : DeskData) → d.me ≡ old.desk.me → IsDeskOf c d desk
-        → Enters c (me_of old) bytes runs.desk desk old.orderer.log old.orderer.log (again_for k t (kept_of runs.desk.state k))
-        → FitsWaiting c (me_of old) old.orderer d.waiting desk (input ∷ past)
+    stands : (d : DeskData) → d.me ≡ old.desk.me → IsDeskOf c d → Enters c (me_of old) bytes (desk_of c old.desk) (desk_of c d) old.orderer.log old.orderer.log due
+        → FitsWaiting c (me_of old) old.orderer d.waiting (desk_of c d) (input ∷ past)
         → PartsFitEvent c start old.orderer d due []
-    stands desk d me is e counted = record {
-      desk = desk;
+    stands d me is e counted = record {
       is = is;
-      fits = subst (λ (n : ℕ). FitsEvent c n start old.orderer desk d.waiting due []) (sym (me ∙ one.0)) (record {
-        fits = subst (λ (st : State). histories.Fits c (me_of old) start desk old.orderer.log (again_for k t (kept_of st k)) []) state_is entered;
+      fits = subst (λ (n : ℕ). FitsEvent c n start old.orderer (desk_of c d) d.waiting due []) (sym (me ∙ one.0)) (record {
+        fits = entered;
         numbers = counted;
         said = said_on (me_of old) old.orderer.last_checkpoint past input runs.said;
-        changes = changes (inputs_enter c (me_of old) runs.desk desk old.orderer.log old.orderer.log (again_for k t (kept_of runs.desk.state k)) past input runs.holds entered);
+        changes = changes (inputs_enter c (me_of old) (desk_of c old.desk) (desk_of c d) old.orderer.log old.orderer.log due past input runs.holds entered);
         meant = tt;
       });
     }
       where
-        entered : histories.Fits c (me_of old) start desk old.orderer.log (again_for k t (kept_of runs.desk.state k)) []
-        entered = inputs_fit c (me_of old) runs.desk desk old.orderer.log old.orderer.log (again_for k t (kept_of runs.desk.state k)) past bytes runs.holds free e
+        entered : histories.Fits c (me_of old) start (desk_of c d) old.orderer.log due []
+        entered = inputs_fit c (me_of old) (desk_of c old.desk) (desk_of c d) old.orderer.log old.orderer.log due past bytes runs.holds free e
 
     -- nothing else changes, if it doesn't wait
-    stands_same : is_latest runs.desk.state runs.desk.waiting (call_for k t op) ≡ false → PartsFitEvent c start old.orderer old.desk due []
+    stands_same : is_latest old.desk.executed.state (waiting_calls c old.desk.waiting.requests) (call_for k t op) ≡ false → PartsFitEvent c start old.orderer old.desk due []
     stands_same early =
-        stands runs.desk old.desk refl runs.is_desk
-        (enters c (me_of old) bytes k t op h old.orderer.log past runs.desk runs.desk runs.holds.of_log.fits refl refl refl
-        (sym (ap (λ (b : Bool). cond b (filter (λ other. not (other.client == k)) runs.desk.waiting ++ call_for k t op ∷ []) runs.desk.waiting) early)) (λ frame x. inl x))
+        stands old.desk refl runs.is_desk
+        (enters c (me_of old) bytes k t op h old.orderer.log past (desk_of c old.desk) (desk_of c old.desk) runs.holds.of_log.fits refl refl refl
+        (sym (ap (λ (b : Bool). cond b (filter (λ other. not (other.client == k)) (waiting_calls c old.desk.waiting.requests) ++ call_for k t op ∷ []) (waiting_calls c old.desk.waiting.requests)) early)) (λ frame x. inl x))
         numbers
 
     stands_seen : t ≤ last_time old.desk.executed.state k → PartsFitEvent c start old.orderer old.desk due []
-    stands_seen le = stands_same (seen_before runs.desk.state runs.desk.waiting k t op (subst (λ (st : State). t ≤ last_time st k) (sym state_is) le))
+    stands_seen le = stands_same (seen_before old.desk.executed.state (waiting_calls c old.desk.waiting.requests) k t op le)
 
     stands_waiting : (r : WaitingRequest) → request_of k old.desk.waiting ≡ Some r → t ≤ r.timestamp.0 → PartsFitEvent c start old.orderer old.desk due []
-    stands_waiting r found le = stands_same (waits_before c runs.desk.state k t op old.desk.waiting.requests runs.desk.waiting r runs.is_desk.waiting found le)
+    stands_waiting r found le = stands_same (waits_before c old.desk.executed.state k t op old.desk.waiting.requests r found le)
 
     stands_past : IsPast old.desk k t bytes → PartsFitEvent c start old.orderer old.desk due []
     stands_past (inl le) = stands_seen le
@@ -213,21 +210,18 @@ module _ (old : JoinedData) (client : ClientId) (timestamp : Timestamp) (bytes :
         at_most r (inr other) = let same = other.0 in omega (arith, same)
 
     -- it counts
-    counts : ((kept : Kept) × (kept_of runs.desk.state k ≡ Some kept) × (kept.timestamp ≡ t)) ⊎ ((last_time runs.desk.state k < t) × IsNoOlder runs.desk.waiting k t op)
+    counts : ((kept : Kept) × (kept_of old.desk.executed.state k ≡ Some kept) × (kept.timestamp ≡ t)) ⊎ ((last_time old.desk.executed.state k < t) × IsNoOlder (waiting_calls c old.desk.waiting.requests) k t op)
         → IsTaken c (me_of old) start
-    counts x = (body_of k t op, h, requests_count c (me_of old) runs.desk old.orderer.log past bytes k t op runs.holds x)
-
-    unseen : last_time old.desk.executed.state k < t → last_time runs.desk.state k < t
-    unseen lt = subst (λ (st : State). last_time st k < t) (sym state_is) lt
+    counts x = (body_of k t op, h, requests_count c (me_of old) (desk_of c old.desk) old.orderer.log past bytes k t op runs.holds x)
 
     abbrev point : Point
     point = runs.holds.of_desk.point
 
     -- it doesn't wait
     abbrev IsFresh : Type 0
-    IsFresh = Has (λ x. x ≡ call_for k t op) runs.desk.waiting → ⊥
+    IsFresh = Has (λ x. x ≡ call_for k t op) (waiting_calls c old.desk.waiting.requests) → ⊥
 
-    point_waits : point.waiting ≡ runs.desk.waiting
+    point_waits : point.waiting ≡ (waiting_calls c old.desk.waiting.requests)
     point_waits = ap (λ (p : Point). p.waiting) runs.holds.of_desk.is
 
     -- then nothing goes again
@@ -239,13 +233,14 @@ module _ (old : JoinedData) (client : ClientId) (timestamp : Timestamp) (bytes :
     seen_fresh le has =
         let above = waiting_are_new c (me_of old) past point (call_for k t op) (proceeds_leaves c (me_of old) past [] point point runs.holds.of_desk.proceeds)
         (subst (λ (xs : List Call). Has (λ x. x ≡ call_for k t op) xs) (sym point_waits) has) in
-        let at : last_time point.state k ≡ last_time old.desk.executed.state k = ap (λ (st : State). last_time st k) (ap (λ (p : Point). p.state) runs.holds.of_desk.is ∙ state_is) in
+        let at : last_time point.state k ≡ last_time old.desk.executed.state k = ap (λ (st : State). last_time st k) (ap (λ (p : Point). p.state) runs.holds.of_desk.is) in
         omega (arith, above, at, le)
 
     past_fresh : IsPast old.desk k t bytes → IsFresh
     past_fresh (inl le) has = seen_fresh le has
     past_fresh (inr (r, found, behind)) has =
-        not_behind c (me_of old) bytes k t op r h (found_call c k old.desk.waiting.requests runs.desk.waiting r (call_for k t op) runs.is_desk.waiting runs.is_desk.differ found has refl) behind
+        not_behind c (me_of old) bytes k t op r h (found_spells c k old.desk.waiting.requests r (call_for k t op) runs.is_desk.calls runs.is_desk.differ found has refl)
+        (found_call c k old.desk.waiting.requests r (call_for k t op) runs.is_desk.differ found has refl).1 behind
 
     -- if nothing is touched
     leaves : (outs : List Output) → AnswersInput c (me_of old) past input (given (me_of old) outs) point old.desk.executed.state.number → (outs ≡ []) ⊎ IsTaken c (me_of old) start → IsLeftToDo c start touched.Nothing old outs
@@ -263,7 +258,7 @@ module _ (old : JoinedData) (client : ClientId) (timestamp : Timestamp) (bytes :
     begins = λ c past runs known. (
       pays c (start c past runs known) old.orderer known (stands_seen c past runs known (seen_of_kept old.desk.executed.state k t kept has same)),
       leaves c past runs known outs (owes_none c past runs known (seen_fresh c past runs known (seen_of_kept old.desk.executed.state k t kept has same)) (given (me_of old) outs) old.desk.executed.state.number)
-          (inr (counts c past runs known (inl (kept, ap (λ (st : State). kept_of st k) (state_is c past runs known) ∙ has, same)))),
+          (inr (counts c past runs known (inl (kept, has, same)))),
       runs.begun,
     );
   }
@@ -288,20 +283,19 @@ module _ (old : JoinedData) (client : ClientId) (timestamp : Timestamp) (bytes :
       again_stands old outs one again.goes c (start c past runs known) known
           (due_none old.desk c (start c past runs known) old.orderer [] none (stands_waiting c past runs known r found (omega (arith, same)))),
       leaves c past runs known outs (given_again c past runs known) (inr (counts c past runs known (inr (
-        unseen c past runs known lt,
-        no_older_same c k t op old.desk.waiting.requests runs.desk.waiting r runs.is_desk.waiting runs.is_desk.differ found
+        lt,
+        no_older_same c k t op old.desk.waiting.requests r runs.is_desk.calls runs.is_desk.differ found
             (ap (option_and_then (call_in c)) says ∙ call_of_bytes c (me_of old) bytes k t op (h c past runs known)),
       )))),
       runs.begun,
     );
   }
     where
-      given_again : (c : Configuration) (past : List Entry) (runs : Runs c old past) (known : members c ≡ old.desk.membership)
+      given_again : (c : Configuration) (past : List Entry) (runs : JoinedMatchesHistory c old past) (known : members c ≡ old.desk.membership)
           → AnswersInput c (me_of old) past (Got (me_of old) bytes) (given (me_of old) outs) runs.holds.of_desk.point old.desk.executed.state.number
       given_again c past runs known =
-          resending_suffices c (me_of old) runs.desk old.orderer.log past (Got (me_of old) bytes) (given (me_of old) outs) (changes_of old.orderer) (call_for k t op) old.desk.executed.state.number runs.holds runs.changes (h c past runs known)
-          (subst (λ (st : State). AllGoes (me_of old) old.orderer.log (changes_of old.orderer) st.number (given (me_of old) outs)) (sym (state_is c past runs known))
-          (all_goes c old.orderer outs (known ∙ one.1) runs.holds.of_log.fits.own old.desk.executed.state.number again.active again.inactive))
+          resending_suffices c (me_of old) (desk_of c old.desk) old.orderer.log past (Got (me_of old) bytes) (given (me_of old) outs) (changes_of old.orderer) (call_for k t op) old.desk.executed.state.number runs.holds runs.changes (h c past runs known)
+          (all_goes c old.orderer outs (known ∙ one.1) runs.holds.of_log.fits.own old.desk.executed.state.number again.active again.inactive)
 
   -- a newer request waits
   module _ (outs : List Output) (desk : DeskData) (none : due ≡ []) (silent : outs ≡ []) (newer : IsNewer old.desk k t) (waits : Waits client timestamp bytes old.desk desk) where
@@ -314,56 +308,49 @@ module _ (old : JoinedData) (client : ClientId) (timestamp : Timestamp) (bytes :
     abbrev waiting_desk : DeskData
     waiting_desk = record old.desk { waiting = more }
 
-    module _ (c : Configuration) (past : List Entry) (runs : Runs c old past) (known : members c ≡ old.desk.membership) where
+    module _ (c : Configuration) (past : List Entry) (runs : JoinedMatchesHistory c old past) (known : members c ≡ old.desk.membership) where
+      abbrev calls : List Call
+      calls = waiting_calls c old.desk.waiting.requests
+
+      spelled : call_of c r.frame.items ≡ Some (call_for k t op)
+      spelled = ap (call_of c) waits.1 ∙ call_of_bytes c (me_of old) bytes k t op (h c past runs known)
+
       are_older : AreOlder k t old.desk.waiting.requests
       are_older = older k t old.desk.waiting.requests runs.is_desk.differ newer.1
 
-      abbrev new_calls : List Call
-      new_calls = filter (λ x. not (x.client == k)) runs.desk.waiting ++ call_for k t op ∷ []
+      same_call : waiting_call c r ≡ call_for k t op
+      same_call = ap (λ (o : Option Call). record { client = k; timestamp = t; op = option_map_or (λ x. x.op) o Upgrade }) spelled
 
-      abbrev new_desk : Desk
-      new_desk = record {
-        state = runs.desk.state;
-        snapshots = runs.desk.snapshots;
-        waiting = new_calls;
-        frames = frames_of more;
-        transfer = runs.desk.transfer;
-      }
-
-      is_new : IsDeskOf c waiting_desk new_desk
+      is_new : IsDeskOf c waiting_desk
       is_new = record {
         members_are = runs.is_desk.members_are;
         period_is = runs.is_desk.period_is;
-        state = state_is c past runs known;
-        snapshots = runs.is_desk.snapshots;
-        transfer = runs.is_desk.transfer;
         rests = runs.is_desk.rests;
-        frames = refl;
-        waiting = calls_replaced c k old.desk.waiting.requests runs.desk.waiting r (call_for k t op) runs.is_desk.waiting
-            (ap (call_of c) waits.1 ∙ call_of_bytes c (me_of old) bytes k t op (h c past runs known), refl, refl);
+        calls = spelled_replaced c k old.desk.waiting.requests r runs.is_desk.calls (spelled ∙ ap Some (sym same_call));
         differ = differ_replaced k old.desk.waiting.requests r refl runs.is_desk.differ;
       }
 
-      frames_are : (frame : List ℕ) → Has (λ x. x ≡ frame) new_desk.frames → Has (λ x. x ≡ frame) runs.desk.frames ⊎ (frame ≡ bytes)
+      frames_are : (frame : List ℕ) → Has (λ x. x ≡ frame) (frames_of more) → Has (λ x. x ≡ frame) (frames_of old.desk.waiting) ⊎ (frame ≡ bytes)
       frames_are frame x = go (frames_replaced (λ x. not (is_of k x)) old.desk.waiting.requests r frame x)
         where
-          go : Has (λ x. x ≡ frame) (frames_of old.desk.waiting) ⊎ (frame ≡ r.frame.items) → Has (λ x. x ≡ frame) runs.desk.frames ⊎ (frame ≡ bytes)
-          go (inl y) = inl (subst (λ (fs : List (List ℕ)). Has (λ x. x ≡ frame) fs) (sym runs.is_desk.frames) y)
+          go : Has (λ x. x ≡ frame) (frames_of old.desk.waiting) ⊎ (frame ≡ r.frame.items) → Has (λ x. x ≡ frame) (frames_of old.desk.waiting) ⊎ (frame ≡ bytes)
+          go (inl y) = inl y
           go (inr y) = inr (y ∙ waits.1)
 
-      is_first : is_latest runs.desk.state runs.desk.waiting (call_for k t op) ≡ true
-      is_first = latest c runs.desk.state k t op old.desk.waiting.requests runs.desk.waiting runs.is_desk.waiting (unseen c past runs known newer.0) are_older
+      is_first : is_latest old.desk.executed.state calls (waiting_call c r) ≡ true
+      is_first = subst (λ (x : Call). is_latest old.desk.executed.state calls x ≡ true) (sym same_call) (latest c old.desk.executed.state k t op old.desk.waiting.requests newer.0 are_older)
 
-      waiting_is : with_waiting runs.desk.state runs.desk.waiting (call_for k t op) ≡ new_calls
-      waiting_is = ap (λ (b : Bool). cond b new_calls runs.desk.waiting) is_first
+      waiting_is : with_waiting old.desk.executed.state calls (waiting_call c r) ≡ waiting_calls c more.requests
+      waiting_is = ap (λ (b : Bool). cond b (filter (λ x. not (x.client == k)) calls ++ waiting_call c r ∷ []) calls) is_first ∙ sym (calls_replaced c k old.desk.waiting.requests r)
 
-      new_numbers : FitsWaiting c (me_of old) old.orderer more new_desk (Got (me_of old) bytes ∷ past)
-      new_numbers own = flags_waiting c (me_of old) old.orderer.log.view old.orderer.used old.desk.waiting runs.desk.state runs.desk.waiting (Got (me_of old) bytes ∷ past) client timestamp waits.0
-          (call_for k t op) runs.is_desk.waiting refl refl is_first (numbers c past runs known own)
+      new_numbers : FitsWaiting c (me_of old) old.orderer more (desk_of c waiting_desk) (Got (me_of old) bytes ∷ past)
+      new_numbers own = subst (λ (xs : List Call). FitsFlags c (me_of old) old.orderer.log.view old.orderer.used more old.desk.executed.state xs (Got (me_of old) bytes ∷ past)) waiting_is
+          (flags_waiting c (me_of old) old.orderer.log.view old.orderer.used old.desk.waiting old.desk.executed.state calls (Got (me_of old) bytes ∷ past) r refl is_first (numbers c past runs known own))
 
       stands_new : PartsFitEvent c (start c past runs known) old.orderer waiting_desk due []
-      stands_new = stands c past runs known new_desk waiting_desk refl is_new
-          (enters c (me_of old) bytes k t op (h c past runs known) old.orderer.log past runs.desk new_desk runs.holds.of_log.fits refl refl refl (sym waiting_is) frames_are)
+      stands_new = stands c past runs known waiting_desk refl is_new
+          (enters c (me_of old) bytes k t op (h c past runs known) old.orderer.log past (desk_of c old.desk) (desk_of c waiting_desk) runs.holds.of_log.fits refl refl refl
+          (sym (ap (with_waiting old.desk.executed.state calls) (sym same_call) ∙ waiting_is)) frames_are)
           new_numbers
 
     takes_new_so : TakesBytes bytes old touched.Waiting (record old { desk = waiting_desk }) outs
@@ -376,10 +363,10 @@ module _ (old : JoinedData) (client : ClientId) (timestamp : Timestamp) (bytes :
           rests c old past runs,
           (
             counts c past runs known (inr (
-              unseen c past runs known newer.0,
-              no_older c k t op old.desk.waiting.requests runs.desk.waiting runs.is_desk.waiting (are_older c past runs known),
+              newer.0,
+              no_older c k t op old.desk.waiting.requests (are_older c past runs known),
             )),
-            owes_none c past runs known (λ has. none_waits c k t op old.desk.waiting.requests runs.desk.waiting runs.is_desk.waiting (are_older c past runs known) has),
+            owes_none c past runs known (λ has. none_waits c k t op old.desk.waiting.requests (are_older c past runs known) has),
           ),
         ),
         runs.begun,

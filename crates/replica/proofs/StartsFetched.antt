@@ -1,5 +1,5 @@
 -- The replica fetches the state at the start of a new view.
-use Rattle.std.proofs.Common.{◌≡◌, ◌<◌, ℕ, List, ◌∷◌, Option, Some, sym, ap, ◌∙◌, subst}
+use Rattle.std.proofs.Common.{◌≡◌, ◌<◌, ℕ, List, ◌∷◌, Some, sym, ◌∙◌, subst}
 use Rattle.terms.specs.declared.state.Level.TheVariants as levels
 use Rattle.wire_format.specs.Messages.{MessageData as Message, CheckpointEntryData as CheckpointEntry, NewViewData, fetch as Fetch}
 use Rattle.events.specs.declared.output.Output.{Output}
@@ -8,37 +8,37 @@ use Rattle.protocol.specs.System.Configuration.{Configuration, members}
 use Rattle.protocol.specs.System.Trace.{Once}
 use Rattle.protocol.specs.Replica.Certificates.{taken}
 use Rattle.protocol.specs.Replica.State.{pages_of}
-use Rattle.replica_histories.specs.Desk.{Desk}
 use Rattle.replica_histories.specs.Events.{Start, after_outputs}
-use Rattle.replica_histories.specs.Transfers.{MayAsk, AsksNext, transfer_to}
+use Rattle.replica_histories.specs.Transfers.{MayAsk, AsksNext}
 use Rattle.replica_histories.proofs.NewViews.{starts_may_ask}
 use Rattle.replica.specs.State.{OrdererData}
 use Rattle.desk.specs.State.{DeskData}
 use Rattle.desk.specs.Waiting.{WaitingData}
-use Rattle.replica.specs.Desks.{given, FitsEvent, IsDeskOf}
-use Rattle.desk.specs.Fetching.{aimed_at, fetch_of}
+use Rattle.replica.specs.Desks.{given, FitsEvent}
+use Rattle.desk.specs.Fetching.{aimed_at, aiming, fetch_of}
+use Rattle.desk.specs.DeskOf.{desk_of}
 use Rattle.replica.specs.Saying.{Says}
 use Rattle.replica.proofs.Asking.{asks_due}
-use Rattle.replica.proofs.Following.{aim_of, aimed_is, opened_same, asks_root}
+use Rattle.replica.proofs.Following.{aim_of, aimed_same, opened_same, asks_root}
 
-module _ (c : Configuration) (s : Start) (o : OrdererData) (d : DeskData) (desk : Desk) (w : WaitingData) (new : NewViewData) (before after : List Output) (is : IsDeskOf c d desk) where
+module _ (c : Configuration) (s : Start) (o : OrdererData) (d : DeskData) (w : WaitingData) (new : NewViewData) (before after : List Output) where
   abbrev pub start_of : CheckpointEntry
   start_of = record { number = new.start; digest = new.root }
 
-  start_may_ask : (due : List Message) → Once (λ past e. taken c past e ≡ Some new) (after_outputs s (given o.endpoint.me before)) → aimed_at d < new.start → FitsEvent c o.endpoint.me s o desk w due before
-      → MayAsk c o.endpoint.me (aim_of start_of d).transfer desk.state.number (after_outputs s (given o.endpoint.me before))
-      × AsksNext c o.endpoint.me (aim_of start_of d).transfer desk.state (after_outputs s (given o.endpoint.me before))
+  start_may_ask : (due : List Message) → Once (λ past e. taken c past e ≡ Some new) (after_outputs s (given o.endpoint.me before)) → aimed_at d < new.start → FitsEvent c o.endpoint.me s o (desk_of c d) w due before
+      → MayAsk c o.endpoint.me (aim_of start_of d).transfer d.executed.state.number (after_outputs s (given o.endpoint.me before))
+      × AsksNext c o.endpoint.me (aim_of start_of d).transfer d.executed.state (after_outputs s (given o.endpoint.me before))
   start_may_ask due once ahead f =
-      subst (λ (t : TransferData). MayAsk c o.endpoint.me t desk.state.number (after_outputs s (given o.endpoint.me before)) × AsksNext c o.endpoint.me t desk.state (after_outputs s (given o.endpoint.me before)))
-      (ap (λ (t : Option TransferData). transfer_to t new.start new.root (pages_of d.executed.state)) is.transfer ∙ opened_same d.executed.state d.transfer start_of)
-      (starts_may_ask c o.endpoint.me s desk o.log due (given o.endpoint.me before) new (pages_of d.executed.state) once
-      (subst (λ (n : ℕ). n < new.start) (sym (aimed_is c d desk is)) ahead) f.fits)
+      subst (λ (t : TransferData). MayAsk c o.endpoint.me t d.executed.state.number (after_outputs s (given o.endpoint.me before)) × AsksNext c o.endpoint.me t d.executed.state (after_outputs s (given o.endpoint.me before)))
+      (opened_same d.executed.state d.transfer start_of)
+      (starts_may_ask c o.endpoint.me s (desk_of c d) o.log due (given o.endpoint.me before) new (pages_of d.executed.state) once
+      (subst (λ (n : ℕ). n < new.start) (sym (aimed_same d.executed.state.number d.transfer)) ahead) f.fits)
 
   -- The due fetch is sent, and the transfer is open after it.
   pub start_aims : (rest : List Message) → members c ≡ o.endpoint.membership → Once (λ past e. taken c past e ≡ Some new) (after_outputs s (given o.endpoint.me before)) → aimed_at d < new.start
-      → Says o (fetch_of (aim_of start_of d).transfer) before after → FitsEvent c o.endpoint.me s o desk w (Fetch new.start levels.Root 0 ∷ rest) before
-      → FitsEvent c o.endpoint.me s o (record desk { transfer = Some (aim_of start_of d).transfer }) w rest after
+      → Says o (fetch_of (aim_of start_of d).transfer) before after → FitsEvent c o.endpoint.me s o (desk_of c d) w (Fetch new.start levels.Root 0 ∷ rest) before
+      → FitsEvent c o.endpoint.me s o (desk_of c (aiming start_of d)) w rest after
   start_aims rest known once ahead says f =
       let asking = start_may_ask (Fetch new.start levels.Root 0 ∷ rest) once ahead f in
-      asks_due c s o desk w before after (aim_of start_of d).transfer known says rest asking.0 asking.1
-      (subst (λ (m : Message). FitsEvent c o.endpoint.me s o desk w (m ∷ rest) before) (sym (asks_root d.executed.state d.transfer start_of)) f)
+      asks_due c s o (desk_of c d) w before after (aim_of start_of d).transfer known says rest asking.0 asking.1
+      (subst (λ (m : Message). FitsEvent c o.endpoint.me s o (desk_of c d) w (m ∷ rest) before) (sym (asks_root d.executed.state d.transfer start_of)) f)

@@ -9,12 +9,11 @@ use Rattle.protocol.specs.System.Trace.Entry.{Tick}
 use Rattle.protocol.specs.Replica.Certificates.{view, target}
 use Rattle.protocol.specs.Replica.RightReplica.{Point, kept_states, sought_view}
 use Rattle.protocol.specs.Replica.Owed.{HasToMove}
-use Rattle.protocol.specs.Replica.State.{Call}
 use Rattle.protocol.proofs.Words.Options.{some_injective}
 use Rattle.posting.specs.Endpoint.{EndpointState}
 use Rattle.view_change.specs.Laws.{ChangesAreJudged}
 use Rattle.replica_histories.specs.Changes.{FitsChanges, Passes}
-use Rattle.replica_histories.specs.Desk.{Snapshot, snapshot_of}
+use Rattle.replica_histories.specs.Desk.{snapshot_of}
 use Rattle.replica_histories.specs.Questions.{AnswersInput, MovesOn}
 use Rattle.replica_histories.specs.Inputs.{again_due}
 use Rattle.replica_histories.specs.Views.{entries_of}
@@ -32,13 +31,13 @@ use Rattle.replica.specs.declared.taking.Touched.TheVariants as touched
 use Rattle.state_transfer.specs.Transfer.{TransferData}
 use Rattle.replica.specs.State.{OrdererData, JoinedData, AreOne}
 use Rattle.desk.specs.State.{OpenData}
+use Rattle.desk.specs.DeskOf.{waiting_calls, desk_of}
 use Rattle.replica.specs.Beginning.{MayBegin, HasNoView}
-use Rattle.desk.specs.declared.waiting.WaitingRequest.{WaitingRequest}
 use Rattle.replica.specs.Changing.{ChangesView, HasReason, IsDue, IsNotDue, IsUnsayable, LeavesView, aimed_view, change_for}
-use Rattle.replica.specs.Desks.{given, AreCallsOf, FitsEvent, PartsFitEvent, changes_of}
+use Rattle.replica.specs.Desks.{given, FitsEvent, PartsFitEvent, changes_of}
 use Rattle.replica.specs.Entering.{event_with, IsLeftToDo, TakesTick}
 use Rattle.replica.specs.Fetching.{SaysFetch}
-use Rattle.replica.specs.Joined.{Runs, me_of}
+use Rattle.replica.specs.Joined.{JoinedMatchesHistory, me_of}
 use Rattle.replica.specs.Going.{NothingIsLeft}
 use Rattle.replica.specs.Numbering.{IsAllNumbered}
 use Rattle.replica.specs.Receiving.{JudgesAlike}
@@ -61,53 +60,52 @@ module _ (r : JoinedData) (one : AreOne r.orderer r.desk) where
 
   -- ---- the event begins
 
-  module _ (c : Configuration) (past : List Entry) (runs : Runs c r past) where
+  module _ (c : Configuration) (past : List Entry) (runs : JoinedMatchesHistory c r past) where
     abbrev start : Start
     start = event_with c r past runs tick
 
-    entered : histories.Fits c me start runs.desk o.log (again_due runs.desk.transfer) []
-    entered = ticks_fit c me runs.desk o.log past runs.holds
+    entered : histories.Fits c me start (desk_of c r.desk) o.log (again_due (desk_of c r.desk).transfer) []
+    entered = ticks_fit c me (desk_of c r.desk) o.log past runs.holds
 
     -- the view-change data stay
     held : FitsChanges c me o.log (changes_of o) (tick ∷ past)
     held = changes_stay c me past tick o.log o.log (changes_of o) o.claims
-        (inputs_enter c me runs.desk runs.desk o.log o.log (again_due runs.desk.transfer) past tick runs.holds entered)
+        (inputs_enter c me (desk_of c r.desk) (desk_of c r.desk) o.log o.log (again_due (desk_of c r.desk).transfer) past tick runs.holds entered)
         (record { view = refl; active = refl }) (silent_keep c me past tick tt)
         (claims_are_above c me o.log past o.claims runs.holds.of_log.fits runs.changes.claims) runs.changes
 
-    begins : FitsEvent c me start o runs.desk r.desk.waiting (again_due runs.desk.transfer) []
+    begins : FitsEvent c me start o (desk_of c r.desk) r.desk.waiting (again_due (desk_of c r.desk).transfer) []
     begins = record {
       fits = entered;
-      numbers = numbers_beside c me r.desk.waiting o runs.desk past tick runs.holds.of_log.fits.faults
+      numbers = numbers_beside c me r.desk.waiting o (desk_of c r.desk) past tick runs.holds.of_log.fits.faults
           runs.holds.of_log.fits.own (record { here = refl; none = refl; sends = refl }) runs.numbers;
       said = said_on me o.last_checkpoint past tick runs.said;
       changes = held;
       meant = tt;
     }
 
-    open_is : (x : OpenData) → r.desk.transfer ≡ Some x → runs.desk.transfer ≡ Some x.transfer
-    open_is x there = runs.is_desk.transfer ∙ ap (option_map (λ (y : OpenData). y.transfer)) there
+    open_is : (x : OpenData) → r.desk.transfer ≡ Some x → (desk_of c r.desk).transfer ≡ Some x.transfer
+    open_is x there = ap (option_map (λ (y : OpenData). y.transfer)) there
 
     -- an open transfer asks again
     goes_on : (outs : List Output) → members c ≡ o.endpoint.membership → SaysFetch r [] outs
-        → FitsEvent c me start o runs.desk r.desk.waiting [] outs
+        → FitsEvent c me start o (desk_of c r.desk) r.desk.waiting [] outs
     goes_on outs known (inl (none, same)) =
-        let closed : runs.desk.transfer ≡ None = runs.is_desk.transfer ∙ ap (option_map (λ (y : OpenData). y.transfer)) none in
-        subst (λ (os : List Output). FitsEvent c me start o runs.desk r.desk.waiting [] os) (sym same)
-        (subst (λ (t : Option TransferData). FitsEvent c me start o runs.desk r.desk.waiting (again_due t) []) closed begins)
+        let closed : (desk_of c r.desk).transfer ≡ None = ap (option_map (λ (y : OpenData). y.transfer)) none in
+        subst (λ (os : List Output). FitsEvent c me start o (desk_of c r.desk) r.desk.waiting [] os) (sym same)
+        (subst (λ (t : Option TransferData). FitsEvent c me start o (desk_of c r.desk) r.desk.waiting (again_due t) []) closed begins)
     goes_on outs known (inr (x, there, says)) =
-        let again = ticks_may_ask c me x.transfer runs.desk.state.number runs.desk.state past
-        (subst (λ (t : Option TransferData). FitsOpen c me t runs.desk.state.number past) (open_is x there)
+        let again = ticks_may_ask c me x.transfer r.desk.executed.state.number r.desk.executed.state past
+        (subst (λ (t : Option TransferData). FitsOpen c me t r.desk.executed.state.number past) (open_is x there)
         runs.holds.of_desk.opened) in
-        asks_again c start o runs.desk r.desk.waiting [] outs x.transfer known says [] (open_is x there) again.0 again.1
-        (subst (λ (t : Option TransferData). FitsEvent c me start o runs.desk r.desk.waiting (again_due t) []) (open_is x there) begins)
+        asks_again c start o (desk_of c r.desk) r.desk.waiting [] outs x.transfer known says [] (open_is x there) again.0 again.1
+        (subst (λ (t : Option TransferData). FitsEvent c me start o (desk_of c r.desk) r.desk.waiting (again_due t) []) (open_is x there) begins)
 
     stands : (outs : List Output) → members c ≡ r.desk.membership → SaysFetch r [] outs
         → PartsFitEvent c start o r.desk [] outs
     stands outs known says = record {
-      desk = runs.desk;
       is = runs.is_desk;
-      fits = subst (λ (m : ℕ). FitsEvent c m start o runs.desk r.desk.waiting [] outs) (sym one.0)
+      fits = subst (λ (m : ℕ). FitsEvent c m start o (desk_of c r.desk) r.desk.waiting [] outs) (sym one.0)
           (goes_on outs (known ∙ one.1) says);
     }
 
@@ -117,12 +115,7 @@ module _ (r : JoinedData) (one : AreOne r.orderer r.desk) where
     point = runs.holds.of_desk.point
 
     waits_none : r.desk.waiting.requests ≡ [] → point.waiting ≡ []
-    waits_none none = ap (λ (p : Point). p.waiting) runs.holds.of_desk.is ∙ go r.desk.waiting.requests runs.desk.waiting runs.is_desk.waiting none
-      where
-        go : (rs : List WaitingRequest) (xs : List Call) → AreCallsOf c rs xs → rs ≡ [] → xs ≡ []
-        go [] [] are is = refl
-        go [] (x ∷ xs) are is = absurd are
-        go (t ∷ rs) xs are is = absurd cc
+    waits_none none = ap (λ (p : Point). p.waiting) runs.holds.of_desk.is ∙ ap (waiting_calls c) none
 
     sought_is : sought_view c past ≡ aimed_view o
     sought_is = ap₂ (λ (a b : ℕ). max a b) runs.holds.of_log.fits.view runs.changes.target
@@ -159,16 +152,16 @@ module _ (r : JoinedData) (one : AreOne r.orderer r.desk) where
     unsaid_move v alike judge known due unsaid outputs vc bytes reason may within says = inr (all_are_spent c me o.log (changes_of o) past spent runs.changes)
       where
         passes : Passes c me past tick o.log o.log
-        passes = inputs_enter c me runs.desk runs.desk o.log o.log (again_due runs.desk.transfer) past tick runs.holds entered
+        passes = inputs_enter c me (desk_of c r.desk) (desk_of c r.desk) o.log o.log (again_due (desk_of c r.desk).transfer) past tick runs.holds entered
 
-        kept : map snapshot_of (kept_states o.log.low point.snapshots) ≡ runs.desk.snapshots
-        kept = subst (λ (h : ℕ). map snapshot_of (kept_states h point.snapshots) ≡ runs.desk.snapshots) runs.holds.of_log.fits.low runs.holds.of_desk.kept
+        kept : map snapshot_of (kept_states o.log.low point.snapshots) ≡ r.desk.snapshots
+        kept = subst (λ (h : ℕ). map snapshot_of (kept_states h point.snapshots) ≡ r.desk.snapshots) runs.holds.of_log.fits.low runs.holds.of_desk.kept
 
         spent : o.spent ≡ 64
         spent =
-            unsaid_spent c me runs.desk o (tick ∷ past) point passes.new v passes.fits_behind passes.goes (rests c r past runs).0 kept held runs.holds.of_log.fits.own refl judge
+            unsaid_spent c me (desk_of c r.desk) o (tick ∷ past) point passes.new v passes.fits_behind passes.goes (rests c r past runs).0 kept held runs.holds.of_log.fits.own refl judge
             (λ x. sym ((alike c (known ∙ one.1) (runs.is_desk.period_is ∙ sym one.2)).within x))
-            (subst (λ (xs : List Snapshot). IsUnsayable o (change_for v (entries_of xs) o)) (sym runs.is_desk.snapshots) unsaid) vc bytes (view_due v vc.view due reason) may within says
+            unsaid vc bytes (view_due v vc.view due reason) may within says
 
     -- what a tick asks for
     answers : (outputs : List Entry) (executed : ℕ) → MovesOn c me past tick outputs point → AnswersInput c me past tick outputs point executed
@@ -211,7 +204,7 @@ module _ (r : JoinedData) (one : AreOne r.orderer r.desk) where
       })
 
   -- it has a reason to leave the view, if it is due to
-  has_reason : (v : ℕ) → IsDue r v → (c : Configuration) (past : List Entry) (runs : Runs c r past) → HasReason c (start c past runs) r v
+  has_reason : (v : ℕ) → IsDue r v → (c : Configuration) (past : List Entry) (runs : JoinedMatchesHistory c r past) → HasReason c (start c past runs) r v
   has_reason v due c past runs = inl (refl, either due.0, next)
     where
       target_is : target past ≡ o.target
@@ -232,19 +225,19 @@ module _ (r : JoinedData) (one : AreOne r.orderer r.desk) where
 
   module _ (v : ℕ) (due : IsDue r v) (mid : JoinedData) (x y : List Output) (says : SaysFetch r [] x) (left : LeavesView v r x mid y) where
     -- no message is left to send and no batch to execute, and a replica that isn't active assigns no number
-    at_rest : (c : Configuration) (past : List Entry) → Runs c r past → NothingIsLeft mid
+    at_rest : (c : Configuration) (past : List Entry) → JoinedMatchesHistory c r past → NothingIsLeft mid
     at_rest c past runs = let rest = rests c r past runs in (left.voted, left.executed rest.1)
 
     none_numbered : IsAllNumbered mid
     none_numbered next = absurd (let active = next.3 in let inactive = left.inactive in cc)
 
-    stands_left : (c : Configuration) (past : List Entry) (runs : Runs c r past) → members c ≡ r.desk.membership
+    stands_left : (c : Configuration) (past : List Entry) (runs : JoinedMatchesHistory c r past) → members c ≡ r.desk.membership
         → PartsFitEvent c (start c past runs) mid.orderer mid.desk [] y
     stands_left c past runs known =
         left.stands c (start c past runs) known (rests c r past runs).0 (has_reason v due c past runs) (stands c past runs x known says)
 
     -- the replica left it by a view change for the due view
-    moved : (c : Configuration) (past : List Entry) (runs : Runs c r past) (outputs : List Entry) (executed : ℕ)
+    moved : (c : Configuration) (past : List Entry) (runs : JoinedMatchesHistory c r past) (outputs : List Entry) (executed : ℕ)
         → target (after_outputs (start c past runs) outputs) ≡ v → AnswersInput c me past tick outputs runs.holds.of_desk.point executed
     moved c past runs outputs executed at = answers c past runs outputs executed (λ vc bytes reason may within says_it.
         let same = view_due c past runs v vc.view due reason in inl (omega (arith, same, at)))
@@ -252,7 +245,7 @@ module _ (r : JoinedData) (one : AreOne r.orderer r.desk) where
     mine : mid.desk.me ≡ me
     mine = left.party.me ∙ one.0
 
-    target_left : (c : Configuration) (past : List Entry) (runs : Runs c r past) → members c ≡ r.desk.membership → target (after_outputs (start c past runs) (given me y)) ≡ v
+    target_left : (c : Configuration) (past : List Entry) (runs : JoinedMatchesHistory c r past) → members c ≡ r.desk.membership → target (after_outputs (start c past runs) (given me y)) ≡ v
     target_left c past runs known =
         subst (λ (m : ℕ). target (after_outputs (start c past runs) (given m y)) ≡ mid.orderer.target) mine (stands_left c past runs known).fits.changes.target ∙ left.target
 

@@ -1,11 +1,10 @@
 -- The replica enters a view by a new view that it took or sent: what stands after it, with all that it asks for.
 use Rattle.std.proofs.Common.{◌≡◌, ◌≢◌, ℕ, suc, ◌+◌, ◌-◌, ◌≤◌, ◌<◌, ◌^◌, ◌⊎◌, inl, inr, Bool, true, false, cond, not, ◌&&◌, ◌==◌, List, [], ◌∷◌, length, Option, Some, None, refl, sym, ap, ◌∙◌, subst, arith, nat_lt, nat_le}
-use Rattle.std.specs.Prelude.{AllPairs, is_none, option_map}
+use Rattle.std.specs.Prelude.{is_none, option_map}
 use Rattle.std.proofs.lemmas.Bool.{leb-true, leb-false, ltb-true, ltb-false, le-ltb, lt-ltb}
 use Rattle.std.proofs.lemmas.Option.{slice_get_past}
 use Rattle.sha2.specs.Sha256.{sha256}
 use Rattle.terms.specs.declared.state.Level.TheVariants as levels
-use Rattle.wire_format.specs.Lists.{Each}
 use Rattle.wire_format.specs.Messages.{MessageData as Message, CheckpointEntryData as CheckpointEntry, NewViewData, new_view as NewView, fetch as Fetch}
 use Rattle.wire.proofs.Skipping.{none_chosen}
 use Rattle.events.specs.declared.output.Output.{Output}
@@ -19,14 +18,11 @@ use Rattle.claims.specs.ClaimsView.{ClaimsData}
 use Rattle.protocol.specs.System.Configuration.{Configuration, members}
 use Rattle.protocol.specs.System.Trace.{Entry, Once}
 use Rattle.protocol.specs.Replica.Certificates.{brought, taken}
-use Rattle.protocol.specs.Replica.State.{Call}
 use Rattle.protocol.proofs.Words.Options.{some_injective}
 use Rattle.protocol.proofs.Agreement.Marks.{takes, selected_in}
-use Rattle.protocol.proofs.Words.Pairs.{Pairs, pairs_of, all_pairs}
 use Rattle.replica_histories.specs.Desk.{Desk, desk_from}
 use Rattle.replica_histories.specs.Events as histories
 use Rattle.replica_histories.specs.Events.{Start, after_outputs}
-use Rattle.replica_histories.specs.Transfers.{open_number}
 use Rattle.replica_histories.specs.Views.{begun_log, start_due, with_batches}
 use Rattle.replica_histories.specs.Changes.{AddsBatches, BeginsClaims, FitsChanges, IsOwnFrame, Passes, SpendsLeaves}
 use Rattle.replica_histories.proofs.Batches.{begun_active, begun_batch, begun_low, begun_view, stays}
@@ -36,12 +32,11 @@ use Rattle.replica_histories.proofs.Cutting.{cut_same}
 use Rattle.replica_histories.proofs.NumbersBegun.{logs_are_of_no_later_view}
 use Rattle.replica_histories.proofs.Words.{given_not}
 use Rattle.desk.specs.declared.waiting.BegunCall.{BegunCall}
-use Rattle.desk.specs.declared.waiting.WaitingRequest.{WaitingRequest}
 use Rattle.replica.specs.State.{OrdererData, JoinedData, AreOne}
 use Rattle.desk.specs.State.{OpenData, DeskData}
 use Rattle.desk.specs.Waiting.{WaitingData, with_view}
 use Rattle.replica.specs.Flags.{FitsFlags}
-use Rattle.replica.specs.Desks.{AreCallsOf, AreOfDifferentClients, FitsEvent, FitsWaiting, IsDeskOf, PartsFitEvent, WasSaid, changes_of, given}
+use Rattle.replica.specs.Desks.{FitsEvent, FitsWaiting, PartsFitEvent, WasSaid, changes_of, given}
 use Rattle.desk.specs.Desking.{desk_above}
 use Rattle.replica.specs.Fetching.{SaysFetch}
 use Rattle.desk.specs.Fetching.{aimed_at, aiming, fetch_of}
@@ -49,9 +44,10 @@ use Rattle.replica.specs.Going.{IsOneParty, IsVoted, IsVotedAll}
 use Rattle.replica.specs.Saying.{Says}
 use Rattle.replica.specs.EnteringViews.{Enters, FetchesStart, SaysVotesOf, entering}
 use Rattle.desk.specs.Begun.{AreBegun}
-use Rattle.replica.proofs.EnteringViews.{begun_desk}
+use Rattle.desk.specs.DeskOf.{desk_of, IsDeskOf}
+use Rattle.replica.proofs.EnteringViews.{begun_desk, begun_is}
 use Rattle.replica.proofs.Flags.{flags_begun}
-use Rattle.replica.proofs.Following.{aim_of, aimed_is, aims_desk}
+use Rattle.replica.proofs.Following.{aim_of, aimed_same, aims_desk}
 use Rattle.replica.proofs.StartsFetched.{start_aims}
 use Rattle.replica.proofs.Staying.{said_on}
 
@@ -157,18 +153,15 @@ entered_party new own r before n after x = record {
     so : FetchedSo (begun_parts new own x.claims x.calls r) x.fetched
     so = fetched_so (start_in new) (begun_parts new own x.claims x.calls r) x.fetched before x.said x.fetches
 
-module _ (c : Configuration) (s : Start) (r n : JoinedData) (later : Desk) (new : NewViewData) (before after : List Output) (known : members c ≡ r.orderer.endpoint.membership) (mine : r.desk.me ≡ r.orderer.endpoint.me)
-    (is : IsDeskOf c r.desk later) (once : Once (λ past e. taken c past e ≡ Some new) (after_outputs s (given r.orderer.endpoint.me before)))
-    (f : FitsEvent c r.orderer.endpoint.me s r.orderer later r.desk.waiting (start_due later new) before) where
-  due_ahead : aimed_at r.desk < new.start → start_due later new ≡ Fetch new.start levels.Root 0 ∷ []
-  due_ahead ahead =
-      ap (λ (b : Bool). cond b (Fetch new.start levels.Root 0 ∷ []) [])
-      (lt-ltb (open_number later.state.number later.transfer) new.start (subst (λ (k : ℕ). k < new.start) (sym (aimed_is c r.desk later is)) ahead))
-
-  none_behind : new.start ≤ aimed_at r.desk → start_due later new ≡ []
-  none_behind behind_it =
-      ap (λ (b : Bool). cond b (Fetch new.start levels.Root 0 ∷ []) [])
-      (le-ltb (open_number later.state.number later.transfer) new.start (subst (λ (k : ℕ). new.start ≤ k) (sym (aimed_is c r.desk later is)) behind_it))
+module _ (c : Configuration) (s : Start) (r n : JoinedData) (new : NewViewData) (before after : List Output) (known : members c ≡ r.orderer.endpoint.membership) (mine : r.desk.me ≡ r.orderer.endpoint.me)
+    (is : IsDeskOf c r.desk) (once : Once (λ past e. taken c past e ≡ Some new) (after_outputs s (given r.orderer.endpoint.me before)))
+    (f : FitsEvent c r.orderer.endpoint.me s r.orderer (desk_of c r.desk) r.desk.waiting (start_due (desk_of c r.desk) new) before) where
+  -- the fetch is due, if the start is above what is fetched
+  with_due : (b : Bool) → nat_lt (aimed_at r.desk) new.start ≡ b
+      → FitsEvent c r.orderer.endpoint.me s r.orderer (desk_of c r.desk) r.desk.waiting (cond b (Fetch new.start levels.Root 0 ∷ []) []) before
+  with_due b e =
+      subst (λ (due : List Message). FitsEvent c r.orderer.endpoint.me s r.orderer (desk_of c r.desk) r.desk.waiting due before)
+      (ap (λ (t : Bool). cond t (Fetch new.start levels.Root 0 ∷ []) []) (ap (λ (m : ℕ). nat_lt m new.start) (aimed_same r.desk.executed.state.number r.desk.transfer) ∙ e)) f
 
   abbrev aimed : JoinedData
   aimed = record r { desk = aiming (start_in new) r.desk }
@@ -176,12 +169,11 @@ module _ (c : Configuration) (s : Start) (r n : JoinedData) (later : Desk) (new 
   aimed_stands : aimed_at r.desk < new.start → SaysFetch aimed before after → PartsFitEvent c s r.orderer (aiming (start_in new) r.desk) [] after
   aimed_stands ahead (inl (none, unsaid)) = absurd (given_not (Some (aim_of (start_in new) r.desk)) (aim_of (start_in new) r.desk) refl none)
   aimed_stands ahead (inr (o, there, says)) = record {
-    desk = record later { transfer = Some (aim_of (start_in new) r.desk).transfer };
-    is = aims_desk c s r.orderer r.desk later r.desk.waiting (start_in new) before after is;
-    fits = subst (λ (m : ℕ). FitsEvent c m s r.orderer (record later { transfer = Some (aim_of (start_in new) r.desk).transfer }) r.desk.waiting [] after) (sym mine)
-        (start_aims c s r.orderer r.desk later r.desk.waiting new before after is [] known once ahead
+    is = aims_desk c s r.orderer r.desk r.desk.waiting (start_in new) before after is;
+    fits = subst (λ (m : ℕ). FitsEvent c m s r.orderer (desk_of c aimed.desk) r.desk.waiting [] after) (sym mine)
+        (start_aims c s r.orderer r.desk r.desk.waiting new before after [] known once ahead
         (subst (λ (k : OpenData). Says r.orderer (fetch_of k.transfer) before after) (sym (some_injective (aim_of (start_in new) r.desk) o there)) says)
-        (subst (λ (due : List Message). FitsEvent c r.orderer.endpoint.me s r.orderer later r.desk.waiting due before) (due_ahead ahead) f));
+        (with_due true (lt-ltb (aimed_at r.desk) new.start ahead)));
   }
 
   pub fetched_stands : FetchesStart (start_in new) r before n after → PartsFitEvent c s n.orderer n.desk [] after
@@ -193,10 +185,8 @@ module _ (c : Configuration) (s : Start) (r n : JoinedData) (later : Desk) (new 
   fetched_stands (inr (behind_it, same, none)) =
       subst (λ (y : JoinedData). PartsFitEvent c s y.orderer y.desk [] after) (sym same)
       (subst (λ (outs : List Output). PartsFitEvent c s r.orderer r.desk [] outs) (sym none) (record {
-        desk = later;
         is = is;
-        fits = subst (λ (m : ℕ). FitsEvent c m s r.orderer later r.desk.waiting [] before) (sym mine)
-            (subst (λ (due : List Message). FitsEvent c r.orderer.endpoint.me s r.orderer later r.desk.waiting due before) (none_behind behind_it) f);
+        fits = subst (λ (m : ℕ). FitsEvent c m s r.orderer (desk_of c r.desk) r.desk.waiting [] before) (sym mine) (with_due false (le-ltb (aimed_at r.desk) new.start behind_it));
       }))
 
 -- ---- no vote is left
@@ -254,33 +244,11 @@ entered_active new own r before n after is small x =
 
 -- ---- the view begins
 
--- the calls of requests of different clients are of different clients
-abbrev CallsDiffer : Call → Call → Type 0
-CallsDiffer = λ call twin. call.client ≢ twin.client
-
-abbrev RequestsDiffer : WaitingRequest → WaitingRequest → Type 0
-RequestsDiffer = λ r t. r.client.number ≢ t.client.number
-
-each_other : (c : Configuration) (r : WaitingRequest) (x : Call) (rs : List WaitingRequest) (calls : List Call) → x.client ≡ r.client.number → AreCallsOf c rs calls → Each (RequestsDiffer r) rs → Each (CallsDiffer x) calls
-each_other c r x [] [] same h d = tt
-each_other c r x [] (y ∷ calls) same h d = absurd h
-each_other c r x (t ∷ rs) [] same h d = absurd h
-each_other c r x (t ∷ rs) (y ∷ calls) same h d = (λ e. d.0 (sym same ∙ e ∙ h.0.1), each_other c r x rs calls same h.1 d.1)
-
-pairs_called : (c : Configuration) (rs : List WaitingRequest) (calls : List Call) → AreCallsOf c rs calls → Pairs RequestsDiffer rs → Pairs CallsDiffer calls
-pairs_called c [] [] h d = tt
-pairs_called c [] (y ∷ calls) h d = absurd h
-pairs_called c (t ∷ rs) [] h d = absurd h
-pairs_called c (t ∷ rs) (y ∷ calls) h d = (each_other c t y rs calls h.0.1 h.1 d.0, pairs_called c rs calls h.1 d.1)
-
-calls_differ : (c : Configuration) (rs : List WaitingRequest) (calls : List Call) → AreCallsOf c rs calls → AreOfDifferentClients rs → AllPairs CallsDiffer calls
-calls_differ c rs calls h d = all_pairs CallsDiffer calls (pairs_called c rs calls h (pairs_of RequestsDiffer rs d))
-
 -- What fits after the new view, before any fetch: the numbers are those of its calls, and its batches are claimed.
-module _ (c : Configuration) (s : Start) (r : JoinedData) (desk : Desk) (new : NewViewData) (own : Option (List ℕ)) (before : List Output) (past : List Entry) (e : Entry) (sender : ℕ)
-    (one : AreOne r.orderer r.desk) (clients : r.desk.executed.clients ≡ r.desk.membership.clients) (is : IsDeskOf c r.desk desk)
+module _ (c : Configuration) (s : Start) (r : JoinedData) (new : NewViewData) (own : Option (List ℕ)) (before : List Output) (past : List Entry) (e : Entry) (sender : ℕ)
+    (one : AreOne r.orderer r.desk) (clients : r.desk.executed.clients ≡ r.desk.membership.clients) (is : IsDeskOf c r.desk)
     (at : after_outputs s (given r.orderer.endpoint.me before) ≡ e ∷ past) (meant : AreSentAsMeant c r.orderer.endpoint.me before)
-    (fits : histories.Fits c r.orderer.endpoint.me s (desk_from (begun_log r.orderer.log new).low desk) (begun_log r.orderer.log new) (start_due desk new) (given r.orderer.endpoint.me before))
+    (fits : histories.Fits c r.orderer.endpoint.me s (desk_from (begun_log r.orderer.log new).low (desk_of c r.desk)) (begun_log r.orderer.log new) (start_due (desk_of c r.desk) new) (given r.orderer.endpoint.me before))
     (passes : Passes c r.orderer.endpoint.me past e r.orderer.log (begun_log r.orderer.log new)) (t : taken c past e ≡ Some new) (brings : brought c e ≡ Some (record { sender = sender; message = NewView new }))
     (frame : IsOwnFrame c r.orderer.endpoint.me e new own) (spends : SpendsLeaves r.orderer.spent r.orderer.spent past e) (was_said : WasSaid r.orderer.endpoint.me r.orderer.last_checkpoint past)
     (changes : FitsChanges c r.orderer.endpoint.me r.orderer.log (changes_of r.orderer) past) where
@@ -291,7 +259,7 @@ module _ (c : Configuration) (s : Start) (r : JoinedData) (desk : Desk) (new : N
   log = r.orderer.log
 
   abbrev later : Desk
-  later = desk_from (begun_log log new).low desk
+  later = desk_from (begun_log log new).low (desk_of c r.desk)
 
   small : new.start < 2 ^ 48
   small = start_small c new (selected_in c e new (takes c me past e new t).brought)
@@ -306,8 +274,8 @@ module _ (c : Configuration) (s : Start) (r : JoinedData) (desk : Desk) (new : N
     numbers : FitsWaiting c me o w later (e ∷ past)
     numbers mine =
         subst (λ (v : ℕ). FitsFlags c me v o.used w later.state later.waiting (e ∷ past)) (sym (begun_view log new passes.fits.is_log small))
-        (flags_begun c me r.desk.waiting x.calls desk.state desk.waiting past e new is.waiting t (logs_are_of_no_later_view c me log past passes.fits)
-        (calls_differ c r.desk.waiting.requests desk.waiting is.waiting is.differ) (x.are c (ap (λ (m : Membership). m.clients) is.members_are ∙ sym clients)))
+        (flags_begun c me r.desk.waiting x.calls later.state past e new is.differ t (logs_are_of_no_later_view c me log past passes.fits)
+        (x.are c (ap (λ (m : Membership). m.clients) is.members_are ∙ sym clients)))
 
     fits_event : FitsEvent c me s o later w (start_due later new) before
     fits_event = record {
@@ -322,15 +290,16 @@ module _ (c : Configuration) (s : Start) (r : JoinedData) (desk : Desk) (new : N
     abbrev begun : JoinedData
     begun = begun_parts new own x.claims x.calls r
 
-    is_later : IsDeskOf c begun.desk later
-    is_later =
-        subst (λ (h : ℕ). IsDeskOf c begun.desk (desk_from h desk)) (sym (stays log new passes.fits.is_log small).low)
-        (begun_desk c r.desk desk x.calls (logs.cut_to (logs.entered log new.view) new.start).low is)
+    abbrev low : ℕ
+    low = (logs.cut_to (logs.entered log new.view) new.start).low
+
+    desk_is : desk_of c begun.desk ≡ later
+    desk_is = begun_desk c low x.calls r.desk ∙ ap (λ (h : ℕ). desk_from h (desk_of c r.desk)) (sym (stays log new passes.fits.is_log small).low)
 
     fetched : PartsFitEvent c s x.fetched.orderer x.fetched.desk [] x.said
     fetched =
-        fetched_stands c s begun x.fetched later new before x.said (is.members_are ∙ one.1) one.0 is_later (subst (Once (λ past e. taken c past e ≡ Some new)) (sym at) (inl t))
-        fits_event x.fetches
+        fetched_stands c s begun x.fetched new before x.said (is.members_are ∙ one.1) one.0 (begun_is c low x.calls r.desk is) (subst (Once (λ past e. taken c past e ≡ Some new)) (sym at) (inl t))
+        (subst (λ (desk : Desk). FitsEvent c me s o desk w (start_due later new) before) (sym desk_is) fits_event) x.fetches
 
     same : FetchedSo begun x.fetched
     same = fetched_so (start_in new) begun x.fetched before x.said x.fetches
@@ -343,10 +312,9 @@ module _ (c : Configuration) (s : Start) (r : JoinedData) (desk : Desk) (new : N
 
     pub entered_stands : PartsFitEvent c s n.orderer n.desk [] after
     entered_stands = subst (λ (y : JoinedData). PartsFitEvent c s y.orderer y.desk [] after) (sym x.new_is) (record {
-      desk = fetched.desk;
       is = fetched.is;
-      fits = subst (λ (m : ℕ). FitsEvent c m s x.orderer fetched.desk x.fetched.desk.waiting [] after) (sym mine)
-          (x.votes.goes c s fetched.desk x.fetched.desk.waiting [] known (subst (λ (m : ℕ). FitsEvent c m s x.fetched.orderer fetched.desk x.fetched.desk.waiting [] x.said) mine fetched.fits));
+      fits = subst (λ (m : ℕ). FitsEvent c m s x.orderer (desk_of c x.fetched.desk) x.fetched.desk.waiting [] after) (sym mine)
+          (x.votes.goes c s (desk_of c x.fetched.desk) x.fetched.desk.waiting [] known (subst (λ (m : ℕ). FitsEvent c m s x.fetched.orderer (desk_of c x.fetched.desk) x.fetched.desk.waiting [] x.said) mine fetched.fits));
     })
 
     pub entered_votes : IsVotedAll n.orderer.log

@@ -1,8 +1,9 @@
 -- The waiting requests, after a client's request replaces its older one.
-use Rattle.std.proofs.Common.{◌≡◌, ◌≢◌, ℕ, zero, suc, ◌<◌, ◌≤◌, ◌⊎◌, inl, inr, Bool, true, false, cond, not, ◌&&◌, ◌||◌, ◌==◌, nat_lt, List, [], ◌∷◌, ◌++◌, filter, find, Some, refl, sym, ap, ◌∙◌, subst, arith, eq-eqb, eqb-true}
+use Rattle.std.proofs.Common.{◌≡◌, ◌≢◌, ℕ, zero, suc, ◌<◌, ◌≤◌, ◌⊎◌, inl, inr, Bool, true, false, cond, not, ◌&&◌, ◌||◌, ◌==◌, nat_lt, List, [], ◌∷◌, ◌++◌, filter, find, Some, refl, sym, ap, ◌∙◌, subst, arith, eqb-true}
 use Rattle.std.specs.Prelude.{AllPairs}
 use Rattle.std.specs.List.{list_all}
 use Rattle.std.proofs.lemmas.Bool.{eqb-false, lt-ltb, le-ltb, and_left, and_right}
+use Rattle.std.proofs.lemmas.List.{map-append}
 use Rattle.std.proofs.lemmas.List.Kept.{AllPairs-cons, AllPairs-filter}
 use Rattle.std.proofs.lemmas.Option.{same_Some}
 use Rattle.tuple_codec.specs.Operations.{Operation}
@@ -12,11 +13,12 @@ use Rattle.protocol.specs.System.Trace.{Has}
 use Rattle.protocol.specs.Replica.State.{State, Call, call_of, last_time}
 use Rattle.protocol.specs.Replica.RightReplica.{is_newer}
 use Rattle.protocol.specs.Replica.Owed.{IsNoOlder}
-use Rattle.protocol.proofs.Words.Elements.{has_either, has_filter, has_map, has_mapped, each_has, each_weaker, each_with, all_of_each}
+use Rattle.protocol.proofs.Words.Elements.{has_either, has_filter, has_map, has_mapped, each_filtered, each_has, each_mapped, each_weaker, each_where, each_with, all_of_each}
 use Rattle.protocol.proofs.Words.Pairs.{all_of, each_of}
+use Rattle.replica_histories.proofs.NumbersLists.{mapped_kept}
 use Rattle.desk.specs.declared.waiting.WaitingRequest.{WaitingRequest}
 use Rattle.desk.specs.Waiting.{is_of, texts}
-use Rattle.replica.specs.Desks.{IsCallOf, AreCallsOf, AreOfDifferentClients}
+use Rattle.desk.specs.DeskOf.{waiting_call, waiting_calls, SpellCalls, AreOfDifferentClients}
 
 -- ---- lists
 
@@ -62,38 +64,37 @@ older k t (x ∷ xs) d f = go (x.client.number == k) refl f (older k t xs (rest_
 
 -- ---- their calls
 
-calls_of_others : (c : Configuration) (k : ℕ) (rs : List WaitingRequest) (calls : List Call) → AreCallsOf c rs calls → AreOfOthers k rs → Each (λ x. x.client ≢ k) calls
-calls_of_others c k [] [] h o = tt
-calls_of_others c k [] (x ∷ calls) h o = absurd h
-calls_of_others c k (r ∷ rs) [] h o = absurd h
-calls_of_others c k (r ∷ rs) (x ∷ calls) h o = (λ same. o.0 (sym h.0.1 ∙ same), calls_of_others c k rs calls h.1 o.1)
+calls_of_others : (c : Configuration) (k : ℕ) (rs : List WaitingRequest) → AreOfOthers k rs → Each (λ x. x.client ≢ k) (waiting_calls c rs)
+calls_of_others c k rs o = each_mapped (λ (x : Call). x.client ≢ k) (waiting_call c) rs o
 
-calls_older : (c : Configuration) (k t : ℕ) (rs : List WaitingRequest) (calls : List Call) → AreCallsOf c rs calls → AreOlder k t rs → Each (λ x. (x.client ≡ k) → x.timestamp < t) calls
-calls_older c k t [] [] h o = tt
-calls_older c k t [] (x ∷ calls) h o = absurd h
-calls_older c k t (r ∷ rs) [] h o = absurd h
-calls_older c k t (r ∷ rs) (x ∷ calls) h o = (λ same. subst (λ (n : ℕ). n < t) (sym h.0.2) (o.0 (sym h.0.1 ∙ same)), calls_older c k t rs calls h.1 o.1)
+calls_older : (c : Configuration) (k t : ℕ) (rs : List WaitingRequest) → AreOlder k t rs → Each (λ x. (x.client ≡ k) → x.timestamp < t) (waiting_calls c rs)
+calls_older c k t rs o = each_mapped (λ (x : Call). (x.client ≡ k) → x.timestamp < t) (waiting_call c) rs o
 
 -- of a client the found request's call alone waits
-pub found_call : (c : Configuration) (k : ℕ) (rs : List WaitingRequest) (calls : List Call) (r : WaitingRequest) (call : Call) → AreCallsOf c rs calls → AreOfDifferentClients rs → find (is_of k) rs ≡ Some r
-    → Has (λ x. x ≡ call) calls → call.client ≡ k → IsCallOf c r call
-found_call c k [] [] r call h d f has at = absurd has
-found_call c k [] (x ∷ calls) r call h d f has at = absurd h
-found_call c k (y ∷ ys) [] r call h d f has at = absurd h
-found_call c k (y ∷ ys) (x ∷ calls) r call h d f has at = go (y.client.number == k) refl f has (λ g more. found_call c k ys calls r call h.1 (rest_differs Differ y ys d) g more at)
+pub found_call : (c : Configuration) (k : ℕ) (rs : List WaitingRequest) (r : WaitingRequest) (call : Call) → AreOfDifferentClients rs → find (is_of k) rs ≡ Some r
+    → Has (λ x. x ≡ call) (waiting_calls c rs) → call.client ≡ k → Has (λ x. x ≡ r) rs × (waiting_call c r ≡ call)
+found_call c k [] r call d f has at = absurd has
+found_call c k (y ∷ ys) r call d f has at = go (y.client.number == k) refl f has (λ g more. found_call c k ys r call (rest_differs Differ y ys d) g more at)
   where
-    go : (b : Bool) → (y.client.number == k) ≡ b → cond b (Some y) (find (is_of k) ys) ≡ Some r → (x ≡ call) ⊎ Has (λ z. z ≡ call) calls → (find (is_of k) ys ≡ Some r → Has (λ z. z ≡ call) calls → IsCallOf c r call) → IsCallOf c r call
-    go true e g (inl same) rest = subst (λ (z : Call). IsCallOf c r z) same (subst (λ (z : WaitingRequest). IsCallOf c z x) (same_Some y r g) h.0)
+    go : (b : Bool) → (y.client.number == k) ≡ b → cond b (Some y) (find (is_of k) ys) ≡ Some r → (waiting_call c y ≡ call) ⊎ Has (λ z. z ≡ call) (waiting_calls c ys)
+        → (find (is_of k) ys ≡ Some r → Has (λ z. z ≡ call) (waiting_calls c ys) → Has (λ x. x ≡ r) ys × (waiting_call c r ≡ call)) → Has (λ x. x ≡ r) (y ∷ ys) × (waiting_call c r ≡ call)
+    go true e g (inl same) rest = (inl (same_Some y r g), ap (waiting_call c) (sym (same_Some y r g)) ∙ same)
     go true e g (inr more) rest =
-        absurd (each_has (λ (z : Call). z.client ≢ k) calls call (calls_of_others c k ys calls h.1 (others k y ys (eqb-true y.client.number k e) (first_differs Differ y ys d))) more at)
-    go false e g (inl same) rest = absurd (eqb-false y.client.number k e (sym h.0.1 ∙ ap (λ (z : Call). z.client) same ∙ at))
-    go false e g (inr more) rest = rest g more
+        absurd (each_has (λ (z : Call). z.client ≢ k) (waiting_calls c ys) call (calls_of_others c k ys (others k y ys (eqb-true y.client.number k e) (first_differs Differ y ys d))) more at)
+    go false e g (inl same) rest = absurd (eqb-false y.client.number k e (ap (λ (z : Call). z.client) same ∙ at))
+    go false e g (inr more) rest = let later = rest g more in (inr later.0, later.1)
+
+-- and its frame spells it
+pub found_spells : (c : Configuration) (k : ℕ) (rs : List WaitingRequest) (r : WaitingRequest) (call : Call) → SpellCalls c rs → AreOfDifferentClients rs → find (is_of k) rs ≡ Some r
+    → Has (λ x. x ≡ call) (waiting_calls c rs) → call.client ≡ k → call_of c r.frame.items ≡ Some call
+found_spells c k rs r call h d f has at =
+    let found = found_call c k rs r call d f has at in
+    each_has (λ (x : WaitingRequest). call_of c x.frame.items ≡ Some (waiting_call c x)) rs r h found.0 ∙ ap Some found.1
 
 -- if all are older, none of the timestamp waits
-pub none_waits : (c : Configuration) (k t : ℕ) (op : Operation) (rs : List WaitingRequest) (calls : List Call) → AreCallsOf c rs calls → AreOlder k t rs
-    → Has (λ x. x ≡ record { client = k; timestamp = t; op = op }) calls → ⊥
-none_waits c k t op rs calls h o has =
-    let less = each_has (λ (x : Call). (x.client ≡ k) → x.timestamp < t) calls (record { client = k; timestamp = t; op = op }) (calls_older c k t rs calls h o) has refl in
+pub none_waits : (c : Configuration) (k t : ℕ) (op : Operation) (rs : List WaitingRequest) → AreOlder k t rs → Has (λ x. x ≡ record { client = k; timestamp = t; op = op }) (waiting_calls c rs) → ⊥
+none_waits c k t op rs o has =
+    let less = each_has (λ (x : Call). (x.client ≡ k) → x.timestamp < t) (waiting_calls c rs) (record { client = k; timestamp = t; op = op }) (calls_older c k t rs o) has refl in
     omega (arith, less)
 
 -- the call is another client's, or older, or this one
@@ -101,26 +102,16 @@ abbrev MayWait : ℕ → ℕ → Operation → Call → Type 0
 MayWait k t op x = (x.client ≡ k) → (x.timestamp < t) ⊎ ((x.timestamp ≡ t) × (x.op ≡ op))
 
 -- a request newer than the waiting ones is no older
-pub no_older : (c : Configuration) (k t : ℕ) (op : Operation) (rs : List WaitingRequest) (calls : List Call) → AreCallsOf c rs calls → AreOlder k t rs → IsNoOlder calls k t op
-no_older c k t op rs calls h o =
-    each_weaker (λ (x : Call). (x.client ≡ k) → x.timestamp < t) (MayWait k t op) (λ x f same. inl (f same)) calls (calls_older c k t rs calls h o)
+pub no_older : (c : Configuration) (k t : ℕ) (op : Operation) (rs : List WaitingRequest) → AreOlder k t rs → IsNoOlder (waiting_calls c rs) k t op
+no_older c k t op rs o =
+    each_weaker (λ (x : Call). (x.client ≡ k) → x.timestamp < t) (MayWait k t op) (λ x f same. inl (f same)) (waiting_calls c rs) (calls_older c k t rs o)
 
 -- and so is the one that waits
-pub no_older_same : (c : Configuration) (k t : ℕ) (op : Operation) (rs : List WaitingRequest) (calls : List Call) (r : WaitingRequest) → AreCallsOf c rs calls → AreOfDifferentClients rs
-    → find (is_of k) rs ≡ Some r → call_of c r.frame.items ≡ Some (record { client = k; timestamp = t; op = op }) → IsNoOlder calls k t op
-no_older_same c k t op [] [] r h d f is = tt
-no_older_same c k t op [] (x ∷ calls) r h d f is = absurd h
-no_older_same c k t op (y ∷ ys) [] r h d f is = absurd h
-no_older_same c k t op (y ∷ ys) (x ∷ calls) r h d f is = go (y.client.number == k) refl f (λ g. no_older_same c k t op ys calls r h.1 (rest_differs Differ y ys d) g is)
-  where
-    go : (b : Bool) → (y.client.number == k) ≡ b → cond b (Some y) (find (is_of k) ys) ≡ Some r → (find (is_of k) ys ≡ Some r → Each (MayWait k t op) calls) → MayWait k t op x × Each (MayWait k t op) calls
-    go false e g below = (λ same. absurd (eqb-false y.client.number k e (sym h.0.1 ∙ same)), below g)
-    go true e g below =
-        let one : x ≡ record { client = k; timestamp = t; op = op } = same_Some x _ (sym h.0.0 ∙ ap (λ (z : WaitingRequest). call_of c z.frame.items) (same_Some y r g) ∙ is) in (
-          λ same. inr (ap (λ (z : Call). z.timestamp) one, ap (λ (z : Call). z.op) one),
-          each_weaker (λ (z : Call). z.client ≢ k) (MayWait k t op) (λ z ne same. absurd (ne same)) calls
-              (calls_of_others c k ys calls h.1 (others k y ys (eqb-true y.client.number k e) (first_differs Differ y ys d))),
-        )
+pub no_older_same : (c : Configuration) (k t : ℕ) (op : Operation) (rs : List WaitingRequest) (r : WaitingRequest) → SpellCalls c rs → AreOfDifferentClients rs
+    → find (is_of k) rs ≡ Some r → call_of c r.frame.items ≡ Some (record { client = k; timestamp = t; op = op }) → IsNoOlder (waiting_calls c rs) k t op
+no_older_same c k t op rs r h d f is = each_where (MayWait k t op) (waiting_calls c rs) (λ x has same.
+    let one : x ≡ record { client = k; timestamp = t; op = op } = same_Some x _ (sym (found_spells c k rs r x h d f has same) ∙ is) in
+    inr (ap (λ (z : Call). z.timestamp) one, ap (λ (z : Call). z.op) one))
 
 -- ---- the waiting requests then
 
@@ -129,20 +120,16 @@ abbrev beats : ℕ → ℕ → Operation → Call → Bool
 beats k t op other = is_newer (record { client = k; timestamp = t; op = op }) other
 
 -- a request waits that isn't older
-not_newer : (c : Configuration) (k t : ℕ) (op : Operation) (rs : List WaitingRequest) (calls : List Call) (r : WaitingRequest) → AreCallsOf c rs calls → find (is_of k) rs ≡ Some r → t ≤ r.timestamp.0
-    → list_all (is_newer (record { client = k; timestamp = t; op = op })) calls ≡ false
-not_newer c k t op [] [] r h f le = absurd cc
-not_newer c k t op [] (x ∷ calls) r h f le = absurd h
-not_newer c k t op (y ∷ ys) [] r h f le = absurd h
-not_newer c k t op (y ∷ ys) (x ∷ calls) r h f le = go (y.client.number == k) refl f (λ g. not_newer c k t op ys calls r h.1 g le)
+not_newer : (c : Configuration) (k t : ℕ) (op : Operation) (rs : List WaitingRequest) (r : WaitingRequest) → find (is_of k) rs ≡ Some r → t ≤ r.timestamp.0
+    → list_all (is_newer (record { client = k; timestamp = t; op = op })) (waiting_calls c rs) ≡ false
+not_newer c k t op [] r f le = absurd cc
+not_newer c k t op (y ∷ ys) r f le = go (y.client.number == k) refl f (λ g. not_newer c k t op ys r g le)
   where
-    older_than : y ≡ r → nat_lt x.timestamp t ≡ false
-    older_than same = le-ltb x.timestamp t (subst (λ (n : ℕ). t ≤ n) (sym (h.0.2 ∙ ap (λ (z : WaitingRequest). z.timestamp.0) same)) le)
-
-    go : (b : Bool) → (y.client.number == k) ≡ b → cond b (Some y) (find (is_of k) ys) ≡ Some r → (find (is_of k) ys ≡ Some r → list_all (beats k t op) calls ≡ false) → (beats k t op x && list_all (beats k t op) calls) ≡ false
-    go false e g below = and_right (beats k t op x) (list_all (beats k t op) calls) (below g)
-    go true e g below = and_left (beats k t op x) (list_all (beats k t op) calls)
-        (ap (λ (b : Bool). not b || nat_lt x.timestamp t) (eq-eqb x.client k (h.0.1 ∙ eqb-true y.client.number k e)) ∙ older_than (same_Some y r g))
+    go : (b : Bool) → (y.client.number == k) ≡ b → cond b (Some y) (find (is_of k) ys) ≡ Some r → (find (is_of k) ys ≡ Some r → list_all (beats k t op) (waiting_calls c ys) ≡ false)
+        → (beats k t op (waiting_call c y) && list_all (beats k t op) (waiting_calls c ys)) ≡ false
+    go false e g below = and_right (beats k t op (waiting_call c y)) (list_all (beats k t op) (waiting_calls c ys)) (below g)
+    go true e g below = and_left (beats k t op (waiting_call c y)) (list_all (beats k t op) (waiting_calls c ys))
+        (ap (λ (b : Bool). not b || nat_lt y.timestamp.0 t) e ∙ le-ltb y.timestamp.0 t (subst (λ (z : WaitingRequest). t ≤ z.timestamp.0) (sym (same_Some y r g)) le))
 
 -- it is newer than all waiting ones
 all_newer : (k t : ℕ) (op : Operation) (calls : List Call) → Each (λ x. (x.client ≡ k) → x.timestamp < t) calls → list_all (is_newer (record { client = k; timestamp = t; op = op })) calls ≡ true
@@ -160,40 +147,28 @@ is_latest st calls call = nat_lt (last_time st call.client) call.timestamp && li
 pub seen_before : (st : State) (calls : List Call) (k t : ℕ) (op : Operation) → t ≤ last_time st k → is_latest st calls (record { client = k; timestamp = t; op = op }) ≡ false
 seen_before st calls k t op le = and_left (nat_lt (last_time st k) t) (list_all (beats k t op) calls) (le-ltb (last_time st k) t le)
 
-pub waits_before : (c : Configuration) (st : State) (k t : ℕ) (op : Operation) (rs : List WaitingRequest) (calls : List Call) (r : WaitingRequest) → AreCallsOf c rs calls → find (is_of k) rs ≡ Some r
-    → t ≤ r.timestamp.0 → is_latest st calls (record { client = k; timestamp = t; op = op }) ≡ false
-waits_before c st k t op rs calls r h f le = and_right (nat_lt (last_time st k) t) (list_all (beats k t op) calls) (not_newer c k t op rs calls r h f le)
+pub waits_before : (c : Configuration) (st : State) (k t : ℕ) (op : Operation) (rs : List WaitingRequest) (r : WaitingRequest) → find (is_of k) rs ≡ Some r
+    → t ≤ r.timestamp.0 → is_latest st (waiting_calls c rs) (record { client = k; timestamp = t; op = op }) ≡ false
+waits_before c st k t op rs r f le = and_right (nat_lt (last_time st k) t) (list_all (beats k t op) (waiting_calls c rs)) (not_newer c k t op rs r f le)
 
 -- a call newer than both is
-pub latest : (c : Configuration) (st : State) (k t : ℕ) (op : Operation) (rs : List WaitingRequest) (calls : List Call) → AreCallsOf c rs calls → last_time st k < t → AreOlder k t rs
-    → is_latest st calls (record { client = k; timestamp = t; op = op }) ≡ true
-latest c st k t op rs calls h lt o =
-    ap (λ (b : Bool). b && list_all (beats k t op) calls) (lt-ltb (last_time st k) t lt) ∙ all_newer k t op calls (calls_older c k t rs calls h o)
+pub latest : (c : Configuration) (st : State) (k t : ℕ) (op : Operation) (rs : List WaitingRequest) → last_time st k < t → AreOlder k t rs
+    → is_latest st (waiting_calls c rs) (record { client = k; timestamp = t; op = op }) ≡ true
+latest c st k t op rs lt o =
+    ap (λ (b : Bool). b && list_all (beats k t op) (waiting_calls c rs)) (lt-ltb (last_time st k) t lt) ∙ all_newer k t op (waiting_calls c rs) (calls_older c k t rs o)
 
 -- ---- the requests then
 
-calls_without : (c : Configuration) (k : ℕ) (rs : List WaitingRequest) (calls : List Call) → AreCallsOf c rs calls → AreCallsOf c (filter (λ r. not (is_of k r)) rs) (filter (λ x. not (x.client == k)) calls)
-calls_without c k [] [] h = h
-calls_without c k [] (x ∷ calls) h = absurd h
-calls_without c k (r ∷ rs) [] h = absurd h
-calls_without c k (r ∷ rs) (x ∷ calls) h = go (not (r.client.number == k)) (not (x.client == k)) (ap (λ n. not (n == k)) (sym h.0.1)) (calls_without c k rs calls h.1)
-  where
-    go : (a b : Bool) → a ≡ b → AreCallsOf c (filter (λ r. not (is_of k r)) rs) (filter (λ x. not (x.client == k)) calls)
-        → AreCallsOf c (cond a (r ∷ filter (λ r. not (is_of k r)) rs) (filter (λ r. not (is_of k r)) rs)) (cond b (x ∷ filter (λ x. not (x.client == k)) calls) (filter (λ x. not (x.client == k)) calls))
-    go true true e rest = (h.0, rest)
-    go false false e rest = rest
-    go true false e rest = absurd cc
-    go false true e rest = absurd cc
+pub calls_replaced : (c : Configuration) (k : ℕ) (rs : List WaitingRequest) (r : WaitingRequest)
+    → waiting_calls c (filter (λ x. not (is_of k x)) rs ++ r ∷ []) ≡ filter (λ x. not (x.client == k)) (waiting_calls c rs) ++ waiting_call c r ∷ []
+calls_replaced c k rs r =
+    map-append (waiting_call c) (filter (λ x. not (is_of k x)) rs) (r ∷ [])
+    ∙ ap (λ (calls : List Call). calls ++ waiting_call c r ∷ []) (mapped_kept (waiting_call c) (λ x. not (x.client == k)) rs)
 
-calls_with : (c : Configuration) (rs : List WaitingRequest) (calls : List Call) (r : WaitingRequest) (x : Call) → AreCallsOf c rs calls → IsCallOf c r x → AreCallsOf c (rs ++ r ∷ []) (calls ++ x ∷ [])
-calls_with c [] [] r x h is = (is, tt)
-calls_with c [] (y ∷ calls) r x h is = absurd h
-calls_with c (t ∷ rs) [] r x h is = absurd h
-calls_with c (t ∷ rs) (y ∷ calls) r x h is = (h.0, calls_with c rs calls r x h.1 is)
-
-pub calls_replaced : (c : Configuration) (k : ℕ) (rs : List WaitingRequest) (calls : List Call) (r : WaitingRequest) (x : Call) → AreCallsOf c rs calls → IsCallOf c r x
-    → AreCallsOf c (filter (λ r. not (is_of k r)) rs ++ r ∷ []) (filter (λ x. not (x.client == k)) calls ++ x ∷ [])
-calls_replaced c k rs calls r x h is = calls_with c (filter (λ r. not (is_of k r)) rs) (filter (λ x. not (x.client == k)) calls) r x (calls_without c k rs calls h) is
+pub spelled_replaced : (c : Configuration) (k : ℕ) (rs : List WaitingRequest) (r : WaitingRequest) → SpellCalls c rs → call_of c r.frame.items ≡ Some (waiting_call c r) → SpellCalls c (filter (λ x. not (is_of k x)) rs ++ r ∷ [])
+spelled_replaced c k rs r h is =
+    each_with (λ (x : WaitingRequest). call_of c x.frame.items ≡ Some (waiting_call c x)) (filter (λ x. not (is_of k x)) rs) r
+    (each_filtered (λ (x : WaitingRequest). call_of c x.frame.items ≡ Some (waiting_call c x)) (λ x. call_of c x.frame.items ≡ Some (waiting_call c x)) (λ x. not (is_of k x)) (λ x e y. y) rs h) is
 
 pub differ_replaced : (k : ℕ) (rs : List WaitingRequest) (r : WaitingRequest) → r.client.number ≡ k → AreOfDifferentClients rs → AreOfDifferentClients (filter (λ x. not (is_of k x)) rs ++ r ∷ [])
 differ_replaced k rs r is d =

@@ -1,57 +1,22 @@
 -- How a replica's parts fit a history and the outputs of a running event.
-use Rattle.std.specs.Prelude.{◌≡◌, ◌≢◌, ℕ, ◌≤◌, List, [], ◌∷◌, map, reverse, Option, Some, option_map, ⊤, AllPairs}
+use Rattle.std.specs.Prelude.{◌≡◌, ℕ, List, map, reverse, Option}
 use Rattle.std.specs.Option.{ForSome}
 use Rattle.wire_format.specs.Messages.{MessageData as Message, CheckpointEntryData as CheckpointEntry, checkpoint as Checkpoint}
 use Rattle.events.specs.declared.output.Output.{Output}
 use Rattle.events.specs.Outputs.{entry_of, AreSentAsMeant}
 use Rattle.ordering.specs.Log as logs
-use Rattle.protocol.specs.System.Configuration.{Configuration, members}
+use Rattle.protocol.specs.System.Configuration.{Configuration}
 use Rattle.protocol.specs.System.Trace.{Entry, Once}
-use Rattle.protocol.specs.Replica.State.{State, Call, call_of}
 use Rattle.protocol.specs.Replica.Owed.{IsSaying}
 use Rattle.replica_histories.specs.Desk.{Desk}
 use Rattle.replica_histories.specs.Events as events
 use Rattle.replica_histories.specs.Events.{Start, after_outputs}
 use Rattle.replica_histories.specs.Changes.{Changes, FitsChanges}
-use Rattle.replica_histories.specs.Transfers.{RestsOnState}
-use Rattle.desk.specs.declared.waiting.WaitingRequest.{WaitingRequest}
 use Rattle.replica.specs.State.{OrdererData}
-use Rattle.desk.specs.State.{OpenData, DeskData}
-use Rattle.desk.specs.Waiting.{WaitingData, frames_of}
+use Rattle.desk.specs.State.{DeskData}
+use Rattle.desk.specs.Waiting.{WaitingData}
+use Rattle.desk.specs.DeskOf.{desk_of, IsDeskOf}
 use Rattle.replica.specs.Flags.{FitsFlags}
-
--- ---- the desk
-
--- the call is the request's
-abbrev pub IsCallOf : Configuration → WaitingRequest → Call → Type 0
-IsCallOf c r call =
-    (call_of c r.frame.items ≡ Some call) × (call.client ≡ r.client.number) × (call.timestamp ≡ r.timestamp.0)
-
--- one for each, in order
-abbrev pub AreCallsOf : Configuration → List WaitingRequest → List Call → Type 0
-AreCallsOf c [] [] = ⊤
-AreCallsOf c (r ∷ rs) (call ∷ calls) = IsCallOf c r call × AreCallsOf c rs calls
-AreCallsOf c _ _ = ⊥
-
-abbrev pub AreOfDifferentClients : List WaitingRequest → Type 0
-AreOfDifferentClients rs = AllPairs (λ r t. r.client.number ≢ t.client.number) rs
-
--- If the transfer rests at the executed state, the pages that were not fetched are that state's.
-abbrev pub RestsAt : State → OpenData → Type 0
-RestsAt st o = (o.rests_at ≤ st.number) × (o.rests_at ≡ st.number → RestsOnState o.transfer st)
-
--- The desk holds the state, the kept states, the open transfer, and the waiting requests with their frames, one for
--- each client.
-pub record IsDeskOf (c : Configuration) (d : DeskData) (desk : Desk) : Type 0 where
-  pub members_are : members c ≡ d.membership
-  pub period_is : c.period ≡ d.period
-  pub state : desk.state ≡ d.executed.state
-  pub snapshots : desk.snapshots ≡ d.snapshots
-  pub transfer : desk.transfer ≡ option_map (λ o. o.transfer) d.transfer
-  pub rests : ForSome d.transfer (RestsAt d.executed.state)
-  pub frames : desk.frames ≡ frames_of d.waiting
-  pub waiting : AreCallsOf c d.waiting.requests desk.waiting
-  pub differ : AreOfDifferentClients d.waiting.requests
 
 -- ---- the orderer
 
@@ -93,8 +58,8 @@ pub record FitsEvent (c : Configuration) (me : ℕ) (s : Start) (o : OrdererData
   pub changes : FitsChanges c me o.log (changes_of o) (after_outputs s (given me outs))
   pub meant : AreSentAsMeant c me outs
 
+-- The desk's data are right, and both parts fit as above.
 pub record PartsFitEvent (c : Configuration) (s : Start) (o : OrdererData) (d : DeskData) (due : List Message)
     (outs : List Output) : Type 0 where
-  pub desk : Desk
-  pub is : IsDeskOf c d desk
-  pub fits : FitsEvent c d.me s o desk d.waiting due outs
+  pub is : IsDeskOf c d
+  pub fits : FitsEvent c d.me s o (desk_of c d) d.waiting due outs

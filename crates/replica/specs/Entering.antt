@@ -16,6 +16,7 @@ use Rattle.protocol.specs.Replica.Certificates.{target}
 use Rattle.replica_histories.specs.Questions.{AnswersInput, brings_question}
 use Rattle.replica_histories.specs.Events as histories
 use Rattle.replica_histories.specs.Events.{Start, after_outputs, IsTaken}
+use Rattle.desk.specs.DeskOf.{desk_of}
 use Rattle.replica.specs.declared.taking.Touched.{Touched}
 use Rattle.replica.specs.declared.taking.Touched.TheVariants as touched
 use Rattle.replica.specs.State.{JoinedData}
@@ -23,14 +24,16 @@ use Rattle.replica.specs.Beginning.{CannotBegin}
 use Rattle.replica.specs.Desks.{given, PartsFitEvent}
 use Rattle.replica.specs.Going.{IsVotedBut, IsVotedAll, IsOneParty, NothingIsLeft}
 use Rattle.replica.specs.Numbering.{IsAllNumbered}
-use Rattle.replica.specs.Joined.{Runs, me_of}
+use Rattle.replica.specs.Joined.{JoinedMatchesHistory, me_of}
 
 -- the event in which a running replica has this input
-abbrev pub event_with : (c : Configuration) (r : JoinedData) (past : List Entry) → Runs c r past → Entry → Start
-event_with c r past runs input = histories.start_at c (me_of r) runs.desk r.orderer.log past runs.holds input
+abbrev pub event_with : (c : Configuration) (r : JoinedData) (past : List Entry)
+    → JoinedMatchesHistory c r past → Entry → Start
+event_with c r past runs input = histories.start_at c (me_of r) (desk_of c r.desk) r.orderer.log past runs.holds input
 
 -- the event in which it gets the bytes
-abbrev pub event_of : (c : Configuration) (r : JoinedData) (past : List Entry) → Runs c r past → List ℕ → Start
+abbrev pub event_of : (c : Configuration) (r : JoinedData) (past : List Entry)
+    → JoinedMatchesHistory c r past → List ℕ → Start
 event_of c r past runs bytes = event_with c r past runs (Got (me_of r) bytes)
 
 -- a rule takes the input, which asks nothing and is no part of a fetched state
@@ -72,7 +75,8 @@ IsLeftToDo c s touched.View r outs = IsVotedAll r.orderer.log × IsTakenAnswered
 pub record TakesInput (input : Entry) (old : JoinedData) (touched : Touched) (new : JoinedData)
     (outs : List Output) : Type 0 where
   pub party : IsOneParty old new
-  pub begins : (c : Configuration) (past : List Entry) (runs : Runs c old past) → members c ≡ old.desk.membership
+  pub begins : (c : Configuration) (past : List Entry) (runs : JoinedMatchesHistory c old past)
+      → members c ≡ old.desk.membership
       → PartsFitEvent c (event_with c old past runs input) new.orderer new.desk [] outs
       × IsLeftToDo c (event_with c old past runs input) touched new outs × CannotBegin c new.orderer
 

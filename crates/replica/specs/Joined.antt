@@ -4,16 +4,16 @@ use Rattle.events.specs.Outputs.{after_event, AreSentAsMeant}
 use Rattle.events.specs.declared.output.Output.{Output}
 use Rattle.protocol.specs.System.Configuration.{Configuration, members}
 use Rattle.protocol.specs.System.Trace.{Entry}
-use Rattle.replica_histories.specs.Desk.{Desk}
 use Rattle.replica_histories.specs.Events as histories
 use Rattle.protocol.specs.Replica.Owed.{IsReplica}
 use Rattle.replica_histories.specs.Changes.{FitsChanges}
 use Rattle.replica.specs.declared.replica.Event.{Event}
 use Rattle.replica.specs.Inputs.{input_of}
 use Rattle.replica.specs.State.{OrdererData, JoinedData}
+use Rattle.desk.specs.DeskOf.{desk_of, IsDeskOf}
 use Rattle.desk.specs.State.{DeskData}
 use Rattle.replica.specs.Beginning.{CannotBegin}
-use Rattle.replica.specs.Desks.{IsDeskOf, FitsWaiting, WasSaid, changes_of}
+use Rattle.replica.specs.Desks.{FitsWaiting, WasSaid, changes_of}
 use Rattle.replica.specs.Numbering.{IsAllNumbered}
 
 -- a replica of these parts
@@ -25,29 +25,28 @@ abbrev pub me_of : JoinedData → ℕ
 me_of r = r.orderer.endpoint.me
 
 -- what the replica holds of its history
-pub record Runs (c : Configuration) (r : JoinedData) (history : List Entry) : Type 0 where
-  pub desk : Desk
-  pub is_desk : IsDeskOf c r.desk desk
-  pub holds : histories.Holds c (me_of r) desk r.orderer.log history
-  pub numbers : FitsWaiting c (me_of r) r.orderer r.desk.waiting desk history
+pub record JoinedMatchesHistory (c : Configuration) (r : JoinedData) (history : List Entry) : Type 0 where
+  pub is_desk : IsDeskOf c r.desk
+  pub holds : histories.Holds c (me_of r) (desk_of c r.desk) r.orderer.log history
+  pub numbers : FitsWaiting c (me_of r) r.orderer r.desk.waiting (desk_of c r.desk) history
   pub said : WasSaid (me_of r) r.orderer.last_checkpoint history
   pub changes : FitsChanges c (me_of r) r.orderer.log (changes_of r.orderer) history
   pub all : IsAllNumbered r
   pub begun : CannotBegin c r.orderer
 
 -- The history is that of a replica that orders requests, and the replica holds what the history says.
-pub record Fits (c : Configuration) (r : JoinedData) (history : List Entry) : Type 0 where
+pub record JoinedFitsHistory (c : Configuration) (r : JoinedData) (history : List Entry) : Type 0 where
   pub members_are : members c ≡ r.orderer.endpoint.membership
   pub right : IsReplica c (me_of r) history
-  pub runs : Runs c r history
+  pub runs : JoinedMatchesHistory c r history
 
 -- If the replica fits a history before the event, it then fits the history with the event. Each frame that it sends
 -- goes exactly to the parties for whom it is.
-abbrev pub HistoryStaysRight : JoinedData → Entry → List Output → JoinedData → Type 0
-HistoryStaysRight old input outs new =
-    (c : Configuration) (history : List Entry) → Fits c old history
-    → Fits c new (after_event (me_of old) input outs history) × AreSentAsMeant c (me_of old) outs
+abbrev pub JoinedStaysRight : JoinedData → Entry → List Output → JoinedData → Type 0
+JoinedStaysRight old input outs new =
+    (c : Configuration) (history : List Entry) → JoinedFitsHistory c old history
+    → JoinedFitsHistory c new (after_event (me_of old) input outs history) × AreSentAsMeant c (me_of old) outs
 
 -- the event of a step leads to its outputs
-abbrev pub EventLeads : JoinedData → Event → List Output → JoinedData → Type 0
-EventLeads old event outs new = HistoryStaysRight old (input_of (me_of old) event) outs new
+abbrev pub JoinedEventLeads : JoinedData → Event → List Output → JoinedData → Type 0
+JoinedEventLeads old event outs new = JoinedStaysRight old (input_of (me_of old) event) outs new

@@ -10,34 +10,33 @@ use Rattle.protocol.specs.System.Trace.{Entry}
 use Rattle.protocol.specs.System.Trace.Entry.{Got}
 use Rattle.protocol.specs.Replica.Certificates.{view, low, logged}
 use Rattle.protocol.specs.Replica.Owed.{IsReplica}
-use Rattle.replica_histories.specs.Desk.{Desk}
 use Rattle.replica_histories.specs.Events as histories
 use Rattle.replica_histories.specs.Changes.{FitsChanges}
 use Rattle.replica.specs.declared.replica.Event.{Event}
 use Rattle.replica.specs.State.{OrdererData, OrdererPart, DeskPart, AreOne}
+use Rattle.desk.specs.DeskOf.{desk_of, waiting_calls, IsDeskOf}
 use Rattle.desk.specs.State.{DeskData}
 use Rattle.replica.specs.Flags.{FitsFlags}
 use Rattle.replica.specs.Beginning.{CannotBegin}
-use Rattle.replica.specs.Desks.{IsDeskOf, WasSaid, changes_of}
+use Rattle.replica.specs.Desks.{WasSaid, changes_of}
 use Rattle.replica.specs.Inputs.{input_of}
-use Rattle.replica.specs.Joined.{EventLeads, joined}
+use Rattle.replica.specs.Joined.{JoinedEventLeads, joined}
 use Rattle.replica.specs.Changing.{AreChanges}
 
 -- ---- what a running part holds
 
 -- The flags of the waiting requests are right, for some greatest assigned number.
-abbrev pub HasFlags : Configuration → ℕ → DeskData → Desk → List Entry → Type 0
-HasFlags c me d desk history =
-    (used : ℕ) × FitsFlags c me (view c history) used d.waiting desk.state desk.waiting history
+abbrev pub HasFlags : Configuration → ℕ → DeskData → List Entry → Type 0
+HasFlags c me d history = (used : ℕ)
+    × FitsFlags c me (view c history) used d.waiting d.executed.state (waiting_calls c d.waiting.requests) history
 
 -- The desk holds a point of the whole history. At the primary of the view it has the right flags of the waiting
 -- requests.
-pub record HoldsDesk (c : Configuration) (me : ℕ) (d : DeskData) (history : List Entry) : Type 0 where
-  pub desk : Desk
-  pub is_desk : IsDeskOf c d desk
-  pub holds : histories.HoldsDesk c me desk history
-  pub low : histories.IsReached c me (low c me history) desk.state.number [] history
-  pub flags : primary c (view c history) ≡ me → HasFlags c me d desk history
+pub record DeskMatchesHistory (c : Configuration) (me : ℕ) (d : DeskData) (history : List Entry) : Type 0 where
+  pub is_desk : IsDeskOf c d
+  pub holds : histories.HoldsDesk c me (desk_of c d) history
+  pub low : histories.IsReached c me (low c me history) d.executed.state.number [] history
+  pub flags : primary c (view c history) ≡ me → HasFlags c me d history
 
 -- Each number above the low mark up to `used` has a batch, and none above it has one.
 pub record IsUsed (c : Configuration) (me v used : ℕ) (history : List Entry) : Type 0 where
@@ -45,7 +44,7 @@ pub record IsUsed (c : Configuration) (me v used : ℕ) (history : List Entry) :
   pub full : (j : ℕ) → low c me history < j → j ≤ used → is_some (logged c me history v j) ≡ true
 
 -- The orderer holds what the entries of ordering certify. It knows no point and no state.
-pub record HoldsOrderer (c : Configuration) (me : ℕ) (o : OrdererData) (history : List Entry) : Type 0 where
+pub record OrdererMatchesHistory (c : Configuration) (me : ℕ) (o : OrdererData) (history : List Entry) : Type 0 where
   pub holds : histories.HoldsLog c me o.log history
   pub used : primary c (view c history) ≡ me → IsUsed c me (view c history) o.used history
   pub said : WasSaid me o.last_checkpoint history
@@ -56,21 +55,21 @@ pub record HoldsOrderer (c : Configuration) (me : ℕ) (o : OrdererData) (histor
 -- ---- what fits
 
 -- The desk is the replica's, and the history a correct one's. Unless the desk stopped, it holds the history's point.
-pub record FitsDesk (c : Configuration) (me : ℕ) (d : DeskPart) (history : List Entry) : Type 0 where
+pub record DeskFitsHistory (c : Configuration) (me : ℕ) (d : DeskPart) (history : List Entry) : Type 0 where
   pub me_is : d.member.me ≡ me
   pub members_are : members c ≡ d.member.membership
   pub right : IsReplica c me history
-  pub running : ForSome d.holds (λ x. HoldsDesk c me x history)
+  pub running : ForSome d.holds (λ x. DeskMatchesHistory c me x history)
 
 -- The orderer is the replica's. Unless it stopped, it holds what the entries of ordering certify.
-pub record FitsOrderer (c : Configuration) (me : ℕ) (o : OrdererPart) (ordering : List Entry) : Type 0 where
+pub record OrdererFitsHistory (c : Configuration) (me : ℕ) (o : OrdererPart) (ordering : List Entry) : Type 0 where
   pub me_is : o.member.me ≡ me
   pub members_are : members c ≡ o.member.membership
-  pub running : ForSome o.holds (λ x. HoldsOrderer c me x ordering)
+  pub running : ForSome o.holds (λ x. OrdererMatchesHistory c me x ordering)
 
 -- both fit one history
 abbrev pub FitBoth : Configuration → ℕ → OrdererPart → DeskPart → List Entry → Type 0
-FitBoth c me o d history = FitsDesk c me d history × FitsOrderer c me o (without_reads history)
+FitBoth c me o d history = DeskFitsHistory c me d history × OrdererFitsHistory c me o (without_reads history)
 
 -- ---- which parts go together
 
@@ -95,8 +94,8 @@ BothLead o d event outs later_o later_d =
 -- same.
 abbrev pub ReadLeads : DeskPart → List ℕ → List Output → DeskPart → Type 0
 ReadLeads d bytes outs later =
-    (c : Configuration) (me : ℕ) (history : List Entry) → FitsDesk c me d history
-    → FitsDesk c me later (after_event me (Got me bytes) outs history)
+    (c : Configuration) (me : ℕ) (history : List Entry) → DeskFitsHistory c me d history
+    → DeskFitsHistory c me later (after_event me (Got me bytes) outs history)
     × (without_reads (after_event me (Got me bytes) outs history) ≡ without_reads history)
 
 -- If both fit some history, each frame among the outputs goes exactly to the parties for whom it is.
@@ -107,25 +106,25 @@ BothSendAsMeant o d outs =
 -- So does each frame among the outputs of a read, if the desk fits some history.
 abbrev pub ReadSendsAsMeant : DeskPart → List Output → Type 0
 ReadSendsAsMeant d outs =
-    (c : Configuration) (me : ℕ) (history : List Entry) → FitsDesk c me d history → AreSentAsMeant c me outs
+    (c : Configuration) (me : ℕ) (history : List Entry) → DeskFitsHistory c me d history → AreSentAsMeant c me outs
 
 -- A part that stopped fits any history; the desk only one of a correct replica.
 abbrev pub DeskStops : DeskPart → DeskPart → Type 0
 DeskStops d stopped =
-    (c : Configuration) (me : ℕ) (history other : List Entry) → FitsDesk c me d history → IsReplica c me other
-    → FitsDesk c me stopped other
+    (c : Configuration) (me : ℕ) (history other : List Entry) → DeskFitsHistory c me d history → IsReplica c me other
+    → DeskFitsHistory c me stopped other
 
 abbrev pub OrdererStops : OrdererPart → OrdererPart → Type 0
 OrdererStops o stopped =
-    (c : Configuration) (me : ℕ) (ordering other : List Entry) → FitsOrderer c me o ordering
-    → FitsOrderer c me stopped other
+    (c : Configuration) (me : ℕ) (ordering other : List Entry) → OrdererFitsHistory c me o ordering
+    → OrdererFitsHistory c me stopped other
 
 -- ---- of private functions
 
 -- the outputs of both in an event, when they are joined
 pub record Reacts (o : OrdererData) (d : DeskData) (event : Event) (outs : List Output) (later_o : OrdererData)
     (later_d : DeskData) : Type 0 where
-  pub leads : EventLeads (joined o d) event outs (joined later_o later_d)
+  pub leads : JoinedEventLeads (joined o d) event outs (joined later_o later_d)
   pub one : AreOne later_o later_d
   pub changes : AreChanges later_o.received.held
   pub endpoint : later_o.endpoint ≡ o.endpoint

@@ -7,28 +7,29 @@ use Rattle.protocol.specs.Replica.Owed.{IsPromptReplica}
 use Rattle.replica.specs.State.{OrdererData, DeskPart, JoinedData, ReplicaData, AreOne, has_stopped}
 use Rattle.desk.specs.State.{DeskData}
 use Rattle.replica.specs.Changing.{AreChanges}
-use Rattle.replica.specs.Joined.{Runs, joined, me_of}
-use Rattle.replica.specs.Parted.{HoldsDesk, HoldsOrderer, FitsDesk}
+use Rattle.replica.specs.Joined.{JoinedMatchesHistory, joined, me_of}
+use Rattle.replica.specs.Parted.{DeskMatchesHistory, OrdererMatchesHistory, DeskFitsHistory}
 use Rattle.replica.specs.Fits as replica_fits
 
 -- Together they hold the whole history.
 abbrev pub PartsJoin : Type 0
 PartsJoin =
     (c : Configuration) (o : OrdererData) (d : DeskData) (history : List Entry) → AreOne o d
-    → HoldsDesk c o.endpoint.me d history → HoldsOrderer c o.endpoint.me o (without_reads history)
-    → Runs c (joined o d) history
+    → DeskMatchesHistory c o.endpoint.me d history → OrdererMatchesHistory c o.endpoint.me o (without_reads history)
+    → JoinedMatchesHistory c (joined o d) history
 
 -- And what holds the whole history parts into both.
 abbrev pub HoldsPart : Type 0
 HoldsPart =
     (c : Configuration) (r : JoinedData) (history : List Entry) → AreOne r.orderer r.desk
-    → AreChanges r.orderer.received.held → Runs c r history
-    → HoldsDesk c (me_of r) r.desk history × HoldsOrderer c (me_of r) r.orderer (without_reads history)
+    → AreChanges r.orderer.received.held → JoinedMatchesHistory c r history
+    → DeskMatchesHistory c (me_of r) r.desk history
+    × OrdererMatchesHistory c (me_of r) r.orderer (without_reads history)
 
 -- A replica whose desk has not stopped is prompt to the end of its history,
 abbrev pub DesksArePrompt : Type 0
 DesksArePrompt =
-    (c : Configuration) (me : ℕ) (d : DeskPart) (history : List Entry) → FitsDesk c me d history
+    (c : Configuration) (me : ℕ) (d : DeskPart) (history : List Entry) → DeskFitsHistory c me d history
     → is_none d.holds ≡ false → IsPromptReplica c me history
 
 -- and so is one of which neither part has stopped.

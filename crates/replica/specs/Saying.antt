@@ -18,8 +18,9 @@ use Rattle.replica_histories.specs.Desk.{Desk}
 use Rattle.replica_histories.specs.Events.{Start, after_outputs}
 use Rattle.replica_histories.specs.Outputs.{MayNumber}
 use Rattle.replica.specs.State.{OrdererData, JoinedData}
+use Rattle.desk.specs.DeskOf.{SpellCalls}
 use Rattle.desk.specs.Waiting.{WaitingData, texts, unnumbered, with_numbered}
-use Rattle.replica.specs.Desks.{AreCallsOf, given, FitsEvent}
+use Rattle.replica.specs.Desks.{given, FitsEvent}
 use Rattle.replica.specs.Going.{GoesOn, IsVoted, IsSameOrderer}
 
 -- the orderer sends the message to the other replicas, after the earlier outputs
@@ -189,7 +190,7 @@ pub record SaysBatch (number : ℕ) (text : List ℕ) (old : OrdererData) (befor
   pub log : new.log ≡ with_batch old.log number text
   pub target : new.target ≡ old.target
   pub goes : (c : Configuration) (s : Start) (desk : Desk) (w : WaitingData) (due : List Message)
-      → members c ≡ old.endpoint.membership → AreCallsOf c w.requests desk.waiting
+      → members c ≡ old.endpoint.membership → SpellCalls c w.requests
       → requests_of text ≡ texts (unnumbered w)
       → MayNumber c old.endpoint.me desk old.log (after_outputs s (given old.endpoint.me before)) number text
       → FitsEvent c old.endpoint.me s old desk w due before

@@ -6,7 +6,7 @@ ghost use Rattle.replica.specs.Changing.{AreChanges};
 ghost use Rattle.replica.specs.Entering.{TakesInput};
 ghost use Rattle.replica.specs.FollowingUp.{ExecutesAndNumbers, FollowsUp};
 ghost use Rattle.replica.specs.Inputs.{input_of};
-ghost use Rattle.replica.specs.Joined.{EventLeads, me_of};
+ghost use Rattle.replica.specs.Joined.{JoinedEventLeads, me_of};
 
 use crate::orderer::Orderer;
 use crate::replica::Event;
@@ -50,7 +50,7 @@ impl Joined {
     /// The outputs of an event. Tells a proof that both parts are of one replica before it and after it.
     pub(crate) fn step(&mut self, alloc: Global, event: Event<'_>) -> Result<Outputs, Stop>
         ensures before { AreOne self.old.orderer self.old.desk }
-        ensures leads { IfOk result (λ outs. EventLeads self.old event.entry outs.items self.new) }
+        ensures leads { IfOk result (λ outs. JoinedEventLeads self.old event.entry outs.items self.new) }
         ensures endpoint { self.new.orderer.endpoint ≡ self.old.orderer.endpoint }
         ensures after { IfOk result (λ _. AreOne self.new.orderer self.new.desk) }
         ensures changes { IfOk result (λ _. AreChanges self.new.orderer.received.held) }
@@ -65,7 +65,7 @@ impl Joined {
     // The outputs of an event: first those that the message itself asks for, then those that the log asks for. Last the
     // primary assigns the free numbers to waiting requests.
     pub(crate) fn react(&mut self, alloc: Global, event: Event<'_>) -> Result<Outputs, Stop>
-        ensures leads { IfOk result (λ outs. EventLeads self.old event.entry outs.items self.new) }
+        ensures leads { IfOk result (λ outs. JoinedEventLeads self.old event.entry outs.items self.new) }
         ensures endpoint { self.new.orderer.endpoint ≡ self.old.orderer.endpoint }
     {
         self.are_one();

@@ -85,9 +85,11 @@
 //!   invariant is its contract.
 //! - Within an event `PartsFitEvent` ties both parts, with the messages that are still due, to that history.
 //!   Between events `Fits` ties a replica to a history, and `HistoryStaysRight` hands every such history on.
-//! - Each part is tied by itself (`FitsDesk`, `FitsOrderer` in `specs/Parted.antt`). The desk fits the whole history,
-//!   the orderer the history without read-only requests and their replies. So a desk that answers a read on its own
-//!   (`Desk::read`) needs no orderer.
+//! - The desk's data tell the desk of the history (`desk_of` in `desk/specs/DeskOf.antt`). `IsDeskOf` says what is
+//!   right about them.
+//! - Each part is tied by itself (`DeskFitsHistory`, `OrdererFitsHistory` in `specs/Parted.antt`). The desk fits the
+//!   whole history, the orderer the history without read-only requests and their replies. So a desk that answers a read
+//!   on its own (`Desk::read`) needs no orderer.
 //! - By the law `parts_are_whole` the parts hold exactly what the joined replica holds. It rests on `reads_are_idle`:
 //!   entries beside the order bring nothing that a certificate counts, which two bytes of their frames tell
 //!   (`marks_tell_reads`).

@@ -10,7 +10,7 @@ use Rattle.protocol.specs.Replica.RightReplica.{first_point}
 use Rattle.events.specs.Outputs.{after_entries, entry_of, after_event}
 use Rattle.events.specs.declared.output.Output.{Output}
 use Rattle.journal.specs.Parts.{Part, AreAlike, fresh, longer_part}
-use Rattle.replica.specs.Parted.{DeskStops, FitBoth, FitsDesk, FitsOrderer, ReadLeads}
+use Rattle.replica.specs.Parted.{DeskStops, FitBoth, DeskFitsHistory, OrdererFitsHistory, ReadLeads}
 use Rattle.replica.specs.State.{DeskPart, OrdererPart}
 use Rattle.desk.specs.State.{DeskData}
 use Rattle.replica.proofs.Prompt.{desks_are_prompt}
@@ -21,12 +21,12 @@ use Rattle.space_node.proofs.Events.{ordering_behind}
 -- ---- an event of ordering, of entries that stand for it
 
 module _ (c : Configuration) (o later_o : OrdererPart) (d later_d : DeskPart) (share order : Part) (input : Input) (outs : List Output) (es : List Entry)
-    (leads : InputLeads o d input outs later_o later_d) (seats : SeatsDesk c d share) (fits : FitsOrderer c order.party o order.history)
+    (leads : InputLeads o d input outs later_o later_d) (seats : SeatsDesk c d share) (fits : OrdererFitsHistory c order.party o order.history)
     (are : es ≡ input_of share.party input ∷ map (entry_of share.party) outs) (alike : AreAlike share order) where
   both : FitBoth c share.party later_o later_d (after_event share.party (input_of share.party input) outs share.history)
   both = leads c share.party share.history (
     seats.fits,
-    subst (FitsOrderer c share.party o) (sym alike.1) (subst (λ (p : ℕ). FitsOrderer c p o order.history) (sym alike.0) fits),
+    subst (OrdererFitsHistory c share.party o) (sym alike.1) (subst (λ (p : ℕ). OrdererFitsHistory c p o order.history) (sym alike.0) fits),
   )
 
   after : after_entries es share.history ≡ after_event share.party (input_of share.party input) outs share.history
@@ -35,23 +35,23 @@ module _ (c : Configuration) (o later_o : OrdererPart) (d later_d : DeskPart) (s
   pub desk_after : is_none later_d.holds ≡ false → SeatsDesk c later_d (longer_part share es)
   desk_after on = record {
     replica = seats.replica;
-    fits = subst (FitsDesk c share.party later_d) (sym after) both.0;
-    prompt = desks_are_prompt c share.party later_d (after_entries es share.history) (subst (FitsDesk c share.party later_d) (sym after) both.0) on;
+    fits = subst (DeskFitsHistory c share.party later_d) (sym after) both.0;
+    prompt = desks_are_prompt c share.party later_d (after_entries es share.history) (subst (DeskFitsHistory c share.party later_d) (sym after) both.0) on;
   }
 
-  pub orderer_after : FitsOrderer c order.party later_o (after_entries (without_reads es) order.history)
+  pub orderer_after : OrdererFitsHistory c order.party later_o (after_entries (without_reads es) order.history)
   orderer_after =
-      subst (λ (p : ℕ). FitsOrderer c p later_o (after_entries (without_reads es) order.history)) alike.0
-      (subst (λ (h : List Entry). FitsOrderer c share.party later_o (after_entries (without_reads es) h)) alike.1
-      (subst (FitsOrderer c share.party later_o) (ordering_behind es share.history)
-      (subst (λ (h : List Entry). FitsOrderer c share.party later_o (without_reads h)) (sym after) both.1)))
+      subst (λ (p : ℕ). OrdererFitsHistory c p later_o (after_entries (without_reads es) order.history)) alike.0
+      (subst (λ (h : List Entry). OrdererFitsHistory c share.party later_o (after_entries (without_reads es) h)) alike.1
+      (subst (OrdererFitsHistory c share.party later_o) (ordering_behind es share.history)
+      (subst (λ (h : List Entry). OrdererFitsHistory c share.party later_o (without_reads h)) (sym after) both.1)))
 
 -- ---- a read
 
 module _ (c : Configuration) (d later : DeskPart) (share : Part) (bytes : List ℕ) (outs : List Output) (es : List Entry) (leads : ReadLeads d bytes outs later) (seats : SeatsDesk c d share)
     (are : es ≡ Got share.party bytes ∷ map (entry_of share.party) outs) where
-  read_fits : FitsDesk c share.party later (after_entries es share.history)
-  read_fits = subst (λ (xs : List Entry). FitsDesk c share.party later (after_entries xs share.history)) (sym are) (leads c share.party share.history seats.fits).0
+  read_fits : DeskFitsHistory c share.party later (after_entries es share.history)
+  read_fits = subst (λ (xs : List Entry). DeskFitsHistory c share.party later (after_entries xs share.history)) (sym are) (leads c share.party share.history seats.fits).0
 
   pub desk_after_read : is_none later.holds ≡ false → SeatsDesk c later (longer_part share es)
   desk_after_read on = record {
@@ -85,7 +85,7 @@ desk_left c d stopped share left seats stops is =
     subst (SeatsDesk c stopped) (sym is) seat
 
 -- and that of a new one
-pub new_desk : (c : Configuration) (d : DeskPart) (share : Part) → share.party < 256 → FitsDesk c share.party d share.history → share.history ≡ [] → SeatsDesk c d share
+pub new_desk : (c : Configuration) (d : DeskPart) (share : Part) → share.party < 256 → DeskFitsHistory c share.party d share.history → share.history ≡ [] → SeatsDesk c d share
 new_desk c d share replica fits new = record {
   replica = replica;
   fits = fits;

@@ -13,7 +13,7 @@ use Rattle.events.specs.Outputs.{after_event, entry_of}
 use Rattle.events.specs.declared.output.Output.{Output}
 use Rattle.journal.specs.Parts.{Part, longer_part}
 use Rattle.replica.specs.State.{DeskPart, OrdererPart}
-use Rattle.replica.specs.Parted.{FitBoth, FitsDesk}
+use Rattle.replica.specs.Parted.{FitBoth, DeskFitsHistory}
 use Rattle.client_cert.specs.State.{ClientState}
 use Rattle.client_cert.specs.Fits.{Fits}
 use Rattle.space_node.specs.declared.input.Input.{Input}
@@ -85,7 +85,7 @@ seat_after s input outs = record {
 -- doesn't have that event.
 pub record SeatsDesk (c : Configuration) (desk : DeskPart) (share : Part) : Type 0 where
   pub replica : share.party < FIRST_CLIENT
-  pub fits : FitsDesk c share.party desk share.history
+  pub fits : DeskFitsHistory c share.party desk share.history
   pub prompt : IsPromptReplica c share.party share.history
 
 -- Unless it stopped, the client of this number runs and fits the history, which has as many calls. The history is

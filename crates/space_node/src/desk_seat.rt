@@ -4,7 +4,7 @@ ghost use Rattle.std.specs.Prelude.{◌≡◌, ◌<◌, [], IfSome, IfNone};
 ghost use Rattle.terms.specs.declared.parties.TheConstants.{FIRST_CLIENT};
 ghost use Rattle.protocol.specs.Replica.Owed.{IsPromptReplica};
 ghost use Rattle.protocol.specs.System.Trace.Entry.{Got};
-ghost use Rattle.replica.specs.Parted.{FitsDesk};
+ghost use Rattle.replica.specs.Parted.{DeskFitsHistory};
 ghost use Rattle.space_node.specs.Seats.{seat_after, stopped_at};
 
 use crate::entries::entries_of;
@@ -48,7 +48,7 @@ impl<N: Naming> DeskSeat<N> {
     /// The seat of a replica that has done nothing.
     pub(crate) fn new(desk: Desk, share: Share<N>) -> DeskSeat<N>
         requires replica { share.party < FIRST_CLIENT }
-        requires fits { FitsDesk N.config share.party desk share.history }
+        requires fits { DeskFitsHistory N.config share.party desk share.history }
         requires new { share.history ≡ [] }
     {
         DeskSeat { desk, share }

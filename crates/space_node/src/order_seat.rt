@@ -1,7 +1,7 @@
 //! The state behind a node's order lock.
 
 ghost use Rattle.std.specs.Prelude.{◌≡◌, None, is_none, false, IfSome, IfNone, IfOk, OnErr, true};
-ghost use Rattle.replica.specs.Parted.{FitsOrderer};
+ghost use Rattle.replica.specs.Parted.{OrdererFitsHistory};
 ghost use Rattle.space_node.specs.Seats.{InputLeads, input_of, seat_after, stopped_at};
 
 use crate::desk_seat::DeskSeat;
@@ -24,7 +24,7 @@ pub(crate) struct OrderSeat<N: Naming> {
 
 impl<N: Naming> Model for OrderSeat<N> {
     ghost use Rattle.std.specs.Prelude.{is_none};
-    ghost use Rattle.replica.specs.Parted.{FitsOrderer};
+    ghost use Rattle.replica.specs.Parted.{OrdererFitsHistory};
     ghost use Rattle.space_node.specs.Codes.{seated_code};
     ghost use Rattle.space_node.specs.Seats.{Seated};
 
@@ -38,13 +38,13 @@ impl<N: Naming> Model for OrderSeat<N> {
       stopped = is_none s.orderer.holds;
     } };
 
-    ghost invariant = { λ s. FitsOrderer N.config s.order.party s.orderer s.order.history };
+    ghost invariant = { λ s. OrdererFitsHistory N.config s.order.party s.orderer s.order.history };
 }
 
 impl<N: Naming> OrderSeat<N> {
     /// The seat of a replica that has done nothing.
     pub(crate) fn new(orderer: Orderer, order: OrderShare<N>) -> OrderSeat<N>
-        requires fits { FitsOrderer N.config order.party orderer order.history }
+        requires fits { OrdererFitsHistory N.config order.party orderer order.history }
     {
         OrderSeat { orderer, order }
     }

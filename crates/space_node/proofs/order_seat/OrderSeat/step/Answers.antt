@@ -2,7 +2,7 @@ use Rattle.std.proofs.Common.{rules, ◌≡◌, ◌∷◌, map, subst, sym}
 use Rattle.events.specs.Outputs.{entry_of}
 use Rattle.journal.specs.Parts.{AreAlike, Part, longer_part}
 use Rattle.protocol.specs.System.Reads.{without_reads}
-use Rattle.replica.specs.Parted.{FitsOrderer}
+use Rattle.replica.specs.Parted.{OrdererFitsHistory}
 use Rattle.space_node.specs.Seats.{SeatsDesk, input_of}
 use Rattle.space_node.proofs.Parts.{desk_after, orderer_after}
 use Rattle.space_node.proofs.order_seat.OrderSeat.step.Goals as goal
@@ -16,7 +16,7 @@ invariant_of-self-in-Ok-record_order g c =
     let are : es ≡ input_of s.share.party c.args.input ∷ map (entry_of s.share.party) outs = search rules in
     let alike : AreAlike s.share o.order = search rules in
     let kept : c.record_order.new.order ≡ longer_part o.order (without_reads es) = search rules in
-    subst (λ (p : Part). FitsOrderer g.N.Naming.config p.party c.step_parts.new.orderer p.history) (sym kept)
+    subst (λ (p : Part). OrdererFitsHistory g.N.Naming.config p.party c.step_parts.new.orderer p.history) (sym kept)
     (orderer_after g.N.Naming.config o.orderer c.step_parts.new.orderer s.desk c.step_parts.new.desk s.share o.order c.args.input outs es c.in-Ok.ensures.leads c.shelf.invariant c.self.invariant are alike)
 
 pub invariant_of-shelf-in-Ok-record_order : goal.invariant_of-shelf-in-Ok-record_order
