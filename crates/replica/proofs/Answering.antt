@@ -32,16 +32,16 @@ use Rattle.replica_histories.proofs.TransfersAnswering.{posted_to_one}
 use Rattle.replica.specs.declared.taking.Touched.TheVariants as touched
 use Rattle.wire_format.specs.Spelling.{is_signed}
 use Rattle.replica.specs.State.{JoinedData, AreOne}
-use Rattle.replica.specs.Desks.{given, FitsEvent}
+use Rattle.orderer.specs.Fitting.{given, FitsEvent}
 use Rattle.replica.specs.Entering.{event_of, TakesBytes}
 use Rattle.desk.specs.Fetching.{GivesPart, HasKept, HasNone}
 use Rattle.desk.specs.DeskOf.{desk_of}
 use Rattle.replica.specs.Joined.{JoinedMatchesHistory, me_of}
 use Rattle.replica.proofs.Beginning.{rests}
 use Rattle.replica.proofs.Beside.{begins, heard_so}
-use Rattle.replica.proofs.Given.{GivesOne, gives_one}
-use Rattle.replica.proofs.Parties.{one_self, same_log}
-use Rattle.replica.proofs.Staying.{GivesNoNumber, fits_on, sent_beside}
+use Rattle.orderer.proofs.Staying.{GivesOne, gives_one, GivesNoNumber, fits_on, sent_beside}
+use Rattle.orderer.proofs.Parties.{same_log}
+use Rattle.replica.proofs.Parties.{one_self}
 
 -- a received fetch is of a place
 within_level : (m : Membership) (me : ℕ) (bytes : List ℕ) (s k index : ℕ) (level : Level)

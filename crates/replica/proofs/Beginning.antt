@@ -57,17 +57,21 @@ use Rattle.replica_histories.proofs.Entering.{inputs_fit}
 use Rattle.replica_histories.proofs.Resting.{held_are_settled}
 use Rattle.replica_histories.proofs.Counting.{batches_count, batches_drop, prepares_count, prepares_drop, commits_count, commits_drop, others_drop, mapped_none}
 use Rattle.replica.specs.declared.taking.Touched.TheVariants as touched
-use Rattle.replica.specs.State.{OrdererData, JoinedData, AreOne}
-use Rattle.replica.specs.Desks.{PartsFitEvent, FitsEvent, changes_of}
-use Rattle.replica.specs.Going.{IsSameLog, IsVotedBut, NothingIsLeft}
-use Rattle.replica.specs.Taking.{TakesBatch, TakesPrepare, TakesCommit}
+use Rattle.replica.specs.State.{JoinedData, AreOne}
+use Rattle.replica.specs.Desks.{PartsFitEvent}
+use Rattle.replica.specs.Going.{NothingIsLeft}
+use Rattle.orderer.specs.Taking.{TakesBatch, TakesPrepare, TakesCommit}
 use Rattle.replica.specs.Joined.{JoinedMatchesHistory, me_of}
+use Rattle.orderer.specs.State.{OrdererData}
+use Rattle.orderer.specs.Fitting.{FitsEvent, changes_of}
+use Rattle.orderer.specs.Going.{IsSameLog, IsVotedBut}
 use Rattle.replica.specs.Entering.{event_of, TakesBytes, TakesMessage}
 use Rattle.replica.proofs.Choosing.{active_begins_none}
-use Rattle.replica.proofs.Parties.{same_log, one_self}
-use Rattle.replica.proofs.Staying.{numbers_alike, numbers_beside, said_on, same_rows}
-use Rattle.replica.proofs.Rows.{due_prepare_elsewhere, due_commit_elsewhere}
+use Rattle.replica.proofs.Parties.{one_self}
+use Rattle.orderer.proofs.Staying.{numbers_alike, numbers_beside, said_on, same_rows}
 use Rattle.desk.specs.DeskOf.{desk_of}
+use Rattle.orderer.proofs.Parties.{same_log}
+use Rattle.orderer.proofs.Voting.{due_prepare_elsewhere, due_commit_elsewhere}
 
 -- ---- between events
 

@@ -20,20 +20,24 @@ use Rattle.replica_histories.specs.Views.{begun_log, start_due, with_batches}
 use Rattle.replica_histories.proofs.Batches.{stays, begun_active, begun_batch, begun_low}
 use Rattle.replica_histories.proofs.Cutting.{cut_same}
 use Rattle.desk.specs.declared.waiting.BegunCall.{BegunCall}
-use Rattle.replica.specs.State.{OrdererData, JoinedData}
+use Rattle.replica.specs.State.{JoinedData}
+use Rattle.orderer.specs.State.{OrdererData}
 use Rattle.desk.specs.State.{DeskData, OpenData}
 use Rattle.desk.specs.Waiting.{with_view}
 use Rattle.desk.specs.Desking.{desk_above}
-use Rattle.replica.specs.Desks.{given, FitsEvent, PartsFitEvent}
-use Rattle.replica.specs.EnteringViews.{Enters, FetchesStart, SaysVotesOf, entering}
+use Rattle.replica.specs.Desks.{PartsFitEvent}
+use Rattle.replica.specs.EnteringViews.{Enters, FetchesStart}
+use Rattle.orderer.specs.Fitting.{given, FitsEvent}
+use Rattle.orderer.specs.EnteringViews.{SaysVotesOf, entering}
 use Rattle.desk.specs.Begun.{AreBegun}
 use Rattle.replica.specs.Fetching.{SaysFetch}
 use Rattle.desk.specs.Fetching.{aimed_at, aiming, fetch_of}
 use Rattle.desk.specs.DeskOf.{desk_of, IsDeskOf}
-use Rattle.replica.specs.Going.{GoesOn, IsOneParty, IsVoted, IsVotedAll}
-use Rattle.replica.specs.Saying.{Says}
+use Rattle.replica.specs.Going.{IsOneParty}
+use Rattle.orderer.specs.Saying.{Says}
 use Rattle.replica.proofs.EnteringViews.{begun_data, begun_desk, begun_is}
 use Rattle.replica.proofs.Following.{aim_of, aimed_same, aims_desk}
+use Rattle.orderer.specs.Going.{GoesOn, IsVoted, IsVotedAll}
 use Rattle.replica.proofs.StartsFetched.{start_aims}
 use Rattle.replica.proofs.ViewsEntered.{FetchedSo, unlogged_voted}
 

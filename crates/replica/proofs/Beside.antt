@@ -19,13 +19,14 @@ use Rattle.replica_histories.proofs.Counting.{others_drop}
 use Rattle.replica_histories.proofs.Entering.{inputs_fit}
 use Rattle.replica.specs.declared.taking.Touched.TheVariants as touched
 use Rattle.replica.specs.State.{JoinedData, AreOne}
-use Rattle.replica.specs.Desks.{FitsEvent, changes_of}
+use Rattle.orderer.specs.Fitting.{FitsEvent, changes_of}
 use Rattle.replica.specs.Entering.{event_of, TakesBytes}
 use Rattle.replica.specs.Joined.{JoinedMatchesHistory, me_of}
 use Rattle.replica.proofs.Beginning.{rests, changes_kept, none_taken}
-use Rattle.replica.proofs.Parties.{one_self, same_log}
-use Rattle.replica.proofs.Staying.{numbers_beside, said_on}
+use Rattle.replica.proofs.Parties.{one_self}
+use Rattle.orderer.proofs.Staying.{numbers_beside, said_on}
 use Rattle.desk.specs.DeskOf.{desk_of}
+use Rattle.orderer.proofs.Parties.{same_log}
 
 -- it orders nothing, is no request, no view change and no new view, and asks for no reply
 pub record IsBeside (c : Configuration) (body : Body) : Type 0 where

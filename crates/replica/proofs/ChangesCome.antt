@@ -22,7 +22,7 @@ use Rattle.protocol.proofs.Words.Moving.{no_time}
 use Rattle.protocol.proofs.Words.Options.{some_injective}
 use Rattle.view_change.specs.declared.change_fault.ChangeFault.{ChangeFault}
 use Rattle.view_change.specs.declared.changes.Change.{Change}
-use Rattle.view_change.specs.Laws.{ChangesAreJudged, HaveOneRule, SizesDecide}
+use Rattle.view_change.specs.Laws.{ChangesAreJudged, HaveOneRule}
 use Rattle.view_change.specs.ReceivedData.{AreHeldFrom, HeldData, IsJoined, held_of, later_views, refusal_of, with_held}
 use Rattle.view_change.specs.ReceivedView.{IsHeldIn, configuration_of, held_as}
 use Rattle.view_change.specs.Sets.{change_pair}
@@ -47,31 +47,26 @@ use Rattle.replica_histories.proofs.Questions.{others_owe_no_part}
 use Rattle.replica_histories.proofs.Reasons.{ahead_are_held, joined_one}
 use Rattle.replica.specs.declared.taking.Touched.{Touched}
 use Rattle.replica.specs.declared.taking.Touched.TheVariants as touched
-use Rattle.replica.specs.State.{OrdererData, JoinedData, AreOne, IsOrderer}
+use Rattle.orderer.specs.State.{OrdererData}
+use Rattle.replica.specs.State.{JoinedData, AreOne}
 use Rattle.desk.specs.State.{DeskData}
 use Rattle.desk.specs.DeskOf.{desk_of}
 use Rattle.replica.specs.Beginning.{BeginsView, MayBegin, HasNoView}
-use Rattle.replica.specs.Changing.{ChangesView, IsJoinedBy, IsJoinedByNone, IsUnsayable, aimed_view, change_for}
-use Rattle.replica.specs.Desks.{given, PartsFitEvent, FitsEvent, changes_of}
+use Rattle.orderer.specs.Changing.{IsJoinedBy, IsJoinedByNone, IsUnsayable, aimed_view, change_for}
+use Rattle.replica.specs.Changing.{ChangesView}
+use Rattle.orderer.specs.Fitting.{given, FitsEvent, changes_of}
+use Rattle.replica.specs.Desks.{PartsFitEvent}
 use Rattle.replica.specs.Entering.{event_of, event_with, TakesBytes, TakesInput}
 use Rattle.replica.specs.Joined.{JoinedMatchesHistory, me_of}
 use Rattle.replica.specs.Going.{IsOneParty, NothingIsLeft}
 use Rattle.replica.specs.Numbering.{IsAllNumbered}
-use Rattle.replica.specs.Receiving.{JudgesAlike, Receives}
-use Rattle.replica.proofs.Unsayable.{unsaid_spent}
+use Rattle.orderer.specs.Receiving.{JudgesAlike, Receives}
+use Rattle.orderer.proofs.ChangingViews.{unsaid_spent}
 use Rattle.replica.proofs.Beginning.{heard_by, none_taken, rests}
 use Rattle.replica.proofs.Choosing.{active_begins_none}
-use Rattle.replica.proofs.Parties.{one_self, ones_twice, same_log}
-use Rattle.replica.proofs.Staying.{numbers_alike, numbers_beside, said_on}
-
--- ---- which configuration judges it
-
-pub judges_alike : (o : OrdererData) → IsOrderer o → SizesDecide → JudgesAlike o
-judges_alike o own law c known period = law (configuration_of o.received) c (record {
-  seed = own.2 ∙ sym (ap (λ (m : Membership). m.seed) known);
-  faults = own.3 ∙ sym (ap (λ (m : Membership). m.faults) known);
-  period = sym period;
-})
+use Rattle.orderer.proofs.Parties.{same_log}
+use Rattle.replica.proofs.Parties.{one_self, ones_twice}
+use Rattle.orderer.proofs.Staying.{numbers_alike, numbers_beside, said_on}
 
 -- a received view change is signed
 pub heard_is_signed : (o : OrdererData) (d : DeskData) (x : Change) (frame : List ℕ) → JudgesAlike o → AreOne o d

@@ -1,102 +1,41 @@
 -- The replica's own view changes.
-use Rattle.std.proofs.Common.{◌≡◌, ◌≢◌, ℕ, ◌<◌, ◌+◌, ◌⊎◌, inl, inr, max, true, false, List, [], ◌∷◌, Option, Some, None, Vec, option_map, IfSome, refl, sym, ap, ap₂, ◌∙◌, subst, arith}
+use Rattle.std.proofs.Common.{◌≡◌, ◌≢◌, ℕ, ◌<◌, ◌+◌, ◌⊎◌, inl, inr, max, false, List, [], ◌∷◌, Option, None, Vec, refl, sym, ap, ap₂, ◌∙◌, subst, arith}
 use Rattle.std.specs.declared.alloc.Global.{Global}
-use Rattle.std.proofs.lemmas.Bool.{leb-false}
-use Rattle.std.proofs.lemmas.List.{append-nil}
-use Rattle.wire_format.specs.Messages.{MessageData as Message, ViewChangeData, CheckpointEntryData as CheckpointEntry, view_change as ViewChange}
-use Rattle.wire_format.specs.Views.{view_change_data}
+use Rattle.wire_format.specs.Messages.{CheckpointEntryData as CheckpointEntry, view_change as ViewChange}
 use Rattle.ordering.specs.Log.{left}
-use Rattle.ordering.specs.Keeping.{IsLog}
 use Rattle.events.specs.declared.output.Output.{Output}
-use Rattle.posting.specs.Endpoint.{IsOwnSigned}
+use Rattle.posting.specs.Endpoint.{says}
 use Rattle.protocol.specs.System.Configuration.{Configuration, members, replicas}
 use Rattle.protocol.specs.System.Frames.{IsPosted, leaf_of}
 use Rattle.protocol.specs.System.Trace.{Entry}
 use Rattle.protocol.specs.System.Trace.Entry.{Sent}
-use Rattle.protocol.specs.Replica.Certificates.{target, view as in_view}
-use Rattle.protocol.specs.Replica.RightReplica.{SentBefore, IsPreparedList, IsPrePreparedList, TimesOut, JoinsOthers, sought_view}
-use Rattle.protocol.specs.Replica.Selection.{signed_change}
-use Rattle.protocol.proofs.Words.Options.{some_injective}
-use Rattle.view_change.specs.declared.changes.Change.{Change}
-use Rattle.claims.specs.ClaimsView.{ClaimsData}
-use Rattle.view_change.specs.Sets.{change_pair}
-use Rattle.view_change.specs.ReceivedData.{HeldData, held_of, with_held, later_views, IsJoined}
-use Rattle.view_change.specs.ReceivedView.{configuration_of, held_as}
+use Rattle.protocol.specs.Replica.Certificates.{target, view as in_view, view}
+use Rattle.protocol.specs.Replica.RightReplica.{IsPreparedList, IsPrePreparedList, TimesOut, JoinsOthers, sought_view}
+use Rattle.view_change.specs.ReceivedData.{with_held, later_views, IsJoined}
+use Rattle.view_change.specs.ReceivedView.{configuration_of}
 use Rattle.replica_histories.specs.Desk.{Desk, point_of}
 use Rattle.replica_histories.specs.Events as events
 use Rattle.replica_histories.specs.Events.{Start, after_outputs}
 use Rattle.replica_histories.specs.Changes.{FitsChanges, Passes}
 use Rattle.replica_histories.specs.Views.{IsChange, entries_of}
-use Rattle.replica_histories.proofs.ChangesKept.{sent_keep, own_are_signed}
 use Rattle.replica_histories.proofs.ChangesMade.{changes_are_sent}
 use Rattle.replica_histories.proofs.ChangesPassing.{outputs_pass}
-use Rattle.replica_histories.proofs.Changing.{view_changes_fit, view_changes_go_again}
+use Rattle.replica_histories.proofs.Changing.{view_changes_fit}
 use Rattle.replica_histories.proofs.Claims.{claims_are_lists}
 use Rattle.replica_histories.proofs.Ending.{steps_leave}
 use Rattle.replica_histories.proofs.Leaves.{next_leaf_is_own, next_is_spent}
 use Rattle.replica_histories.proofs.Reasons.{ticks_are_reasons, held_are_joined}
-use Rattle.replica.specs.State.{OrdererData, JoinedData, IsOrderer, AreOne}
+use Rattle.orderer.specs.State.{OrdererData, IsOrderer}
+use Rattle.replica.specs.State.{JoinedData, AreOne}
 use Rattle.desk.specs.declared.waiting.WaitingRequest.{WaitingRequest}
-use Rattle.desk.specs.Waiting.{WaitingData}
 use Rattle.desk.specs.DeskOf.{waiting_calls, desk_of}
-use Rattle.replica.specs.Desks.{given, changes_of, FitsEvent}
-use Rattle.replica.specs.Going.{IsVotedAll}
-use Rattle.replica.specs.Saying.{AreBelow, PostedFrame, PostsChange, SaysLastAlso}
-use Rattle.replica.proofs.PostedAgain.{frame_now}
-use Rattle.replica.proofs.Again.{never_said}
-use Rattle.replica.specs.Claiming.{MaySign, SaysFrame}
-use Rattle.replica.specs.Receiving.{Receives}
-use Rattle.replica.specs.Changing.{IsNextView, HasReason, LeavesView, SignsChange, aimed_view}
-use Rattle.replica.proofs.Given.{gives_one}
-use Rattle.replica.proofs.Parties.{same_log}
-use Rattle.replica.proofs.Staying.{fits_behind, fits_on, numbers_beside, sent_beside}
-
--- ---- the replica signs its view change
-
--- the rules that judge view changes find the replica's signature on it
-pub own_is_signed : (o : OrdererData) (x : Change) (frame : List ℕ) → IsOrderer o → IsLog o.log → x.sender.0 ≡ o.log.me → IsOwnSigned o.endpoint (ViewChange (view_change_data x.change)) frame
-    → signed_change (configuration_of o.received) frame ≡ Some (x.sender.0, view_change_data x.change)
-own_is_signed o x frame own is sender signed =
-    own_are_signed (configuration_of o.received) o.endpoint.me (view_change_data x.change) frame known (record { says = posted.says; is_sealed = posted.is_sealed })
-    ∙ ap (λ (m : ℕ). Some (m, view_change_data x.change)) (sym (sender ∙ own.0))
-  where
-    -- of these members, with the seed of the keys
-    c : Configuration
-    c = record (configuration_of o.received) { faults = o.endpoint.membership.faults; clients = o.endpoint.membership.clients }
-
-    posted : IsPosted c o.endpoint.me (ViewChange (view_change_data x.change)) [] frame
-    posted = signed c (ap (λ (seed : List ℕ). record o.endpoint.membership { seed = seed }) own.2)
-
-    known : o.endpoint.me < replicas (configuration_of o.received)
-    known = let me = own.0 in let faults = own.1 in let sizes = own.3 in let few = is.me in omega (arith, me, faults, sizes, few)
-
-pub signs_change : (view low : ℕ) (checkpoints : List CheckpointEntry) (claims : ClaimsData) (old new : OrdererData) (x : Change) (frame : List ℕ) → x.sender.0 ≡ old.log.me
-    → view_change_data x.change ≡ record { view = view; low = low; checkpoints = checkpoints; prepared = claims.prepared; pre_prepared = claims.logged } → low ≡ old.log.low → claims ≡ old.claims
-    → IsOwnSigned old.endpoint (ViewChange (view_change_data x.change)) frame → leaf_of frame ≡ Some old.spent → Receives (held_as x frame) (record old { spent = old.spent + 1 }) new true
-    → SignsChange view checkpoints old new frame
-signs_change view low checkpoints claims old new x frame sender made at same signed by receives = record {
-  by_leaf = by;
-  own = held_as x frame;
-  sender = sender;
-  frame_is = refl;
-  change = made ∙ ap₂ (λ (l : ℕ) (cs : ClaimsData). record { view = view; low = l; checkpoints = checkpoints; prepared = cs.prepared; pre_prepared = cs.logged }) at same;
-  signed = signed;
-  new_is = receives.1;
-}
-
--- what holds of an existing frame
-pub of_some : {A : Type 0} (P : A → Type 0) (o : Option A) (x : A) → o ≡ Some x → IfSome o P → P x
-of_some P o x is h = subst (λ y. IfSome y P) is h
-
--- what the replica signs in an existing frame
-pub signs_in : (message : Message) (o later : OrdererData) (r : Option (Vec ℕ Global)) (frame : Vec ℕ Global) → r ≡ Some frame → MaySign message o later r
-    → IsOwnSigned o.endpoint message frame.items × (leaf_of frame.items ≡ Some o.spent) × (later ≡ record o { spent = o.spent + 1 })
-signs_in message o later r frame is h = subst (MaySign message o later) is h
-
--- the signed body says what the copy does
-pub signs_copy : (o : OrdererData) (said x : Change) (message : Message) (frame : List ℕ) → change_pair said ≡ change_pair x → message ≡ ViewChange (view_change_data said.change) → IsOwnSigned o.endpoint message frame
-    → IsOwnSigned o.endpoint (ViewChange (view_change_data x.change)) frame
-signs_copy o said x message frame copy is signed = subst (λ (m : Message). IsOwnSigned o.endpoint m frame) (is ∙ ap (λ (p : ℕ × ViewChangeData). ViewChange p.1) copy) signed
+use Rattle.orderer.specs.Fitting.{given, changes_of, FitsEvent}
+use Rattle.orderer.specs.Going.{IsVotedAll}
+use Rattle.orderer.specs.Claiming.{SaysFrame}
+use Rattle.orderer.specs.Changing.{IsNextView, SignsChange, aimed_view, IsUnsayable, MaySignChange, change_for}
+use Rattle.replica.specs.Changing.{HasReason, LeavesView, ChangesView}
+use Rattle.orderer.proofs.Staying.{gives_one, fits_behind, numbers_beside, sent_beside}
+use Rattle.wire_format.specs.Words.{said}
 
 -- ---- the replica leaves the view
 
@@ -224,40 +163,9 @@ leaves_as view old signed later frame said before after one next own k is same s
     (leaves_view view old signed frame one next own k before after (subst (λ (b : List ℕ). SaysFrame (record signed { log = left signed.log; target = view }) b before after) same
     (subst (λ (x : OrdererData). SaysFrame x said before after) is says)))
 
--- ---- it multicasts the view change again
-
-pub no_change_again : (o : OrdererData) (outs : List Output) → option_map (λ h. h.frame) (held_of o.received.held o.log.me) ≡ None → SaysLastAlso false 0 PostsChange o outs o outs
-no_change_again o outs none = (
-  record { goes = λ inactive c s desk w known below f. f; same = refl; more = []; given_is = sym (append-nil outs) },
-  λ held is. absurd (let bad : None ≡ Some held.frame = sym none ∙ ap (option_map (λ (h : HeldData). h.frame)) is in cc),
-)
-
-pub change_again : (o : OrdererData) (frame : List ℕ) (before after : List Output) → IsOrderer o → option_map (λ h. h.frame) (held_of o.received.held o.log.me) ≡ Some frame → SaysFrame o frame before after
-    → SaysLastAlso false 0 PostsChange o before o after
-change_again o frame before after own has says = (
-  record {
-    goes = λ inactive c s desk w known below f. goes c s desk w known below inactive f;
-    same = refl;
-    more = says.output ∷ [];
-    given_is = says.given_is;
-  },
-  λ held is. subst (λ (b : List ℕ). PostedFrame o b after) (some_injective frame held.frame (sym has ∙ ap (option_map (λ (h : HeldData). h.frame)) is)) (frame_now o frame before after says),
-)
-  where
-    goes : (c : Configuration) (s : Start) (desk : Desk) (w : WaitingData) → members c ≡ o.endpoint.membership → AreBelow o.endpoint.me 0 (given o.endpoint.me before) → o.log.active ≡ false → FitsEvent c o.endpoint.me s o desk w [] before
-        → FitsEvent c o.endpoint.me s o desk w [] after
-    goes c s desk w known below inactive f =
-        let h = f.changes.own_change inactive in
-        let me = o.endpoint.me in
-        let past = after_outputs s (given me before) in
-        let there : Some h.own.frame ≡ Some frame =
-        ap (option_map (λ (x : HeldData). x.frame)) (sym h.held) ∙ ap (λ (m : ℕ). option_map (λ (x : HeldData). x.frame) (held_of o.received.held m)) (sym own.0) ∙ has in
-        let is = some_injective h.own.frame frame there in
-        let posted : IsPosted c me (ViewChange h.own.change) [] frame = subst (IsPosted c me (ViewChange h.own.change) []) is h.posted in
-        let left : o.log.view < target past = leb-false (target past) o.log.view (f.fits.of_log.active ∙ inactive) in
-        let last : h.own.change.view ≡ target past = h.view ∙ sym f.changes.target in
-        fits_on c me s o o desk w [] [] before after (Sent me frame) (gives_one c me before after says.output (Sent me frame) says.given_is says.sends.sends (says.sends.meant c (ViewChange h.own.change) known posted))
-        (sent_beside c me (ViewChange h.own.change) [] frame past tt posted) (sent_keep c me past (ViewChange h.own.change) frame posted.says (omega (arith, last)) (λ signed. subst (λ (b : List ℕ). SentBefore b past) is h.sent))
-        (same_log o.log) refl refl refl refl f
-        (view_changes_go_again c me s desk o.log [] (given me before) h.own.change frame left last (subst (λ (b : List ℕ). SentBefore b past) is h.sent)
-        (never_said me 0 (ViewChange h.own.change) (given me before) (λ none. none) below) posted f.fits)
+-- so the view stays
+pub stays_unsaid : (view : ℕ) (r : JoinedData) (later : OrdererData) (checkpoints : List CheckpointEntry) (frame : Option (Vec ℕ Global)) (outs : List Output) → checkpoints ≡ entries_of r.desk.snapshots → frame ≡ None
+    → MaySignChange view checkpoints r.orderer later frame → ChangesView view r outs (record r { orderer = later }) outs false
+stays_unsaid view r later checkpoints frame outs are none may =
+    let h = subst (MaySignChange view checkpoints r.orderer later) none may in
+    (ap (λ (o : OrdererData). let y : JoinedData = record r { orderer = o } in y) h.0, refl, subst (λ (cs : List CheckpointEntry). IsUnsayable r.orderer (change_for view cs r.orderer)) are h.1)

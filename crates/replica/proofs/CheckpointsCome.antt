@@ -33,23 +33,27 @@ use Rattle.replica_histories.proofs.Giving.{kept_are_above}
 use Rattle.replica_histories.proofs.Questions.{others_owe_none}
 use Rattle.replica.specs.declared.taking.Touched.TheVariants as touched
 use Rattle.claims.specs.ClaimsView.{ClaimsData}
-use Rattle.replica.specs.State.{OrdererData, JoinedData, AreOne}
+use Rattle.orderer.specs.State.{OrdererData}
+use Rattle.replica.specs.State.{JoinedData, AreOne}
 use Rattle.desk.specs.State.{DeskData}
-use Rattle.replica.specs.Checkpoints.{StartsTransferIfBehind, Settles, TakesCheckpoint, counting, said_entry}
-use Rattle.replica.specs.Desks.{given, FitsEvent, PartsFitEvent, changes_of}
+use Rattle.orderer.specs.Checkpoints.{TakesCheckpoint, counting, said_entry}
+use Rattle.replica.specs.Checkpoints.{StartsTransferIfBehind, Settles}
+use Rattle.orderer.specs.Fitting.{given, FitsEvent, changes_of}
+use Rattle.replica.specs.Desks.{PartsFitEvent}
 use Rattle.replica.specs.Beginning.{CannotBegin}
 use Rattle.replica.specs.Entering.{event_of, IsTakenAlone, IsTakenBeside, IsLeftToDo, TakesBytes, TakesMessage}
 use Rattle.desk.specs.Fetching.{aimed_at, aiming}
 use Rattle.desk.specs.DeskOf.{desk_of}
 use Rattle.replica.specs.Joined.{JoinedMatchesHistory, me_of}
-use Rattle.replica.specs.Going.{CommitsNoMore, IsExecuted, IsOneParty, IsSameLog, IsVotedAll, NothingIsLeft}
-use Rattle.replica.specs.Saying.{Says}
+use Rattle.replica.specs.Going.{IsExecuted, IsOneParty, NothingIsLeft}
+use Rattle.orderer.specs.Saying.{Says}
+use Rattle.orderer.specs.Going.{CommitsNoMore, IsSameLog, IsVotedAll}
 use Rattle.replica.proofs.Beginning.{IsNoCall, drops, heard_by, none_taken, rests, some_fault}
 use Rattle.replica.proofs.DueCheckpoints.{cut_commits, cut_voted, either, same_cut, settled_claims, settled_desk, settled_orderer, settled_snapshots}
 use Rattle.replica_histories.proofs.Counting.{checkpoint_free}
 use Rattle.replica.proofs.Following.{aimed_same, aims, aims_desk}
 use Rattle.replica.proofs.Choosing.{begun_stays, settled_choice}
-use Rattle.replica.proofs.Staying.{numbers_alike, numbers_beside, said_on, same_but_checkpoints}
+use Rattle.orderer.proofs.Staying.{numbers_alike, numbers_beside, said_on, same_but_checkpoints}
 
 -- ---- the fetch that is due
 

@@ -19,23 +19,16 @@ use Rattle.view_change.specs.Sets.{sized}
 use Rattle.replica_histories.specs.Changes.{CutsClaims}
 use Rattle.replica_histories.specs.Primaries.{SelectsNothing}
 use Rattle.replica_histories.proofs.Primaries.{fewer_select_nothing}
-use Rattle.replica.specs.State.{OrdererData, JoinedData, AreOne, IsOrderer}
+use Rattle.orderer.specs.State.{OrdererData, IsOrderer}
+use Rattle.replica.specs.State.{JoinedData, AreOne}
 use Rattle.replica.specs.declared.taking.Touched.TheVariants as touched
 use Rattle.replica.specs.Beginning.{CannotBegin, HasNoView, MayBegin}
 use Rattle.replica.specs.Checkpoints.{Settles}
-use Rattle.replica.specs.EnteringViews.{HasNoSelection, MaySignView}
-use Rattle.replica.specs.Going.{IsSameLog, IsSameOrderer, KeepsChoice}
+use Rattle.orderer.specs.EnteringViews.{HasNoSelection, MaySignView}
+use Rattle.orderer.specs.Going.{IsSameLog, IsSameOrderer, KeepsChoice}
 use Rattle.replica.specs.Marking.{MovesMarks}
-use Rattle.replica.proofs.Unsayable.{of_none}
-
--- ---- it stays
-
-pub same_choice : (o : OrdererData) → KeepsChoice o o
-same_choice o = record { received = refl; spent = refl; logged = λ claim has. has }
-
-pub choices_twice : (a b d : OrdererData) → KeepsChoice a b → KeepsChoice b d → KeepsChoice a d
-choices_twice a b d first then =
-    record { received = then.received ∙ first.received; spent = then.spent ∙ first.spent; logged = λ claim has. first.logged claim (then.logged claim has) }
+use Rattle.orderer.proofs.ChangingViews.{of_none}
+use Rattle.orderer.proofs.Parties.{same_choice}
 
 -- claims above a mark were claims before
 pub cut_choice : (o : OrdererData) (log : LogData) (low : ℕ) (claims : ClaimsData) → CutsClaims low o.claims claims → KeepsChoice o (record o { log = log; claims = claims })

@@ -34,19 +34,19 @@ use Rattle.replica_histories.proofs.NumbersWaiting.{executions_raise}
 use Rattle.replica_histories.proofs.ChangesKept.{sent_keep, silent_keep}
 use Rattle.desk.specs.declared.waiting.WaitingRequest.{WaitingRequest}
 use Rattle.desk.specs.Keeping.{AreFew}
-use Rattle.replica.specs.State.{OrdererData}
+use Rattle.orderer.specs.State.{OrdererData}
 use Rattle.desk.specs.State.{DeskData, IsDesk}
 use Rattle.desk.specs.Waiting.{frames_of, is_new, forgotten}
-use Rattle.replica.specs.Flags.{FitsFlags}
-use Rattle.replica.specs.Desks.{FitsWaiting, FitsEvent, given, PartsFitEvent}
+use Rattle.orderer.specs.Flags.{FitsFlags}
+use Rattle.replica.specs.Desks.{PartsFitEvent}
+use Rattle.orderer.specs.Fitting.{FitsWaiting, FitsEvent, given}
 use Rattle.desk.specs.Desking.{RepliesAgain, RepliesToAll, RunsBatch, RunsWhole, SaysReply, snapshots_with}
 use Rattle.desk.specs.DeskOf.{waiting_call, waiting_calls, desk_of, SpellCalls, IsDeskOf}
 use Rattle.desk.proofs.Running.{behind_run}
-use Rattle.replica.proofs.Given.{GivesOne, gives_one}
+use Rattle.orderer.proofs.Staying.{GivesOne, gives_one, changes_still, executed_beside, fits_behind, fits_on, numbers_beside, sent_beside}
 use Rattle.replica.proofs.Newest.{all_kept, all_with}
-use Rattle.replica.proofs.Parties.{same_log}
-use Rattle.replica.proofs.Flags.{flags_forgotten}
-use Rattle.replica.proofs.Staying.{changes_still, executed_beside, fits_behind, fits_on, numbers_beside, sent_beside}
+use Rattle.orderer.proofs.Parties.{same_log}
+use Rattle.orderer.proofs.Flags.{flags_forgotten}
 use Rattle.replica.proofs.Closing.{above_same, rests_above}
 
 -- ---- replies

@@ -30,18 +30,21 @@ use Rattle.replica_histories.proofs.ChangesKept.{checkpoints_are_noted}
 use Rattle.replica_histories.proofs.ChangesPassing.{claims_are_above, outputs_pass}
 use Rattle.replica_histories.proofs.Giving.{checkpoints_fit, kept_are_above}
 use Rattle.claims.specs.ClaimsView.{ClaimsData}
-use Rattle.replica.specs.State.{OrdererData, JoinedData, AreOne}
+use Rattle.orderer.specs.State.{OrdererData}
+use Rattle.replica.specs.State.{JoinedData, AreOne}
 use Rattle.desk.specs.State.{DeskData}
 use Rattle.desk.specs.Waiting.{WaitingData}
-use Rattle.replica.specs.Desks.{given, FitsWaiting, FitsEvent, PartsFitEvent, changes_of}
-use Rattle.replica.specs.Going.{CommitsNoMore, IsSameLog, IsSameOrderer, IsVotedAll, KeepsChoice}
+use Rattle.orderer.specs.Fitting.{given, FitsWaiting, FitsEvent, changes_of}
+use Rattle.replica.specs.Desks.{PartsFitEvent}
+use Rattle.orderer.specs.Going.{CommitsNoMore, IsSameLog, IsSameOrderer, IsVotedAll, KeepsChoice}
 use Rattle.replica.proofs.Choosing.{settled_choice}
 use Rattle.desk.specs.Desking.{due_entry, is_due, newest_entry}
 use Rattle.desk.specs.DeskOf.{desk_of}
-use Rattle.replica.specs.Checkpoints.{IsDueKept, SaysCheckpoint, SaysDueCheckpoint, Settles}
-use Rattle.replica.specs.Saying.{Says}
-use Rattle.replica.proofs.Staying.{numbers_alike, numbers_beside, sent_beside}
-use Rattle.replica.proofs.Voting.{SaidIn, said_in}
+use Rattle.replica.specs.Checkpoints.{IsDueKept, SaysDueCheckpoint, Settles}
+use Rattle.orderer.specs.Saying.{Says}
+use Rattle.orderer.proofs.Staying.{numbers_alike, numbers_beside, sent_beside}
+use Rattle.orderer.proofs.Voting.{SaidIn, said_in}
+use Rattle.orderer.specs.Checkpoints.{SaysCheckpoint}
 
 -- ---- what is due
 

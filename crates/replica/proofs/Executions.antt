@@ -7,12 +7,13 @@ use Rattle.desk.specs.declared.waiting.WaitingRequest.{WaitingRequest}
 use Rattle.replica.specs.State.{JoinedData}
 use Rattle.desk.specs.State.{DeskData}
 use Rattle.desk.specs.Waiting.{WaitingData, all_unnumbered, count_unnumbered, keeping, is_new}
-use Rattle.replica.specs.Going.{FitIsKept, CommitsNoMore, ExecutesAll, ExecutesNext, IsExecuted, IsSameParty, IsVotedAll}
+use Rattle.orderer.specs.Going.{CommitsNoMore, IsVotedAll}
+use Rattle.replica.specs.Going.{FitIsKept, ExecutesAll, ExecutesNext, IsExecuted, IsSameParty}
 use Rattle.desk.specs.Desking.{RunsWhole}
 use Rattle.replica.specs.Checkpoints.{SaysDueCheckpoint}
 use Rattle.replica.proofs.Desking.{RunsOn, runs_on}
 use Rattle.replica.proofs.Parties.{same_party, parties_twice}
-use Rattle.replica.proofs.Rows.{within}
+use Rattle.orderer.proofs.Voting.{within}
 
 -- ---- committed batches
 

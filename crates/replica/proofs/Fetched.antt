@@ -14,15 +14,15 @@ use Rattle.replica_histories.proofs.Fetching.{transfers_change}
 use Rattle.replica_histories.proofs.Transfers.{may_ask_any, pages_rested}
 use Rattle.replica_histories.proofs.TransfersInstalling.{rested_rests}
 use Rattle.replica_histories.proofs.TransfersSeeking.{nexts_are_first}
-use Rattle.replica.specs.State.{OrdererData}
+use Rattle.orderer.specs.State.{OrdererData}
 use Rattle.desk.specs.State.{DeskData, OpenData}
 use Rattle.desk.specs.Waiting.{WaitingData}
-use Rattle.replica.specs.Desks.{given, FitsEvent}
+use Rattle.orderer.specs.Fitting.{given, FitsEvent}
 use Rattle.desk.specs.Fetching.{fetch_of, with_transfer}
-use Rattle.replica.specs.Saying.{Says}
+use Rattle.orderer.specs.Saying.{Says}
 use Rattle.desk.specs.Transferring.{IsRestedAt, AsksPlace}
 use Rattle.desk.specs.DeskOf.{desk_of, RestsAt, IsDeskOf}
-use Rattle.replica.proofs.Asking.{asks}
+use Rattle.orderer.proofs.Voting.{asks}
 
 -- ---- what stays while the next part is sought
 

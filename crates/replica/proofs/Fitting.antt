@@ -8,10 +8,11 @@ use Rattle.replica_histories.specs.Events as histories
 use Rattle.replica_histories.proofs.ChangesPassing.{changes_begin}
 use Rattle.replica_histories.specs.Histories.{first_desk}
 use Rattle.replica_histories.proofs.Starting.{first_hold}
-use Rattle.replica.specs.State.{OrdererData, JoinedData}
-use Rattle.replica.specs.Taking.{IsNewOrderer}
+use Rattle.orderer.specs.State.{OrdererData}
+use Rattle.replica.specs.State.{JoinedData}
+use Rattle.orderer.specs.Taking.{IsNewOrderer}
 use Rattle.desk.specs.Desking.{IsNewDesk}
-use Rattle.replica.proofs.Flags.{flags_first}
+use Rattle.orderer.proofs.Flags.{flags_first}
 use Rattle.replica.specs.Joined.{JoinedFitsHistory}
 
 -- a new replica

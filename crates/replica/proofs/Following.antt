@@ -13,14 +13,14 @@ use Rattle.replica_histories.specs.Events.{Start, after_outputs}
 use Rattle.replica_histories.specs.Transfers.{MayAsk, AsksNext, open_number, transfer_to}
 use Rattle.replica_histories.proofs.Fetching.{quorums_may_ask}
 use Rattle.replica_histories.proofs.TransfersInstalling.{started_rests}
-use Rattle.replica.specs.State.{OrdererData}
+use Rattle.orderer.specs.State.{OrdererData}
 use Rattle.desk.specs.State.{OpenData, DeskData}
 use Rattle.desk.specs.Waiting.{WaitingData}
-use Rattle.replica.specs.Desks.{given, FitsEvent}
+use Rattle.orderer.specs.Fitting.{given, FitsEvent}
 use Rattle.desk.specs.Fetching.{aimed_at, aiming, fetch_of, opened}
 use Rattle.desk.specs.DeskOf.{desk_of, RestsAt, IsDeskOf}
-use Rattle.replica.specs.Saying.{Says}
-use Rattle.replica.proofs.Asking.{asks_due}
+use Rattle.orderer.specs.Saying.{Says}
+use Rattle.orderer.proofs.Voting.{asks_due}
 
 -- ---- the open transfer
 

@@ -1,16 +1,20 @@
 -- Votes that the replica sends, and the executions after them.
-use Rattle.std.proofs.Common.{◌≡◌, ◌≢◌, ℕ, Bool, true, false, List, [], refl, sym, ◌∙◌, subst, ◌==◌, eqb-true}
+use Rattle.std.proofs.Common.{◌≡◌, ◌≢◌, ℕ, Bool, true, false, List, [], refl, sym, ◌∙◌, subst, ◌==◌, eqb-true, ap}
 use Rattle.std.proofs.lemmas.Bool.{eqb-false}
 use Rattle.events.specs.declared.output.Output.{Output}
 use Rattle.ordering.specs.Log.{LogData}
-use Rattle.replica.specs.State.{OrdererData, JoinedData, AreOne}
+use Rattle.orderer.specs.State.{OrdererData}
+use Rattle.replica.specs.State.{JoinedData, AreOne}
 use Rattle.protocol.specs.System.Configuration.{Configuration, members}
 use Rattle.replica_histories.specs.Events.{Start}
-use Rattle.replica.specs.Desks.{FitsEvent, PartsFitEvent}
-use Rattle.replica.specs.Going.{FitIsKept, ExecutesAll, GoesOnWith, GoesOn, IsVoted, IsVotedBut, IsVotedAll}
-use Rattle.replica.specs.Saying.{GoesAgain, SaysVotes}
-use Rattle.replica.proofs.Parties.{orderers_twice}
+use Rattle.replica.specs.Desks.{PartsFitEvent}
+use Rattle.replica.specs.Going.{FitIsKept, ExecutesAll, GoesOnWith}
+use Rattle.orderer.specs.Saying.{GoesAgain, SaysVotes, PostsAll, PostsChange, SaysLastAlso}
 use Rattle.desk.specs.DeskOf.{desk_of}
+use Rattle.orderer.specs.Fitting.{FitsEvent}
+use Rattle.orderer.specs.Going.{GoesOn, IsVoted, IsVotedBut, IsVotedAll}
+use Rattle.orderer.proofs.Parties.{orderers_twice}
+use Rattle.replica.specs.Numbering.{AllAgain}
 
 -- what the orderer sends stands on the same desk
 pub said_stands : (a : JoinedData) (o : OrdererData) (x y : List Output) → AreOne a.orderer a.desk → GoesOn a.orderer x o y → FitIsKept a x (record a { orderer = o }) y
@@ -54,3 +58,23 @@ goes_on_with number a o d x y z one v e = record {
   where
     voted : IsVotedBut number a.orderer.log → IsVotedAll o.log
     voted = all_voted number a.orderer.log o.log v.says.others v.said
+
+-- ---- the same with the desk
+
+pub all_again : (a new : JoinedData) (o : OrdererData) (before after : List Output) → a.orderer.log.active ≡ true → SaysLastAlso true 0 (PostsAll a.desk.executed.state.number) a.orderer before o after
+    → new ≡ record a { orderer = o } → AllAgain a before new after
+all_again a new o before after at says is = record {
+  same = is ∙ ap (λ (k : OrdererData). record a { orderer = k }) says.0.same;
+  goes = subst (λ (k : OrdererData). GoesAgain 0 a.orderer before k after) says.0.same (says.0.goes at);
+  active = λ active. says.1;
+  inactive = λ inactive. absurd (let bad : true ≡ false = sym at ∙ inactive in cc);
+}
+
+pub change_only : (a new : JoinedData) (o : OrdererData) (before after : List Output) → a.orderer.log.active ≡ false → SaysLastAlso false 0 PostsChange a.orderer before o after → new ≡ record a { orderer = o }
+    → AllAgain a before new after
+change_only a new o before after at says is = record {
+  same = is ∙ ap (λ (k : OrdererData). record a { orderer = k }) says.0.same;
+  goes = subst (λ (k : OrdererData). GoesAgain 0 a.orderer before k after) says.0.same (says.0.goes at);
+  active = λ active. absurd (let bad : false ≡ true = sym at ∙ active in cc);
+  inactive = λ inactive. says.1;
+}

@@ -27,26 +27,28 @@ use Rattle.replica_histories.proofs.Installing.{installations_fit}
 use Rattle.replica_histories.proofs.ChangesKept.{silent_keep}
 use Rattle.desk.specs.declared.waiting.WaitingRequest.{WaitingRequest}
 use Rattle.claims.specs.ClaimsView.{ClaimsData}
-use Rattle.replica.specs.State.{OrdererData, JoinedData, AreOne}
+use Rattle.orderer.specs.State.{OrdererData}
+use Rattle.replica.specs.State.{JoinedData, AreOne}
 use Rattle.desk.specs.State.{OpenData, DeskData}
 use Rattle.desk.specs.Waiting.{forgotten, frames_of, is_new}
-use Rattle.replica.specs.Flags.{FitsFlags}
-use Rattle.replica.specs.Desks.{given, FitsWaiting, FitsEvent, PartsFitEvent}
+use Rattle.orderer.specs.Flags.{FitsFlags}
+use Rattle.replica.specs.Desks.{PartsFitEvent}
+use Rattle.orderer.specs.Fitting.{given, FitsWaiting, FitsEvent}
 use Rattle.desk.specs.Desking.{desk_above}
 use Rattle.replica.specs.Fetching.{InstallsFetched}
 use Rattle.desk.specs.Fetching.{Installs}
 use Rattle.desk.specs.DeskOf.{waiting_calls, desk_of, IsDeskOf}
-use Rattle.replica.specs.Going.{IsSameParty, IsVotedAll}
+use Rattle.replica.specs.Going.{IsSameParty}
+use Rattle.orderer.specs.Going.{IsVotedAll}
 use Rattle.replica.specs.Marking.{MovesMarks}
 use Rattle.replica.specs.Joined.{me_of}
 use Rattle.replica.proofs.Choosing.{cut_choice}
 use Rattle.replica.proofs.Desking.{calls_behind, frames_behind, spelled_behind}
 use Rattle.replica.proofs.DueCheckpoints.{same_cut, cut_voted}
-use Rattle.replica.proofs.Given.{GivesOne, gives_one}
+use Rattle.orderer.proofs.Staying.{GivesOne, gives_one, changes_cut, fits_behind, installed_beside, numbers_alike, numbers_beside}
 use Rattle.replica_histories.proofs.Reaching.{reached_asking}
 use Rattle.desk.proofs.Newest.{below_next, kept_alone}
-use Rattle.replica.proofs.Flags.{flags_forgotten}
-use Rattle.replica.proofs.Staying.{changes_cut, fits_behind, installed_beside, numbers_alike, numbers_beside}
+use Rattle.orderer.proofs.Flags.{flags_forgotten}
 
 -- All held pages have the wanted root. The transfer rests on the executed state, and may ask. Up to here the event fits
 -- with this one open.

@@ -1,8 +1,9 @@
 -- The marks move.
 use Rattle.std.proofs.Common.{◌≡◌, ℕ, ap, ◌∙◌}
-use Rattle.replica.specs.State.{OrdererData, JoinedData}
+use Rattle.orderer.specs.State.{OrdererData}
+use Rattle.replica.specs.State.{JoinedData}
 use Rattle.desk.specs.State.{DeskData}
-use Rattle.replica.specs.Claiming.{CutsLog}
+use Rattle.orderer.specs.Claiming.{CutsLog}
 use Rattle.desk.specs.Desking.{desk_above}
 use Rattle.replica.specs.Marking.{MovesMarks}
 

@@ -37,14 +37,17 @@ use Rattle.replica_histories.proofs.NewViews.{new_views_enter}
 use Rattle.replica_histories.proofs.Questions.{others_owe_none}
 use Rattle.replica_histories.proofs.ChangesMade.{not_mine}
 use Rattle.replica.specs.declared.taking.Touched.TheVariants as touched
-use Rattle.replica.specs.State.{JoinedData, AreOne, IsOrderer}
-use Rattle.replica.specs.Desks.{FitsEvent, PartsFitEvent}
+use Rattle.orderer.specs.State.{IsOrderer}
+use Rattle.replica.specs.State.{JoinedData, AreOne}
+use Rattle.orderer.specs.Fitting.{FitsEvent}
+use Rattle.replica.specs.Desks.{PartsFitEvent}
 use Rattle.replica.specs.Entering.{event_of, IsTakenAnswered, TakesBytes, TakesMessage}
 use Rattle.replica.specs.Joined.{JoinedMatchesHistory}
 use Rattle.replica.proofs.Beginning.{changes_kept, heard_by, rests}
 use Rattle.replica.specs.EnteringViews.{Enters}
-use Rattle.replica.proofs.Parties.{one_self, same_log}
-use Rattle.replica.proofs.Staying.{numbers_beside, said_on}
+use Rattle.orderer.proofs.Parties.{same_log}
+use Rattle.replica.proofs.Parties.{one_self}
+use Rattle.orderer.proofs.Staying.{numbers_beside, said_on}
 use Rattle.replica.proofs.Choosing.{active_begins_none}
 use Rattle.replica.proofs.ViewsEntered.{Entered, entered, entered_active, entered_party, entered_stands, entered_votes, start_in}
 use Rattle.desk.specs.DeskOf.{waiting_calls, desk_of}

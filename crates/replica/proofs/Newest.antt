@@ -13,9 +13,10 @@ use Rattle.replica_histories.specs.Desk.{Snapshot, snapshot_of, kept_from}
 use Rattle.replica_histories.specs.Events.{Start, after_outputs}
 use Rattle.replica_histories.proofs.Giving.{kept_are_above}
 use Rattle.replica_histories.proofs.Words.{passed}
-use Rattle.replica.specs.State.{OrdererData}
+use Rattle.orderer.specs.State.{OrdererData}
 use Rattle.desk.specs.State.{DeskData, IsDesk}
-use Rattle.replica.specs.Desks.{PartsFitEvent, given}
+use Rattle.orderer.specs.Fitting.{given}
+use Rattle.replica.specs.Desks.{PartsFitEvent}
 use Rattle.desk.specs.Desking.{snapshots_with}
 use Rattle.desk.specs.Keeping.{Descend, AreFew, AreKept, newest_with}
 use Rattle.desk.specs.DeskOf.{desk_of}

@@ -29,17 +29,21 @@ use Rattle.desk.specs.declared.waiting.WaitingRequest.{WaitingRequest}
 use Rattle.replica.specs.State.{JoinedData, AreOne}
 use Rattle.desk.specs.State.{DeskData}
 use Rattle.desk.specs.Waiting.{WaitingData, texts, frames_of, all_unnumbered, unnumbered, count_unnumbered, all_numbered, with_numbered}
-use Rattle.replica.specs.Flags.{FitsFlags, flagged}
+use Rattle.orderer.specs.Flags.{FitsFlags, flagged}
 use Rattle.desk.specs.Begun.{begun_of}
 use Rattle.desk.specs.DeskOf.{waiting_call, waiting_calls, desk_of, SpellCalls, AreOfDifferentClients}
-use Rattle.replica.specs.Desks.{given, FitsEvent, PartsFitEvent}
-use Rattle.replica.specs.Going.{GoesOnWith, IsSameLog, IsSameOrderer, IsSameParty, IsVoted, IsVotedBut, IsVotedAll, FitIsKept, NothingIsLeft}
-use Rattle.replica.specs.Numbering.{next_number, IsAllNumbered}
+use Rattle.replica.specs.Desks.{PartsFitEvent}
+use Rattle.replica.specs.Going.{GoesOnWith, IsSameParty, FitIsKept, NothingIsLeft}
+use Rattle.replica.specs.Numbering.{IsAllNumbered}
+use Rattle.orderer.specs.Fitting.{given, FitsEvent}
+use Rattle.orderer.specs.Going.{IsSameLog, IsSameOrderer, IsVoted, IsVotedBut, IsVotedAll}
+use Rattle.orderer.specs.Numbering.{next_number}
 use Rattle.replica.specs.NumbersNext.{NumbersNext, GivesNumber, NumbersWaiting}
 use Rattle.desk.proofs.WaitingKept.{few_unnumbered}
-use Rattle.replica.proofs.Flags.{oldest_spelled}
-use Rattle.replica.proofs.Parties.{same_party, orderers_twice, parties_twice}
-use Rattle.replica.proofs.Rows.{due_prepare_elsewhere, due_commit_elsewhere}
+use Rattle.orderer.proofs.Flags.{oldest_spelled}
+use Rattle.replica.proofs.Parties.{same_party, parties_twice}
+use Rattle.orderer.proofs.Parties.{orderers_twice}
+use Rattle.orderer.proofs.Voting.{due_prepare_elsewhere, due_commit_elsewhere}
 
 -- ---- waiting requests
 

@@ -43,19 +43,21 @@ use Rattle.replica_histories.proofs.NewViews.{new_views_fit}
 use Rattle.replica_histories.proofs.NumbersBegun.{logs_are_of_no_later_view}
 use Rattle.replica_histories.proofs.Seeing.{logged_are_seen}
 use Rattle.replica_histories.proofs.Words.{primary_same}
-use Rattle.replica.specs.State.{OrdererData, JoinedData, IsOrderer, AreOne}
+use Rattle.orderer.specs.State.{OrdererData, IsOrderer}
+use Rattle.replica.specs.State.{JoinedData, AreOne}
 use Rattle.desk.specs.Waiting.{with_view}
 use Rattle.desk.specs.DeskOf.{desk_of, IsDeskOf}
 use Rattle.replica.specs.Beginning.{BeginsView}
-use Rattle.replica.specs.Claiming.{SaysFrame}
-use Rattle.replica.specs.Desks.{given, changes_of, FitsEvent, FitsWaiting, PartsFitEvent}
-use Rattle.replica.specs.EnteringViews.{Enters, IsSelection, MaySignView, SignsView, new_view_of}
-use Rattle.replica.specs.Flags.{FitsFlags}
+use Rattle.orderer.specs.Claiming.{SaysFrame}
+use Rattle.replica.specs.Desks.{PartsFitEvent}
+use Rattle.replica.specs.EnteringViews.{Enters}
+use Rattle.orderer.specs.Flags.{FitsFlags}
+use Rattle.orderer.specs.Fitting.{given, changes_of, FitsEvent, FitsWaiting}
+use Rattle.orderer.specs.EnteringViews.{IsSelection, MaySignView, SignsView, new_view_of}
 use Rattle.replica.specs.Going.{NothingIsLeft}
 use Rattle.replica.proofs.BegunViews.{Begins, begins, begun_orderer, begun_stands, all_voted, one_active, one_party, one_target, start_of}
-use Rattle.replica.proofs.Flags.{flags_begun}
-use Rattle.replica.proofs.Given.{GivesOne, gives_one}
-use Rattle.replica.proofs.Staying.{fits_behind}
+use Rattle.orderer.proofs.Flags.{flags_begun}
+use Rattle.orderer.proofs.Staying.{fits_behind, GivesOne, gives_one}
 
 -- ---- sizes
 

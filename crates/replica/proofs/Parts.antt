@@ -34,19 +34,19 @@ use Rattle.desk.specs.declared.open_transfer.Taken.{Taken}
 use Rattle.replica.specs.declared.taking.Touched.TheVariants as touched
 use Rattle.replica.specs.State.{JoinedData, AreOne}
 use Rattle.desk.specs.State.{DeskData, OpenData}
-use Rattle.replica.specs.Desks.{given, FitsEvent}
+use Rattle.orderer.specs.Fitting.{given, FitsEvent}
 use Rattle.replica.specs.Entering.{event_of, TakesBytes}
 use Rattle.replica.specs.Fetching.{AsksOn, SaysFetch}
 use Rattle.desk.specs.Fetching.{fetch_of, with_transfer, TakesDigests, TakesPage}
 use Rattle.replica.specs.Joined.{JoinedMatchesHistory, me_of}
-use Rattle.replica.specs.Saying.{Says}
+use Rattle.orderer.specs.Saying.{Says}
 use Rattle.desk.specs.Transferring.{TakesDigestsOf, TakesPageOf, AsksPlace}
 use Rattle.desk.specs.DeskOf.{desk_of, RestsAt, IsDeskOf}
 use Rattle.replica.proofs.Beginning.{rests}
 use Rattle.replica.proofs.Beside.{IsBeside, changes_beside, heard_so, drops_beside, takes_none}
 use Rattle.replica.proofs.Fetched.{asked_number, asks_next}
-use Rattle.replica.proofs.Staying.{numbers_beside, said_on}
-use Rattle.replica.proofs.Voting.{said_in}
+use Rattle.orderer.proofs.Staying.{numbers_beside, said_on}
+use Rattle.orderer.proofs.Voting.{said_in}
 
 -- If a part below the root is wanted, the digests of the root's children are known.
 told_below : (t : TransferData) (level : Level) (index : ℕ) (digest : List ℕ) → wanted_at t level index ≡ Some digest → level ≢ levels.Root → IsTold t

@@ -22,7 +22,7 @@ use Rattle.desk.specs.declared.open_transfer.Taken.{Taken}
 use Rattle.replica.specs.declared.taking.Touched.TheVariants as touched
 use Rattle.replica.specs.State.{JoinedData, AreOne}
 use Rattle.desk.specs.State.{DeskData, OpenData}
-use Rattle.replica.specs.Desks.{FitsEvent}
+use Rattle.orderer.specs.Fitting.{FitsEvent}
 use Rattle.replica.specs.Entering.{event_of, IsAnswered, TakesBytes, TakesMessage}
 use Rattle.replica.specs.Fetching.{AsksOn, InstallsFetched}
 use Rattle.desk.specs.Fetching.{CannotInstall, GivesBack, TakesDigests, TakesPage, with_transfer}
@@ -35,7 +35,8 @@ use Rattle.replica.proofs.Beside.{drops_beside}
 use Rattle.replica.proofs.Fetched.{asked_long, asked_number, rests_now}
 use Rattle.replica.proofs.Installed.{IsFetched, installs_fetched, moved_party, number_reached, same_open}
 use Rattle.replica.proofs.Choosing.{begun_same}
-use Rattle.replica.proofs.Parties.{one_of_same, parties_twice, same_orderer}
+use Rattle.orderer.proofs.Parties.{same_orderer}
+use Rattle.replica.proofs.Parties.{one_of_same, parties_twice}
 use Rattle.replica.proofs.Parts.{Comes, IsOpen, digests_come, digests_stay, page_comes}
 
 some_none : (x : OpenData) (P : Type 0) → Some x ≡ None → P

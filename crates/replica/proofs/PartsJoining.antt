@@ -37,17 +37,18 @@ use Rattle.protocol.proofs.Words.Elements.{each_weaker}
 use Rattle.replica_histories.proofs.Received.{brings_view, brings_newer}
 use Rattle.replica.proofs.SameWords.{words_same, taken_same}
 use Rattle.protocol.specs.System.Reads.{without_reads}
-use Rattle.replica.specs.State.{OrdererData}
+use Rattle.orderer.specs.State.{OrdererData}
 use Rattle.desk.specs.State.{DeskData}
 use Rattle.desk.specs.DeskOf.{waiting_calls, desk_of}
-use Rattle.replica.specs.Desks.{FitsWaiting, WasSaid, changes_of}
-use Rattle.replica.specs.Flags.{FitsFlags, flagged}
-use Rattle.replica.specs.Numbering.{next_number, IsAllNumbered}
+use Rattle.orderer.specs.Flags.{FitsFlags, flagged}
+use Rattle.replica.specs.Numbering.{IsAllNumbered}
+use Rattle.orderer.specs.Fitting.{FitsWaiting, WasSaid, changes_of}
+use Rattle.orderer.specs.Numbering.{next_number}
 use Rattle.replica.specs.Joined.{joined, me_of}
 use Rattle.replica.specs.Parted.{DeskMatchesHistory, OrdererMatchesHistory, IsUsed}
 use Rattle.replica.specs.PartedLaws.{PartsJoin, HoldsPart}
-use Rattle.replica.specs.Changing.{AreChanges}
-use Rattle.replica.proofs.Flags.{count_same as flags_count}
+use Rattle.orderer.specs.Changing.{AreChanges}
+use Rattle.orderer.proofs.Flags.{count_same as flags_count}
 use Rattle.replica_histories.proofs.Resting.{held_are_settled}
 use Rattle.replica_histories.proofs.Words.{primary_same}
 

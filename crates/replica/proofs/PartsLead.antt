@@ -1,54 +1,31 @@
 -- The parts of a replica fit the histories that their joined replica fits.
-use Rattle.std.proofs.Common.{◌≡◌, ℕ, zero, suc, ◌+◌, ◌*◌, ◌<◌, inr, Bool, true, false, List, [], ◌∷◌, refl, sym, ap, ◌∙◌, subst, Option, Some, None}
+use Rattle.std.proofs.Common.{◌≡◌, ℕ, ◌+◌, ◌*◌, ◌<◌, inr, Bool, true, false, List, [], ◌∷◌, refl, sym, ap, ◌∙◌, subst, Option, Some, None}
 use Rattle.std.proofs.lemmas.Option.{none-some}
 use Rattle.std.specs.Prelude.{is_none, IsTrue, option_map}
 use Rattle.authenticator.specs.Membership.{Membership}
 use Rattle.events.specs.declared.output.Output.{Output}
 use Rattle.events.specs.Outputs.{after_event, AreSentAsMeant}
-use Rattle.wire_format.specs.Messages.{view_change as ViewChange}
-use Rattle.wire_format.specs.Words.{said}
-use Rattle.wire_format.proofs.Saying.{reads_said}
 use Rattle.protocol.specs.System.Configuration.{Configuration, IsConfiguration, members}
 use Rattle.protocol.specs.System.Reads.{without_reads}
 use Rattle.protocol.specs.System.Trace.{Entry}
 use Rattle.protocol.specs.Replica.Owed.{IsReplica}
-use Rattle.protocol.specs.Replica.Selection.{signed_change}
 use Rattle.protocol.proofs.Words.Options.{some_injective}
-use Rattle.view_change.specs.ReceivedData.{HeldData, AreHeldFrom}
-use Rattle.view_change.specs.ReceivedView.{ReceivedState, AreReceived, configuration_of}
-use Rattle.view_change.proofs.Opening.{signed_is}
 use Rattle.replica.specs.declared.replica.Event.{Event}
 use Rattle.replica.specs.declared.replica.Event.TheVariants as events
 use Rattle.replica.specs.Fits.{EventLeads, SendsAsMeant}
-use Rattle.replica.specs.State.{MemberData, OrdererData, JoinedData, OrdererPart, DeskPart, ReplicaData, IsOrdererPart, IsDeskPart, AreOne}
+use Rattle.orderer.specs.State.{OrdererData}
+use Rattle.replica.specs.State.{MemberData, JoinedData, OrdererPart, DeskPart, ReplicaData, IsOrdererPart, IsDeskPart, AreOne}
 use Rattle.replica.specs.ReplicaView.{both_of}
 use Rattle.desk.specs.State.{DeskData}
 use Rattle.desk.specs.Desking.{IsNewDesk}
-use Rattle.replica.specs.Taking.{IsNewOrderer}
+use Rattle.orderer.specs.Taking.{IsNewOrderer}
 use Rattle.replica.specs.Inputs.{input_of}
 use Rattle.replica.specs.Joined.{JoinedEventLeads, JoinedFitsHistory}
 use Rattle.replica.specs.Parted.{DeskMatchesHistory, OrdererMatchesHistory, DeskFitsHistory, OrdererFitsHistory, FitBoth, AreTogether, BothLead, BothSendAsMeant, Reacts}
-use Rattle.replica.specs.Changing.{AreChanges}
+use Rattle.orderer.specs.Changing.{AreChanges}
 use Rattle.replica.specs.Joined.{joined}
 use Rattle.replica.proofs.Fitting.{fits_new}
 use Rattle.replica.proofs.PartsJoining.{parts_join, holds_part}
-
--- ---- view-change data
-
-change_said : (c : Configuration) (h : HeldData) → signed_change c h.frame ≡ Some (h.sender, h.change)
-    → (sender : ℕ) × (said h.frame ≡ Some (record { sender = sender; message = ViewChange h.change }))
-change_said c h signed =
-    let s = signed_is c h.frame (h.sender, h.change) signed in
-    (s.frame.body.sender, reads_said h.frame s.frame s.spelled ∙ ap (λ m. Some (record { sender = s.frame.body.sender; message = m })) s.message)
-
-held_said : (c : Configuration) (first : ℕ) (held : List (Option HeldData)) → AreHeldFrom c first held → AreChanges held
-held_said c first [] are s h is = absurd (none-some h is)
-held_said c first (None ∷ held) are zero h is = absurd (none-some h is)
-held_said c first (Some k ∷ held) are zero h is = subst (λ (x : HeldData). (sender : ℕ) × (said x.frame ≡ Some (record { sender = sender; message = ViewChange x.change }))) (some_injective k h is) (change_said c k are.0.2)
-held_said c first (o ∷ held) are (suc s) h is = held_said c (suc first) held are.1 s h is
-
-pub are_changes : (r : ReceivedState) → AreReceived r → AreChanges r.held
-are_changes r are = held_said (configuration_of r) 0 r.held are.each
 
 -- ---- a part that holds something
 

@@ -27,11 +27,13 @@ use Rattle.replica.specs.declared.taking.Touched.{Touched}
 use Rattle.replica.specs.declared.taking.Touched.TheVariants as touched
 use Rattle.replica.specs.State.{JoinedData, AreOne}
 use Rattle.replica.specs.Beginning.{CannotBegin}
-use Rattle.replica.specs.Desks.{given, PartsFitEvent, FitsEvent, FitsWaiting, WasSaid, changes_of}
+use Rattle.replica.specs.Desks.{PartsFitEvent}
+use Rattle.orderer.specs.Fitting.{given, FitsEvent, FitsWaiting, WasSaid, changes_of}
 use Rattle.desk.specs.Waiting.{count_unnumbered}
 use Rattle.desk.specs.DeskOf.{waiting_calls, desk_of}
 use Rattle.replica.specs.Going.{IsSameParty, IsOneParty, NothingIsLeft}
 use Rattle.replica.specs.Numbering.{IsAllNumbered}
+use Rattle.orderer.specs.Numbering.{next_number}
 use Rattle.replica.specs.NumbersNext.{NumbersWaiting}
 use Rattle.replica.specs.FollowingUp.{FollowsUp, ExecutesAndNumbers}
 use Rattle.replica.specs.declared.replica.Event.{Event}
@@ -40,7 +42,7 @@ use Rattle.replica.specs.Inputs.{input_of}
 use Rattle.replica.specs.Joined.{JoinedMatchesHistory, JoinedFitsHistory, JoinedStaysRight, me_of}
 use Rattle.replica.specs.Entering.{event_with, IsAnswered, IsTakenBeside, TakesInput}
 use Rattle.replica.proofs.Choosing.{begun_same}
-use Rattle.replica.proofs.Flags.{flags_given}
+use Rattle.orderer.proofs.Flags.{flags_given}
 use Rattle.replica.proofs.Parties.{same_party, one_of_same, ones_twice}
 
 -- ---- the outputs, on the history

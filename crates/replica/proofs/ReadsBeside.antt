@@ -31,7 +31,7 @@ use Rattle.replica_histories.specs.Transfers.{FitsOpen}
 use Rattle.desk.specs.State.{DeskData}
 use Rattle.desk.specs.DeskOf.{waiting_calls, desk_of}
 use Rattle.protocol.proofs.Words.Posting.{unsigned_have_no_leaf}
-use Rattle.replica.specs.Flags.{FitsFlags}
+use Rattle.orderer.specs.Flags.{FitsFlags}
 use Rattle.replica.specs.Parted.{DeskMatchesHistory}
 use Rattle.replica_histories.proofs.Resting.{Rests, rests}
 use Rattle.replica.specs.Idle.{IsIdle, IsQuiet, CertifySame}

@@ -16,16 +16,16 @@ use Rattle.replica_histories.proofs.Answering.{reads_fit, reads_suffice, other_o
 use Rattle.replica_histories.proofs.ChangesKept.{sent_keep}
 use Rattle.replica.specs.declared.taking.Touched.TheVariants as touched
 use Rattle.replica.specs.State.{JoinedData, AreOne}
-use Rattle.replica.specs.Desks.{given, FitsEvent}
+use Rattle.orderer.specs.Fitting.{given, FitsEvent}
 use Rattle.replica.specs.Entering.{event_of, TakesBytes}
 use Rattle.desk.specs.Reading.{AnswersRead, HearsNoRead, AnswersBytes}
 use Rattle.desk.specs.DeskOf.{desk_of}
 use Rattle.replica.specs.Joined.{JoinedMatchesHistory, me_of}
 use Rattle.replica.proofs.Beginning.{rests, silence_dropped}
 use Rattle.replica.proofs.Beside.{begins, heard_so}
-use Rattle.replica.proofs.Given.{GivesOne, gives_one}
-use Rattle.replica.proofs.Parties.{one_self, same_log}
-use Rattle.replica.proofs.Staying.{fits_on, sent_beside}
+use Rattle.orderer.proofs.Staying.{GivesOne, gives_one, fits_on, sent_beside}
+use Rattle.orderer.proofs.Parties.{same_log}
+use Rattle.replica.proofs.Parties.{one_self}
 
 -- ---- a received request is to be answered beside the order
 

@@ -26,13 +26,13 @@ use Rattle.replica_histories.specs.TransfersQuorums.{QuorumsFetched}
 use Rattle.replica_histories.proofs.Transfers.{open_stays, asks_none}
 use Rattle.replica.specs.State.{DeskPart, IsDeskPart}
 use Rattle.desk.specs.State.{DeskData}
-use Rattle.replica.specs.Flags.{FitsFlags}
+use Rattle.orderer.specs.Flags.{FitsFlags}
 use Rattle.replica.specs.Idle.{IsIdle}
 use Rattle.replica.specs.Parted.{DeskMatchesHistory, ReadLeads, ReadSendsAsMeant}
 use Rattle.replica.specs.Reads.{is_read_request}
 use Rattle.desk.specs.Reading.{AnswersRead, HearsNoRead, AnswersBytes}
 use Rattle.desk.specs.DeskOf.{waiting_calls, desk_of}
-use Rattle.replica.proofs.Flags.{flags_stay}
+use Rattle.orderer.proofs.Flags.{flags_stay}
 use Rattle.replica.proofs.ReadMarks.{marked_are_requests, replies_are_marked}
 use Rattle.replica.proofs.ReadsBeside as beside
 use Rattle.replica.proofs.ReadsBeside.{idle_keeps, holds_on}

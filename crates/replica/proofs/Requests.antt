@@ -40,25 +40,28 @@ use Rattle.protocol.proofs.Words.Reacting.{proceeds_leaves}
 use Rattle.protocol.proofs.Points.Invoking.{call_body}
 use Rattle.desk.specs.declared.waiting.WaitingRequest.{WaitingRequest}
 use Rattle.replica.specs.declared.taking.Touched.TheVariants as touched
-use Rattle.replica.specs.State.{OrdererData, JoinedData, AreOne}
+use Rattle.orderer.specs.State.{OrdererData}
+use Rattle.replica.specs.State.{JoinedData, AreOne}
 use Rattle.desk.specs.State.{DeskData}
 use Rattle.desk.specs.Waiting.{WaitingData, frames_of, is_begun, is_of, request_of, with_request, without}
-use Rattle.replica.specs.Flags.{FitsFlags}
-use Rattle.replica.specs.Desks.{FitsWaiting, FitsEvent, PartsFitEvent, given, changes_of}
+use Rattle.orderer.specs.Flags.{FitsFlags}
+use Rattle.replica.specs.Desks.{PartsFitEvent}
+use Rattle.orderer.specs.Fitting.{FitsWaiting, FitsEvent, given, changes_of}
 use Rattle.replica.proofs.Desking.{PaysAgain}
 use Rattle.desk.specs.Desking.{HasReply, Waits}
 use Rattle.desk.specs.Arriving.{IsBehind, IsPast, IsWaitingAlready, IsNewer}
 use Rattle.desk.specs.DeskOf.{waiting_call, waiting_calls, desk_of, IsDeskOf}
-use Rattle.replica.specs.Saying.{AllAgain}
 use Rattle.replica.specs.Joined.{JoinedMatchesHistory, me_of}
+use Rattle.replica.specs.Numbering.{AllAgain}
 use Rattle.replica.specs.Entering.{event_of, IsLeftToDo, TakesBytes, TakesRequest}
 use Rattle.replica.proofs.Beginning.{rests, none_taken, changes_kept}
 use Rattle.replica.proofs.GoingOn.{again_stands}
-use Rattle.replica.proofs.Parties.{one_self, same_log}
-use Rattle.replica.proofs.Flags.{flags_waiting}
-use Rattle.replica.proofs.Staying.{numbers_beside, said_on}
-use Rattle.replica.proofs.PostedAgain.{all_goes}
+use Rattle.replica.proofs.Parties.{one_self}
+use Rattle.orderer.proofs.Flags.{flags_waiting}
+use Rattle.orderer.proofs.Staying.{numbers_beside, said_on}
 use Rattle.replica.proofs.WaitingOn.{AreOlder, found_call, found_spells, none_waits, older, no_older, no_older_same, is_latest, seen_before, waits_before, latest, calls_replaced, spelled_replaced, differ_replaced, frames_replaced}
+use Rattle.orderer.proofs.Parties.{same_log}
+use Rattle.orderer.proofs.Again.{all_goes}
 
 -- ---- received requests
 

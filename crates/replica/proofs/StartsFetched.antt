@@ -11,15 +11,15 @@ use Rattle.protocol.specs.Replica.State.{pages_of}
 use Rattle.replica_histories.specs.Events.{Start, after_outputs}
 use Rattle.replica_histories.specs.Transfers.{MayAsk, AsksNext}
 use Rattle.replica_histories.proofs.NewViews.{starts_may_ask}
-use Rattle.replica.specs.State.{OrdererData}
+use Rattle.orderer.specs.State.{OrdererData}
 use Rattle.desk.specs.State.{DeskData}
 use Rattle.desk.specs.Waiting.{WaitingData}
-use Rattle.replica.specs.Desks.{given, FitsEvent}
 use Rattle.desk.specs.Fetching.{aimed_at, aiming, fetch_of}
 use Rattle.desk.specs.DeskOf.{desk_of}
-use Rattle.replica.specs.Saying.{Says}
-use Rattle.replica.proofs.Asking.{asks_due}
+use Rattle.orderer.specs.Saying.{Says}
 use Rattle.replica.proofs.Following.{aim_of, aimed_same, opened_same, asks_root}
+use Rattle.orderer.specs.Fitting.{given, FitsEvent}
+use Rattle.orderer.proofs.Voting.{asks_due}
 
 module _ (c : Configuration) (s : Start) (o : OrdererData) (d : DeskData) (w : WaitingData) (new : NewViewData) (before after : List Output) where
   abbrev pub start_of : CheckpointEntry

@@ -29,24 +29,27 @@ use Rattle.replica_histories.proofs.Transfers.{ticks_may_ask}
 use Rattle.replica.specs.declared.taking.Touched.{Touched}
 use Rattle.replica.specs.declared.taking.Touched.TheVariants as touched
 use Rattle.state_transfer.specs.Transfer.{TransferData}
-use Rattle.replica.specs.State.{OrdererData, JoinedData, AreOne}
+use Rattle.orderer.specs.State.{OrdererData}
+use Rattle.replica.specs.State.{JoinedData, AreOne}
 use Rattle.desk.specs.State.{OpenData}
 use Rattle.desk.specs.DeskOf.{waiting_calls, desk_of}
 use Rattle.replica.specs.Beginning.{MayBegin, HasNoView}
-use Rattle.replica.specs.Changing.{ChangesView, HasReason, IsDue, IsNotDue, IsUnsayable, LeavesView, aimed_view, change_for}
-use Rattle.replica.specs.Desks.{given, FitsEvent, PartsFitEvent, changes_of}
+use Rattle.replica.specs.Changing.{ChangesView, HasReason, IsDue, IsNotDue, LeavesView}
+use Rattle.replica.specs.Desks.{PartsFitEvent}
+use Rattle.orderer.specs.Changing.{IsUnsayable, aimed_view, change_for}
+use Rattle.orderer.specs.Fitting.{given, FitsEvent, changes_of}
 use Rattle.replica.specs.Entering.{event_with, IsLeftToDo, TakesTick}
 use Rattle.replica.specs.Fetching.{SaysFetch}
 use Rattle.replica.specs.Joined.{JoinedMatchesHistory, me_of}
 use Rattle.replica.specs.Going.{NothingIsLeft}
 use Rattle.replica.specs.Numbering.{IsAllNumbered}
-use Rattle.replica.specs.Receiving.{JudgesAlike}
-use Rattle.replica.proofs.Asking.{asks_again}
+use Rattle.orderer.specs.Receiving.{JudgesAlike}
+use Rattle.orderer.proofs.Voting.{asks_again}
 use Rattle.replica.proofs.Beginning.{rests}
 use Rattle.replica.proofs.Choosing.{active_begins_none}
-use Rattle.replica.proofs.Unsayable.{unsaid_spent}
+use Rattle.orderer.proofs.ChangingViews.{unsaid_spent}
 use Rattle.replica.proofs.Parties.{one_self, ones_twice}
-use Rattle.replica.proofs.Staying.{numbers_beside, said_on}
+use Rattle.orderer.proofs.Staying.{numbers_beside, said_on}
 
 module _ (r : JoinedData) (one : AreOne r.orderer r.desk) where
   abbrev me : ℕ

@@ -32,24 +32,28 @@ use Rattle.replica_histories.proofs.Cutting.{cut_same}
 use Rattle.replica_histories.proofs.NumbersBegun.{logs_are_of_no_later_view}
 use Rattle.replica_histories.proofs.Words.{given_not}
 use Rattle.desk.specs.declared.waiting.BegunCall.{BegunCall}
-use Rattle.replica.specs.State.{OrdererData, JoinedData, AreOne}
+use Rattle.replica.specs.State.{JoinedData, AreOne}
+use Rattle.orderer.specs.State.{OrdererData}
 use Rattle.desk.specs.State.{OpenData, DeskData}
 use Rattle.desk.specs.Waiting.{WaitingData, with_view}
-use Rattle.replica.specs.Flags.{FitsFlags}
-use Rattle.replica.specs.Desks.{FitsEvent, FitsWaiting, PartsFitEvent, WasSaid, changes_of, given}
+use Rattle.orderer.specs.Flags.{FitsFlags}
+use Rattle.replica.specs.Desks.{PartsFitEvent}
+use Rattle.orderer.specs.Fitting.{FitsEvent, FitsWaiting, WasSaid, changes_of, given}
 use Rattle.desk.specs.Desking.{desk_above}
 use Rattle.replica.specs.Fetching.{SaysFetch}
 use Rattle.desk.specs.Fetching.{aimed_at, aiming, fetch_of}
-use Rattle.replica.specs.Going.{IsOneParty, IsVoted, IsVotedAll}
-use Rattle.replica.specs.Saying.{Says}
-use Rattle.replica.specs.EnteringViews.{Enters, FetchesStart, SaysVotesOf, entering}
+use Rattle.orderer.specs.Going.{IsVoted, IsVotedAll}
+use Rattle.replica.specs.Going.{IsOneParty}
+use Rattle.orderer.specs.Saying.{Says}
+use Rattle.orderer.specs.EnteringViews.{SaysVotesOf, entering}
+use Rattle.replica.specs.EnteringViews.{Enters, FetchesStart}
 use Rattle.desk.specs.Begun.{AreBegun}
 use Rattle.desk.specs.DeskOf.{desk_of, IsDeskOf}
 use Rattle.replica.proofs.EnteringViews.{begun_desk, begun_is}
-use Rattle.replica.proofs.Flags.{flags_begun}
+use Rattle.orderer.proofs.Flags.{flags_begun}
 use Rattle.replica.proofs.Following.{aim_of, aimed_same, aims_desk}
 use Rattle.replica.proofs.StartsFetched.{start_aims}
-use Rattle.replica.proofs.Staying.{said_on}
+use Rattle.orderer.proofs.Staying.{said_on}
 
 -- ---- the parts then
 

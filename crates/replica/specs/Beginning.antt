@@ -7,9 +7,11 @@ use Rattle.replica_histories.specs.Events.{Start}
 use Rattle.replica_histories.specs.Primaries.{SelectsNothing}
 use Rattle.replica.specs.declared.taking.Touched.{Touched}
 use Rattle.replica.specs.declared.taking.Touched.TheVariants as touched
-use Rattle.replica.specs.State.{OrdererData, JoinedData}
+use Rattle.orderer.specs.State.{OrdererData}
+use Rattle.replica.specs.State.{JoinedData}
 use Rattle.replica.specs.Desks.{PartsFitEvent}
-use Rattle.replica.specs.Going.{IsOneParty, IsVotedAll, NothingIsLeft}
+use Rattle.orderer.specs.Going.{IsVotedAll}
+use Rattle.replica.specs.Going.{IsOneParty, NothingIsLeft}
 
 -- The orderer can't begin the view that it moves to: it is active, or not that view's primary; or its keys are spent;
 -- or it has no selection over the stored view changes with its claims.

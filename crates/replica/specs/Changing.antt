@@ -1,30 +1,17 @@
 -- The replica's own view changes (Castro and Liskov, TOCS 2002, on view changes).
-use Rattle.std.specs.Prelude.{◌≡◌, ◌≢◌, ℕ, suc, ◌+◌, ◌^◌, ◌≤◌, ◌<◌, ◌⊎◌, length, Bool, true, false, List, [], Option, Some, None, Vec, max}
-use Rattle.std.specs.declared.alloc.Global.{Global}
-use Rattle.wire_format.specs.Messages.{CheckpointEntryData as CheckpointEntry, ViewChangeData, view_change as ViewChange}
-use Rattle.wire_format.specs.Words.{said}
+use Rattle.std.specs.Prelude.{◌≡◌, ◌≢◌, ℕ, suc, ◌+◌, ◌^◌, ◌≤◌, ◌<◌, ◌⊎◌, Bool, true, false, List, []}
 use Rattle.events.specs.declared.output.Output.{Output}
-use Rattle.posting.specs.Endpoint.{IsOwnSigned}
-use Rattle.protocol.specs.System.Configuration.{Configuration, is_number, members}
-use Rattle.protocol.specs.System.Frames.{leaf_of}
+use Rattle.protocol.specs.System.Configuration.{Configuration, members}
 use Rattle.protocol.specs.System.Trace.Entry.{Tick}
 use Rattle.protocol.specs.Replica.Certificates.{view, target}
 use Rattle.protocol.specs.Replica.RightReplica.{sought_view}
 use Rattle.replica_histories.specs.Events.{Start}
 use Rattle.replica_histories.specs.Views.{entries_of}
-use Rattle.view_change.specs.ReceivedData.{HeldData, held_of, refusal_of, with_held, AreHeldFrom, later_views, IsJoined}
-use Rattle.view_change.specs.ReceivedView.{configuration_of}
-use Rattle.replica.specs.State.{OrdererData, JoinedData}
+use Rattle.replica.specs.State.{JoinedData}
 use Rattle.replica.specs.Desks.{PartsFitEvent}
-use Rattle.replica.specs.Going.{IsExecuted, IsOneParty, IsVotedAll}
-
--- the greater of the current view and the last view that the replica sent a view change for
-abbrev pub aimed_view : OrdererData → ℕ
-aimed_view o = max o.log.view o.target
-
--- a view that the replica may move to: one above the aimed view
-abbrev pub IsNextView : OrdererData → ℕ → Type 0
-IsNextView o view = (aimed_view o < view) × (is_number view ≡ true)
+use Rattle.orderer.specs.Changing.{IsJoinedBy, IsUnsayable, aimed_view, change_for}
+use Rattle.orderer.specs.Going.{IsVotedAll}
+use Rattle.replica.specs.Going.{IsExecuted, IsOneParty}
 
 -- ---- why the replica leaves a view
 
@@ -37,17 +24,6 @@ abbrev pub IsNotDue : JoinedData → Type 0
 IsNotDue r =
     ((r.desk.waiting.requests ≡ []) × (r.orderer.log.active ≡ true)) ⊎ (2 ^ 48 ≤ aimed_view r.orderer + 1)
 
--- The view changes of more than f others are for later views, of which this is the least. Each is of the sender at its
--- place.
-abbrev pub IsJoinedBy : OrdererData → ℕ → Type 0
-IsJoinedBy o v = AreHeldFrom (configuration_of o.received) 0 o.received.held
-    × IsJoined o.endpoint.membership.faults (later_views o.endpoint.me (aimed_view o) o.received.held) v
-
--- There are not so many.
-abbrev pub IsJoinedByNone : OrdererData → Type 0
-IsJoinedByNone o = AreHeldFrom (configuration_of o.received) 0 o.received.held
-    × (length (later_views o.endpoint.me (aimed_view o) o.received.held) ≤ o.endpoint.membership.faults)
-
 -- In an event with this start the replica has a reason to move to the view.
 abbrev pub HasReason : Configuration → Start → JoinedData → ℕ → Type 0
 HasReason c s old v =
@@ -57,49 +33,6 @@ HasReason c s old v =
     ⊎ IsJoinedBy old.orderer v
 
 -- ---- the replica leaves the view
-
--- the stored frames spell the stored view changes
-abbrev pub AreChanges : List (Option HeldData) → Type 0
-AreChanges held =
-    (s : ℕ) (h : HeldData) → held_of held s ≡ Some h
-    → (sender : ℕ) × (said h.frame ≡ Some (record { sender = sender; message = ViewChange h.change }))
-
--- the view change for the view, with these checkpoints and all claims
-abbrev pub change_for : ℕ → List CheckpointEntry → OrdererData → ViewChangeData
-change_for view checkpoints o = record {
-  view = view;
-  low = o.log.low;
-  checkpoints = checkpoints;
-  prepared = o.claims.prepared;
-  pre_prepared = o.claims.logged;
-}
-
--- The view change can't be sent: each leaf is spent, or no frame spells it, or others would refuse it.
-abbrev pub IsUnsayable : OrdererData → ViewChangeData → Type 0
-IsUnsayable o vc =
-    (o.spent ≡ 64)
-    ⊎ (((bytes : List ℕ) → said bytes ≡ Some (record { sender = o.endpoint.me; message = ViewChange vc }) → ⊥)
-    ⊎ (refusal_of (configuration_of o.received) o.log.view o.received.held (o.log.me, vc) ≢ None))
-
--- the replica signs the view change in this frame by the next leaf, and stores it
-pub record SignsChange (view : ℕ) (checkpoints : List CheckpointEntry) (old new : OrdererData)
-    (frame : List ℕ) : Type 0 where
-  pub own : HeldData
-  pub sender : own.sender ≡ old.log.me
-  pub frame_is : own.frame ≡ frame
-  pub change : own.change ≡ change_for view checkpoints old
-  pub signed : IsOwnSigned old.endpoint (ViewChange own.change) frame
-  pub by_leaf : leaf_of frame ≡ Some old.spent
-  pub new_is : new ≡ record old {
-    received = record old.received { held = with_held own old.received.held };
-    spent = old.spent + 1;
-  }
-
--- It does so if there is a frame; else the view change can't be sent, and nothing changes.
-abbrev pub MaySignChange : ℕ → List CheckpointEntry → OrdererData → OrdererData → Option (Vec ℕ Global) → Type 0
-MaySignChange view checkpoints old new None =
-    (new ≡ old) × IsUnsayable old (change_for view checkpoints old)
-MaySignChange view checkpoints old new (Some frame) = SignsChange view checkpoints old new frame.items
 
 -- The replica leaves its view and multicasts a view change for this one. If it has a reason, what stood still stands,
 -- and the log asks for nothing more.

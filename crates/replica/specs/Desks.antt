@@ -1,62 +1,15 @@
 -- How a replica's parts fit a history and the outputs of a running event.
-use Rattle.std.specs.Prelude.{◌≡◌, ℕ, List, map, reverse, Option}
-use Rattle.std.specs.Option.{ForSome}
-use Rattle.wire_format.specs.Messages.{MessageData as Message, CheckpointEntryData as CheckpointEntry, checkpoint as Checkpoint}
+use Rattle.std.specs.Prelude.{List}
+use Rattle.wire_format.specs.Messages.{MessageData as Message}
 use Rattle.events.specs.declared.output.Output.{Output}
-use Rattle.events.specs.Outputs.{entry_of, AreSentAsMeant}
-use Rattle.ordering.specs.Log as logs
 use Rattle.protocol.specs.System.Configuration.{Configuration}
-use Rattle.protocol.specs.System.Trace.{Entry, Once}
-use Rattle.protocol.specs.Replica.Owed.{IsSaying}
-use Rattle.replica_histories.specs.Desk.{Desk}
-use Rattle.replica_histories.specs.Events as events
-use Rattle.replica_histories.specs.Events.{Start, after_outputs}
-use Rattle.replica_histories.specs.Changes.{Changes, FitsChanges}
-use Rattle.replica.specs.State.{OrdererData}
+use Rattle.replica_histories.specs.Events.{Start}
 use Rattle.desk.specs.State.{DeskData}
-use Rattle.desk.specs.Waiting.{WaitingData}
 use Rattle.desk.specs.DeskOf.{desk_of, IsDeskOf}
-use Rattle.replica.specs.Flags.{FitsFlags}
-
--- ---- the orderer
-
--- the outputs of a running event as entries, the newest first
-abbrev pub given : ℕ → List Output → List Entry
-given me outs = reverse (map (entry_of me) outs)
-
--- at the primary of its view, the flagged requests, and no others, have numbers
-abbrev pub FitsWaiting : Configuration → ℕ → OrdererData → WaitingData → Desk → List Entry → Type 0
-FitsWaiting c me o w desk history = logs.primary o.log o.log.view ≡ o.log.me
-    → FitsFlags c me o.log.view o.used w desk.state desk.waiting history
-
--- what the orderer holds for view changes
-abbrev pub changes_of : OrdererData → Changes
-changes_of o = record {
-  target = o.target;
-  begun = o.begun;
-  new_view = o.new_view;
-  claims = o.claims;
-  held = o.received.held;
-  last_checkpoint = o.last_checkpoint;
-  spent = o.spent;
-}
-
--- the replica sent its last checkpoint
-abbrev pub WasSaid : ℕ → Option CheckpointEntry → List Entry → Type 0
-WasSaid me last history =
-    ForSome last (λ entry. Once (λ earlier e. IsSaying me (Checkpoint entry.number entry.digest) e) history)
+use Rattle.orderer.specs.Fitting.{FitsEvent}
+use Rattle.orderer.specs.State.{OrdererData}
 
 -- ---- an event
-
--- Desk and orderer fit the history with the event's outputs, and these messages are due. Each frame among the outputs
--- goes to the parties for whom it is.
-pub record FitsEvent (c : Configuration) (me : ℕ) (s : Start) (o : OrdererData) (desk : Desk)
-    (w : WaitingData) (due : List Message) (outs : List Output) : Type 0 where
-  pub fits : events.Fits c me s desk o.log due (given me outs)
-  pub numbers : FitsWaiting c me o w desk (after_outputs s (given me outs))
-  pub said : WasSaid me o.last_checkpoint (after_outputs s (given me outs))
-  pub changes : FitsChanges c me o.log (changes_of o) (after_outputs s (given me outs))
-  pub meant : AreSentAsMeant c me outs
 
 -- The desk's data are right, and both parts fit as above.
 pub record PartsFitEvent (c : Configuration) (s : Start) (o : OrdererData) (d : DeskData) (due : List Message)

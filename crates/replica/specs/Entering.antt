@@ -21,8 +21,10 @@ use Rattle.replica.specs.declared.taking.Touched.{Touched}
 use Rattle.replica.specs.declared.taking.Touched.TheVariants as touched
 use Rattle.replica.specs.State.{JoinedData}
 use Rattle.replica.specs.Beginning.{CannotBegin}
-use Rattle.replica.specs.Desks.{given, PartsFitEvent}
-use Rattle.replica.specs.Going.{IsVotedBut, IsVotedAll, IsOneParty, NothingIsLeft}
+use Rattle.orderer.specs.Fitting.{given}
+use Rattle.replica.specs.Desks.{PartsFitEvent}
+use Rattle.orderer.specs.Going.{IsVotedBut, IsVotedAll}
+use Rattle.replica.specs.Going.{IsOneParty, NothingIsLeft}
 use Rattle.replica.specs.Numbering.{IsAllNumbered}
 use Rattle.replica.specs.Joined.{JoinedMatchesHistory, me_of}
 

@@ -8,7 +8,7 @@ use Rattle.desk.specs.State.{OpenData, DeskData}
 use Rattle.desk.specs.Fetching.{AsksPart, CannotInstall, Installs, fetch_of}
 use Rattle.replica.specs.State.{JoinedData}
 use Rattle.replica.specs.Marking.{MovesMarks}
-use Rattle.replica.specs.Saying.{Says}
+use Rattle.orderer.specs.Saying.{Says}
 
 -- The replica multicasts the open fetch again; if no transfer is open, it sends nothing.
 abbrev pub SaysFetch : JoinedData → List Output → List Output → Type 0

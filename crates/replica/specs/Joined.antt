@@ -9,11 +9,12 @@ use Rattle.protocol.specs.Replica.Owed.{IsReplica}
 use Rattle.replica_histories.specs.Changes.{FitsChanges}
 use Rattle.replica.specs.declared.replica.Event.{Event}
 use Rattle.replica.specs.Inputs.{input_of}
-use Rattle.replica.specs.State.{OrdererData, JoinedData}
+use Rattle.replica.specs.State.{JoinedData}
 use Rattle.desk.specs.DeskOf.{desk_of, IsDeskOf}
+use Rattle.orderer.specs.State.{OrdererData}
 use Rattle.desk.specs.State.{DeskData}
 use Rattle.replica.specs.Beginning.{CannotBegin}
-use Rattle.replica.specs.Desks.{FitsWaiting, WasSaid, changes_of}
+use Rattle.orderer.specs.Fitting.{FitsWaiting, WasSaid, changes_of}
 use Rattle.replica.specs.Numbering.{IsAllNumbered}
 
 -- a replica of these parts

@@ -1,12 +1,7 @@
-pub mod Flags
 pub mod State
-pub mod OrdererView
-pub mod Claiming
-pub mod Taking
 pub mod Desks
 pub mod Numbering
 pub mod Going
-pub mod Saying
 pub mod Marking
 pub mod Fetching
 pub mod Checkpoints
@@ -17,7 +12,6 @@ pub mod NumbersNext
 pub mod FollowingUp
 pub mod Entering
 pub mod Changing
-pub mod Receiving
 pub mod EnteringViews
 pub mod Beginning
 pub mod Reads

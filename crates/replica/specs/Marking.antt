@@ -1,8 +1,9 @@
 -- The marks move (Castro and Liskov, TOCS 2002, on garbage collection).
 use Rattle.std.specs.Prelude.{◌≡◌, ℕ}
 use Rattle.ordering.specs.Log as logs
-use Rattle.replica.specs.State.{OrdererData, JoinedData}
-use Rattle.replica.specs.Claiming.{CutsLog}
+use Rattle.orderer.specs.State.{OrdererData}
+use Rattle.replica.specs.State.{JoinedData}
+use Rattle.orderer.specs.Claiming.{CutsLog}
 use Rattle.desk.specs.Desking.{desk_above}
 
 -- The low mark moves up to a number: the log is cut there, and the claims and kept states below it are dropped.

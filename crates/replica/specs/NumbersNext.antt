@@ -5,7 +5,7 @@ use Rattle.wire_format.specs.Spelling.{IsCarried, is_ordered_request, pieces_spe
 use Rattle.events.specs.declared.output.Output.{Output}
 use Rattle.replica.specs.State.{JoinedData}
 use Rattle.desk.specs.Waiting.{texts, unnumbered, with_numbered, count_unnumbered}
-use Rattle.replica.specs.Saying.{SaysBatch}
+use Rattle.orderer.specs.Saying.{SaysBatch}
 use Rattle.replica.specs.Going.{IsSameParty, FitIsKept, NothingIsLeft}
 use Rattle.replica.specs.Numbering.{IsAllNumbered}
 

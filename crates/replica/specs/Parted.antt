@@ -13,15 +13,16 @@ use Rattle.protocol.specs.Replica.Owed.{IsReplica}
 use Rattle.replica_histories.specs.Events as histories
 use Rattle.replica_histories.specs.Changes.{FitsChanges}
 use Rattle.replica.specs.declared.replica.Event.{Event}
-use Rattle.replica.specs.State.{OrdererData, OrdererPart, DeskPart, AreOne}
+use Rattle.replica.specs.State.{OrdererPart, DeskPart, AreOne}
 use Rattle.desk.specs.DeskOf.{desk_of, waiting_calls, IsDeskOf}
+use Rattle.orderer.specs.State.{OrdererData}
 use Rattle.desk.specs.State.{DeskData}
-use Rattle.replica.specs.Flags.{FitsFlags}
+use Rattle.orderer.specs.Flags.{FitsFlags}
 use Rattle.replica.specs.Beginning.{CannotBegin}
-use Rattle.replica.specs.Desks.{WasSaid, changes_of}
+use Rattle.orderer.specs.Fitting.{WasSaid, changes_of}
 use Rattle.replica.specs.Inputs.{input_of}
 use Rattle.replica.specs.Joined.{JoinedEventLeads, joined}
-use Rattle.replica.specs.Changing.{AreChanges}
+use Rattle.orderer.specs.Changing.{AreChanges}
 
 -- ---- what a running part holds
 

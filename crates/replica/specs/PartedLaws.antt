@@ -4,11 +4,12 @@ use Rattle.protocol.specs.System.Configuration.{Configuration}
 use Rattle.protocol.specs.System.Reads.{without_reads}
 use Rattle.protocol.specs.System.Trace.{Entry}
 use Rattle.protocol.specs.Replica.Owed.{IsPromptReplica}
-use Rattle.replica.specs.State.{OrdererData, DeskPart, JoinedData, ReplicaData, AreOne, has_stopped}
+use Rattle.orderer.specs.State.{OrdererData}
+use Rattle.replica.specs.State.{DeskPart, JoinedData, ReplicaData, AreOne, has_stopped}
 use Rattle.desk.specs.State.{DeskData}
-use Rattle.replica.specs.Changing.{AreChanges}
 use Rattle.replica.specs.Joined.{JoinedMatchesHistory, joined, me_of}
 use Rattle.replica.specs.Parted.{DeskMatchesHistory, OrdererMatchesHistory, DeskFitsHistory}
+use Rattle.orderer.specs.Changing.{AreChanges}
 use Rattle.replica.specs.Fits as replica_fits
 
 -- Together they hold the whole history.

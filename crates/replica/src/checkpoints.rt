@@ -8,9 +8,9 @@ ghost use Rattle.replica.specs.Marking.{MovesMarks};
 ghost use Rattle.replica.specs.Entering.{TakesMessage};
 
 use crate::joined::Joined;
-use crate::marks::entry_in;
 use crate::taking::Touched;
 use events::{Outputs, Stop};
+use orderer::entry_in;
 use std::alloc::Global;
 use terms::{Number, ReplicaId};
 use wire::{Checkpoint, CheckpointEntry};
@@ -71,7 +71,7 @@ impl Joined {
         ensures settles { Settles (checkpoint_entry_data entry.now) self.old self.new result }
         ensures endpoint { self.new.orderer.endpoint ≡ self.old.orderer.endpoint }
     {
-        if !self.orderer.log.is_stable(entry) {
+        if !self.orderer.is_stable(entry) {
             return false;
         }
         self.move_marks(entry.number);
@@ -85,7 +85,7 @@ impl Joined {
         ensures endpoint { self.new.orderer.endpoint ≡ self.old.orderer.endpoint }
     {
         self.orderer.cut(low);
-        self.desk.drop_below(self.orderer.log.low());
+        self.desk.drop_below(self.orderer.low());
     }
 
     // Starts a state transfer to a checkpoint that a quorum sent, if it is ahead of the executed state and of an open

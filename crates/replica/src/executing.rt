@@ -36,7 +36,7 @@ impl Joined {
             (ExecutesAll self.old outputs.old.items self.new outputs.new.items) }
         ensures endpoint { self.new.orderer.endpoint ≡ self.old.orderer.endpoint }
     {
-        for _ in 0..self.orderer.log.span() {
+        for _ in 0..self.orderer.span() {
             if !self.execute_next(alloc, outputs)? {
                 return Ok(());
             }
@@ -52,7 +52,7 @@ impl Joined {
         ensures endpoint { self.new.orderer.endpoint ≡ self.old.orderer.endpoint }
     {
         let next = Number(self.desk.number().0 + 1);
-        let Some(batch) = self.orderer.log.next_batch(next) else {
+        let Some(batch) = self.orderer.next_batch(next) else {
             return Ok(false);
         };
         let batch = Arc::try_clone(batch)?;

@@ -2,17 +2,17 @@
 
 ghost use Rattle.std.specs.Prelude.{◌≡◌, [], IfOk, OnOk};
 ghost use Rattle.replica.specs.State.{AreOne};
-ghost use Rattle.replica.specs.Changing.{AreChanges};
+ghost use Rattle.orderer.specs.Changing.{AreChanges};
 ghost use Rattle.replica.specs.Entering.{TakesInput};
 ghost use Rattle.replica.specs.FollowingUp.{ExecutesAndNumbers, FollowsUp};
 ghost use Rattle.replica.specs.Inputs.{input_of};
 ghost use Rattle.replica.specs.Joined.{JoinedEventLeads, me_of};
 
-use crate::orderer::Orderer;
 use crate::replica::Event;
 use crate::taking::Touched;
 use desk::Desk;
 use events::{Outputs, Stop};
+use orderer::Orderer;
 use std::alloc::Global;
 use std::marker::Model;
 

@@ -14,26 +14,23 @@
 //! It answers reads at once from the executed state, beside the order. Their templates lie in an arena that lasts as
 //! long as the event.
 //!
-//! [`Replica::split`] takes a replica apart for two threads. The [`Orderer`] numbers and votes. The [`Desk`] executes
-//! and replies, and answers reads by itself (the crate `desk`, of which it has one until it stops). A step of the whole
-//! is a step of its orderer on its own desk. The whole keeps both joined, so that no event moves them.
+//! [`Replica::split`] takes a replica apart for two threads. The [`Orderer`] numbers and votes (the crate `orderer`).
+//! The [`Desk`] executes and replies, and answers reads by itself (the crate `desk`). Each has one of its crate's until
+//! it stops. A step of the whole is a step of its orderer on its own desk. The whole keeps both joined, so that no
+//! event moves them.
 //!
 //! # What it keeps
 //!
-//! What strangers can make it keep is bounded: the latest request of each client; for each number within the marks, at
-//! most 32, one batch and a prepare and a commit of each replica; of each replica the three checkpoints of the largest
-//! numbers; the states at its own checkpoints from the low mark on, at most three; and one transfer, by the pages of
-//! one state and 33 times 1,024 bytes of digests. States share equal pages.
-//!
-//! For view changes it keeps the latest view change of each replica, with its frame; its own claims, which few views
-//! can make many (`claims::Claims`); the frame of its own new view; at most 512 calls of the new view with which
-//! its view began; and for each number within the marks the batch that was committed in an earlier view.
+//! What strangers can make it keep is bounded. The head of `orderer` says what that part keeps of votes, checkpoints
+//! and view changes. The desk keeps the latest request of each client; the states at its own checkpoints from the low
+//! mark on, at most three; one transfer, by the pages of one state and 33 times 1,024 bytes of digests; and at most 512
+//! calls of the new view with which its view began. States share equal pages.
 //!
 //! # What it costs
 //!
-//! The event bounds the cost of a step: a vote goes over the votes of one number, and a checkpoint over three of each
-//! replica. An execution hashes nothing of the state. A checkpoint writes and hashes only the pages that requests may
-//! have changed since the last one.
+//! The event bounds the cost of a step, by the votes and checkpoints that the orderer goes over. An execution hashes
+//! nothing of the state. A checkpoint writes and hashes only the pages that requests may have changed since the last
+//! one.
 //!
 //! Serving a part of a kept state needs no hash. The replica hashes a part that arrives, with the digests above it, and
 //! compares it with at most 64 digests. If requests were executed since the last part arrived, it hashes the pages that
@@ -63,7 +60,7 @@
 //! - **A request that comes again** (`say_all_again`). An active replica sends its own new view again. Then it sends
 //!   its batch, prepare and commit of each number above the executed one, and last its latest checkpoint. An inactive
 //!   one sends its view change. By contract all of it is among the outputs (`PostsAll`, `PostsChange` in
-//!   `specs/Saying.antt`), as `Owes.says_again` asks.
+//!   `orderer/specs/Saying.antt`), as `Owes.says_again` asks.
 //! - **A part that completes a state** (`install`, `Touched::State`). The marks move, and committed batches are
 //!   executed. A page that completes no state is given back.
 //! - **A tick** (`on_timeout`, `change_view`). The replica sends the open fetch again, as `Owes.fetches_again` asks. A
@@ -78,8 +75,6 @@
 //!
 //! # How it is made
 //!
-//! - An orderer has, beside endpoint and log, the number used last and the checkpoint sent last. For view changes it
-//!   has the target, the claims, the view changes that came, and its own new view.
 //! - The contracts are relations that any history passes through. If a history fitted the outputs before the call, it
 //!   fits those after it: `GoesOn` of the orderer, `FitIsKept` of both parts. So two calls compose, and a loop's
 //!   invariant is its contract.
@@ -100,25 +95,19 @@
 
 mod changing;
 mod checkpoints;
-mod claiming;
 mod entering_views;
 mod executing;
 mod joined;
 mod joining;
-mod marks;
 mod member;
 mod new_views;
 mod numbering;
-mod orderer;
 mod parted;
 mod parted_laws;
 mod reading;
 mod replica;
-mod saying;
-mod signing_frames;
 mod taking;
 mod transfers;
-mod votes;
 
 pub use parted::{Desk, Orderer};
 pub use parted_laws::{

@@ -5,8 +5,8 @@ ghost use Rattle.wire_format.specs.Spelling.{IsCarried, is_ordered_request};
 ghost use Rattle.ordering.specs.Log.{is_in_marks};
 ghost use Rattle.desk.specs.Waiting.{unnumbered};
 ghost use Rattle.replica.specs.Entering.{TakesRequest};
-ghost use Rattle.replica.specs.Saying.{AllAgain};
-ghost use Rattle.replica.specs.Numbering.{IsNextFree, next_number};
+ghost use Rattle.replica.specs.Numbering.{AllAgain, IsNextFree};
+ghost use Rattle.orderer.specs.Numbering.{next_number};
 ghost use Rattle.replica.specs.NumbersNext.{NumbersNext, NumbersTurn, NumbersWaiting};
 
 use crate::joined::Joined;
@@ -57,7 +57,7 @@ impl Joined {
         ensures ok { OnOk result (AllAgain self.old outputs.old.items self.new outputs.new.items) }
         ensures same { self.new ≡ self.old }
     {
-        if !self.orderer.log.is_active() {
+        if !self.orderer.is_active() {
             return self.orderer.say_change_again(alloc, outputs);
         }
         let executed = self.desk.number();
@@ -119,20 +119,15 @@ impl Joined {
         Ok(())
     }
 
-    // The number above the low mark and all used ones, if the replica, as the primary, may assign it to a batch.
+    // The free number of the orderer, if it is at most two above the executed one.
     fn free_number(&self) -> Option<Number>
         ensures within { IfSome result (λ number. is_in_marks self.now.orderer.log number.0 ≡ true) }
         ensures next { IfSome result (λ number. number.0 ≡ next_number self.now.orderer) }
         ensures free { IfSome result (λ _. IsNextFree self.now) }
         ensures none { IfNone result (IsNextFree self.now → ⊥) }
     {
-        let log = &self.orderer.log;
-        let number = Number(self.orderer.used.0.max(log.low().0).checked_add(1)?);
-        if log.is_active()
-            && log.me().0 == log.primary(log.view()).0
-            && log.is_in_marks(number)
-            && number.0 <= self.desk.number().0 + AHEAD
-        {
+        let number = self.orderer.free_number()?;
+        if number.0 <= self.desk.number().0 + AHEAD {
             Some(number)
         } else {
             None

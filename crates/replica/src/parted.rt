@@ -11,11 +11,11 @@ ghost use Rattle.wire.specs.Marks.{asks_read};
 
 use crate::joined::Joined;
 use crate::member::Member;
-use crate::orderer::Orderer as OrdererState;
 use crate::replica::Event;
 use bumpalo::Bump;
 use desk::Desk as DeskState;
 use events::{Outputs, Stop};
+use orderer::Orderer as OrdererState;
 use read_only::asks_read;
 use std::alloc::Global;
 use std::marker::Model;

@@ -7,10 +7,10 @@ ghost use Rattle.replica.specs.Fits.{EventLeads, Fits, SendsAsMeant, me_of};
 
 use crate::joined::Joined;
 use crate::member::Member;
-use crate::orderer::Orderer as OrdererState;
 use crate::parted::{Desk, Orderer};
 use desk::Desk as DeskState;
 use events::{Config, Outputs, Stop};
+use orderer::Orderer as OrdererState;
 use signing::PublicKeys;
 use std::alloc::Global;
 use std::marker::Model;

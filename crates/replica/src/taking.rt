@@ -54,7 +54,7 @@ impl Joined {
             return self.on_request_bytes(alloc, bytes, outputs);
         }
         // A stored view change isn't verified again.
-        if has_type_of_view_changes(bytes) && self.orderer.received.has_frame(bytes) {
+        if has_type_of_view_changes(bytes) && self.orderer.has_frame(bytes) {
             self.orderer.judges();
             return Ok(Touched::Nothing);
         }

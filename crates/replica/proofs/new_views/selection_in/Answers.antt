@@ -1,6 +1,6 @@
 use Rattle.std.proofs.Common.{rules, ◌≡◌, length, sym, ◌∙◌}
 use Rattle.std.specs.Vec.Iter.{into_iter_items}
-use Rattle.replica.proofs.NewViews.{all_hashed}
+use Rattle.orderer.proofs.EnteringViews.{all_hashed}
 use Rattle.replica.proofs.new_views.selection_in.Goals as goal
 
 pub returns-clause-batches : goal.returns-clause-batches

@@ -1,10 +1,11 @@
 use Rattle.std.proofs.Common.{◌≡◌, ◌+◌, ap, ◌∙◌}
 use Rattle.view_change.specs.declared.changes.Selection.{Selection}
 use Rattle.view_change.specs.Sets.{texts_of}
-use Rattle.replica.specs.State.{OrdererData, JoinedData}
+use Rattle.orderer.specs.State.{OrdererData}
+use Rattle.replica.specs.State.{JoinedData}
 use Rattle.replica.specs.JoinedView.{joined_data}
-use Rattle.replica.specs.EnteringViews.{IsSelection, new_view_of}
-use Rattle.replica.proofs.ChangingViews.{of_some}
+use Rattle.orderer.specs.EnteringViews.{IsSelection, new_view_of}
+use Rattle.orderer.proofs.ChangingViews.{of_some}
 use Rattle.replica.proofs.Choosing.{unselected, unsigned}
 use Rattle.replica.proofs.OwnViews.{begins_so, signs_in, selects_few, starts_small}
 use Rattle.wire_format.specs.Lists.{Each}
@@ -37,7 +38,7 @@ returns-clause-ok c =
     c.enter.new.outputs.items c.enter.new.self _ c.deref.result.now c.sign_new_view.new.self _ c.self.invariant c.keeps.ensures.own c.keeps.ensures.log c.keeps-2.ensures.0
     (of_some (λ (x : Selection). IsSelection o x.start.0 x.root (texts_of x.batches.items)) c.in_ok-selection.field-0 s c.in-Some.is c.in_ok-selection.ensures.selects)
     (signs_in o (new_view_of o s.start.0 s.root (texts_of s.batches.items)) c.sign_new_view.new.self c.in_ok-frame.field-0 c.in-Some-2.frame c.in-Some-2.is c.in_ok-frame.ensures.signs).0
-    same c.deref.ensures.value c.in_ok-say_frame.ensures (ap (λ (x : JoinedData). x.orderer.target) (ap joined_data c.self-inside.view_is ∙ mid_is)) mid_is c.in_ok-enter.ensures.ok)
+    same c.deref.ensures.value c.in_ok-say_frame.ensures (c.target-view.ensures ∙ ap (λ (x : JoinedData). x.orderer.target) mid_is) mid_is c.in_ok-enter.ensures.ok)
 
 pub sign_new_view-requires-clause-batches : goal.sign_new_view-requires-clause-batches
 sign_new_view-requires-clause-batches c =

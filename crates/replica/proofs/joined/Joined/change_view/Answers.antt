@@ -3,10 +3,9 @@ use Rattle.wire_format.specs.Messages.{CheckpointEntryData as CheckpointEntry}
 use Rattle.wire_format.specs.Views.{checkpoint_entries_data}
 use Rattle.replica.specs.State.{JoinedData}
 use Rattle.replica.specs.JoinedView.{joined_data}
-use Rattle.replica.specs.Changing.{IsNextView, MaySignChange, SignsChange}
+use Rattle.orderer.specs.Changing.{IsNextView, MaySignChange, SignsChange}
 use Rattle.desk.specs.Keeping.{is_ascending}
-use Rattle.replica.proofs.ChangingViews.{leaves_as}
-use Rattle.replica.proofs.Unsayable.{stays_unsaid}
+use Rattle.replica.proofs.ChangingViews.{leaves_as, stays_unsaid}
 use Rattle.replica.proofs.joined.Joined.change_view.Goals as goal
 
 pub returns-clause-ok : goal.returns-clause-ok

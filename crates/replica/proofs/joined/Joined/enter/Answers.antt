@@ -6,7 +6,8 @@ use Rattle.wire_format.specs.Messages.{CheckpointEntryData as CheckpointEntry}
 use Rattle.view_change.specs.Sets.{texts_of}
 use Rattle.replica.specs.State.{JoinedData}
 use Rattle.replica.specs.JoinedView.{joined_data}
-use Rattle.replica.specs.EnteringViews.{FetchesStart, SaysVotesOf, entering}
+use Rattle.orderer.specs.EnteringViews.{SaysVotesOf, entering}
+use Rattle.replica.specs.EnteringViews.{FetchesStart}
 use Rattle.desk.specs.Begun.{NotesBegun}
 use Rattle.replica.specs.Marking.{MovesMarks}
 use Rattle.replica.proofs.EnteringViews.{enters_all}

@@ -2,9 +2,6 @@ use Rattle.std.proofs.Common.{rules, ◌≡◌, suc, ◌+◌, Some, sym, ◌∙�
 use Rattle.ordering.specs.Log.{committed_batch}
 use Rattle.ordering.specs.RowView.{batch_lent}
 use Rattle.replica.specs.State.{JoinedData}
-use Rattle.desk.specs.Desking.{RunsWhole}
-use Rattle.replica.specs.Checkpoints.{SaysDueCheckpoint}
-use Rattle.replica.specs.declared.joined.Joined.TheInside.{Inside}
 use Rattle.replica.specs.JoinedView.{joined_data}
 use Rattle.replica.specs.Going.{ExecutesNext}
 use Rattle.replica.proofs.Executions.{executes_next}
@@ -22,7 +19,6 @@ returns-clause-ok c =
     subst (λ (a : JoinedData). ExecutesNext a c.args.outputs.now.items c.say_due_checkpoint.new.self c.say_due_checkpoint.new.outputs.items) c.self.view_is
     (executes_next (joined_data c.self.inside) c.execute.new.self c.say_due_checkpoint.new.self c.text.result.now c.args.outputs.now.items c.execute.new.outputs.items
     c.say_due_checkpoint.new.outputs.items
-    (subst (λ (r : Inside). RunsWhole r.desk c.text.result.now c.args.outputs.now.items c.execute.new.self c.execute.new.outputs.items) c.self-inside.view_is c.in_ok-execute.ensures.ok)
+    c.in_ok-execute.ensures.ok
     there
-    (subst (λ (r : Inside). SaysDueCheckpoint (joined_data (record r { desk = c.execute.new.self })) c.execute.new.outputs.items c.say_due_checkpoint.new.self c.say_due_checkpoint.new.outputs.items) c.self-inside.view_is
-    c.in_ok-say_due_checkpoint.ensures.ok))
+    c.in_ok-say_due_checkpoint.ensures.ok)

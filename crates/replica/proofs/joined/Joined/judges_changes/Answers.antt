@@ -1,5 +1,5 @@
 use Rattle.std.proofs.Common.{subst}
-use Rattle.replica.specs.Receiving.{JudgesAlike}
+use Rattle.orderer.specs.Receiving.{JudgesAlike}
 use Rattle.replica.specs.State.{JoinedData}
 use Rattle.replica.proofs.joined.Joined.judges_changes.Goals as goal
 

@@ -1,6 +1,6 @@
 use Rattle.std.proofs.Common.{rules, Bool, subst}
 use Rattle.replica.specs.JoinedView.{joined_data}
-use Rattle.replica.specs.Taking.{TakesBatch}
+use Rattle.orderer.specs.Taking.{TakesBatch}
 use Rattle.replica.proofs.Beginning.{batch_taken, batch_dropped}
 use Rattle.replica.proofs.joined.Joined.on_pre_prepare.Goals as goal
 

@@ -1,7 +1,7 @@
 use Rattle.std.proofs.Common.{rules}
 use Rattle.replica.proofs.Answering.{fetch_within}
 use Rattle.replica.proofs.Beginning.{other_dropped}
-use Rattle.replica.proofs.Batches.{heard_batch, heard_batches, heard_digests}
+use Rattle.orderer.proofs.Batches.{heard_batch, heard_batches, heard_digests}
 use Rattle.replica.proofs.joined.Joined.on_replica.Goals as goal
 
 pub on_fetch-requires-clause-place : goal.on_fetch-requires-clause-place

@@ -2,8 +2,7 @@ use Rattle.std.proofs.Common.{List, subst}
 use Rattle.events.specs.declared.output.Output.{Output}
 use Rattle.terms.specs.declared.order.View.{View}
 use Rattle.replica.specs.Changing.{ChangesView, IsDue, IsNotDue}
-use Rattle.replica.proofs.ChangingViews.{of_some}
-use Rattle.replica.proofs.Unsayable.{of_none}
+use Rattle.orderer.proofs.ChangingViews.{of_some, of_none}
 use Rattle.replica.specs.Fetching.{SaysFetch}
 use Rattle.replica.proofs.Ticking.{ticks_nothing, ticks_in_place, ticks_on}
 use Rattle.replica.proofs.joined.Joined.on_timeout.Goals as goal

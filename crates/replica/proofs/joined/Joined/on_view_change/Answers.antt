@@ -7,10 +7,10 @@ use Rattle.signing.specs.Heard.{heard}
 use Rattle.replica.specs.State.{JoinedData}
 use Rattle.replica.specs.JoinedView.{joined_data}
 use Rattle.terms.specs.declared.order.View.{View}
-use Rattle.replica.specs.Changing.{ChangesView, IsJoinedBy, IsJoinedByNone}
-use Rattle.replica.proofs.ChangingViews.{of_some}
-use Rattle.replica.proofs.Unsayable.{of_none}
-use Rattle.replica.specs.Receiving.{Receives}
+use Rattle.orderer.specs.Changing.{IsJoinedBy, IsJoinedByNone}
+use Rattle.replica.specs.Changing.{ChangesView}
+use Rattle.orderer.proofs.ChangingViews.{of_some, of_none}
+use Rattle.orderer.specs.Receiving.{Receives}
 use Rattle.replica.proofs.ChangesCome.{heard_is_signed, change_refused, change_taken, MayJoin}
 use Rattle.replica.proofs.Results.{if_ok_on}
 use Rattle.replica.proofs.joined.Joined.on_view_change.Goals.{in-Some+in_ok-change_view, in_default}

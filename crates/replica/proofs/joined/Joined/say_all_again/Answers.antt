@@ -1,9 +1,10 @@
-use Rattle.std.proofs.Common.{ℕ, true, refl, sym, ap, ◌∙◌, subst}
+use Rattle.std.proofs.Common.{ℕ, true, refl, sym, subst}
 use Rattle.std.proofs.lemmas.Result.{on_ok_weaker}
 use Rattle.replica.specs.State.{JoinedData}
 use Rattle.replica.specs.JoinedView.{joined_data}
-use Rattle.replica.specs.Saying.{AllAgain, PostsAll, SaysLastAlso}
-use Rattle.replica.proofs.Again.{all_again, change_only}
+use Rattle.orderer.specs.Saying.{PostsAll, SaysLastAlso}
+use Rattle.replica.specs.Numbering.{AllAgain}
+use Rattle.replica.proofs.GoingOn.{all_again, change_only}
 use Rattle.replica.proofs.joined.Joined.say_all_again.Goals as goal
 
 pub returns-then-not-is_active-clause-ok : goal.returns-then-not-is_active-clause-ok
@@ -15,7 +16,7 @@ returns-then-not-is_active-clause-ok c =
     on_ok_weaker c.say_change_again.result
     (λ says. subst (λ (r : JoinedData). AllAgain r before new after) c.self.view_is
     (change_only (joined_data c.self.inside) new o before after
-    (ap (λ r. r.orderer.log.active) (sym c.self-inside.view_is) ∙ sym c.if-not-is_active.ensures) says refl))
+    (sym c.if-not-is_active.ensures) says refl))
     c.say_change_again.ensures.ok
 
 pub returns-clause-ok : goal.returns-clause-ok
@@ -27,7 +28,7 @@ returns-clause-ok c =
     on_ok_weaker c.say_again.result
     (λ says. subst (λ (r : JoinedData). AllAgain r before new after) c.self.view_is
     (all_again (joined_data c.self.inside) new o before after
-    (ap (λ r. r.orderer.log.active) (sym c.self-inside.view_is) ∙ sym c.if-not-is_active.ensures)
+    (sym c.if-not-is_active.ensures)
     (subst (λ (n : ℕ). SaysLastAlso true 0 (PostsAll n) (joined_data c.self.inside).orderer before o after)
     c.number-executed.ensures.value says) refl))
     c.say_again.ensures.ok

@@ -1,8 +1,6 @@
-use Rattle.std.proofs.Common.{rules, ℕ, ap, ◌∙◌, option_map, subst}
+use Rattle.std.proofs.Common.{rules, ℕ, ap, ◌∙◌, option_map}
 use Rattle.wire_format.specs.Views.{body_data}
 use Rattle.signing.specs.Heard.{heard}
-use Rattle.view_change.specs.ReceivedView.{IsHeldIn}
-use Rattle.replica.specs.declared.joined.Joined.TheInside.{Inside}
 use Rattle.replica.specs.JoinedView.{joined_data}
 use Rattle.replica.proofs.Beginning.{silence_dropped}
 use Rattle.replica.proofs.ChangesCome.{change_held}
@@ -23,4 +21,4 @@ returns-then-has_frame-clause-ok c =
     let h = c.has_frame.ensures.held c.if-has_frame.true in
     rw (c.requires.first, ← c.self.view_is)
     (change_held (joined_data c.self.inside) c.args.bytes.now h.0 c.self.invariant c.judges.ensures.alike c.judges.ensures.changes
-    (subst (λ (x : Inside). IsHeldIn x.orderer.received c.args.bytes.now h.0) c.self-inside.view_is h.1))
+    h.1)

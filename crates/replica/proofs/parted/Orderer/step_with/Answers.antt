@@ -1,7 +1,7 @@
 use Rattle.std.proofs.Common.{◌≡◌, Some, sym, ap, ◌∙◌, subst}
 use Rattle.replica.specs.State.{OrdererPart, DeskPart, JoinedData, IsOrdererPart, IsDeskPart, AreOne}
-use Rattle.replica.specs.Changing.{AreChanges}
 use Rattle.replica.specs.Joined.{JoinedEventLeads, joined}
+use Rattle.orderer.specs.Changing.{AreChanges}
 use Rattle.replica.specs.Parted.{Reacts}
 use Rattle.replica.proofs.PartsLead.{orders, answers, steps, steps_send, together_one}
 use Rattle.replica.proofs.parted.Orderer.step_with.Goals as goal

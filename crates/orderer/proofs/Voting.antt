@@ -1,0 +1,340 @@
+-- The votes that the replica sends fit, and the fetch of the place that an open transfer asks for.
+use Rattle.std.proofs.Common.{◌≡◌, ◌≢◌, ℕ, ◌+◌, ◌<◌, ◌^◌, Bool, true, false, cond, not, List, length, Option, Some, None, refl, ap, ◌∙◌, arith, ◌&&◌, ◌==◌, eq-eqb, nat_lt, nat_le, is_none, ◌∷◌, option_map, sym, subst}
+use Rattle.std.proofs.lemmas.Bool.{and_parts, ltb-true, leb-true}
+use Rattle.std.proofs.lemmas.List.{get_or-set_same, get_or-set_other}
+use Rattle.std.specs.Bool.{then_some}
+use Rattle.quorum.specs.Votes.{or_else}
+use Rattle.ordering.specs.declared.votes.Vote.{Vote}
+use Rattle.ordering.specs.Votes.{vote_of, with_vote}
+use Rattle.ordering.specs.Log as logs
+use Rattle.ordering.specs.Log.{Row, no_row, LogData, primary, replicas, digest_of, is_in_marks, is_row_prepared, place, row_of, with_row, with_prepare, with_commit, due_prepare, due_commit, logged_digest, prepare_of, commit_of, is_prepared, logged_batch}
+use Rattle.ordering.specs.Keeping.{IsLog}
+use Rattle.ordering.specs.Laws.{PreparesCount, CommitsCount}
+use Rattle.replica_histories.proofs.Words.{passed}
+use Rattle.sha2.specs.Sha256.{sha256}
+use Rattle.wire_format.specs.Messages.{MessageData as Message, prepare as Prepare, commit as Commit}
+use Rattle.ordering.proofs.Reading.{prepares_count, commits_count}
+use Rattle.protocol.specs.System.Configuration.{Configuration, members}
+use Rattle.protocol.specs.System.Frames.{IsPosted}
+use Rattle.protocol.specs.System.Trace.{Entry}
+use Rattle.protocol.specs.System.Trace.Entry.{Sent}
+use Rattle.protocol.proofs.Words.Options.{some_injective}
+use Rattle.claims.specs.Recording.{with_prepared}
+use Rattle.protocol.specs.Replica.RightReplica.{others}
+use Rattle.posting.proofs.Posting.{posted_for_others}
+use Rattle.events.specs.declared.output.Output.{Output}
+use Rattle.replica_histories.specs.Events as events
+use Rattle.replica_histories.specs.Events.{after_outputs, Start}
+use Rattle.replica_histories.specs.Changes.{FitsChanges}
+use Rattle.replica_histories.proofs.ChangesPassing.{outputs_pass, commits_are_claimed}
+use Rattle.replica_histories.proofs.Giving.{prepares_fit, commits_fit}
+use Rattle.orderer.specs.State.{OrdererData, IsOrderer}
+use Rattle.orderer.specs.Fitting.{given, changes_of, FitsEvent}
+use Rattle.orderer.specs.Going.{GoesOn}
+use Rattle.orderer.specs.Claiming.{claiming, ClaimsLogged}
+use Rattle.orderer.specs.Saying.{Says, AddsPrepare, AddsCommit, SaysVote, SaysPrepare, SaysCommit, SaysVotes}
+use Rattle.orderer.proofs.Staying.{GivesOne, gives_one, sent_beside, same_rows, fits_on, fits_with, changes_still, fits_behind, numbers_beside}
+use Rattle.orderer.proofs.Parties.{same_orderer, orderers_twice, same_log}
+use Rattle.replica_histories.proofs.ChangesKept.{sent_keep}
+use Rattle.state_transfer.specs.Transfer.{TransferData}
+use Rattle.replica_histories.specs.Desk.{Desk}
+use Rattle.replica_histories.specs.Transfers.{MayAsk, AsksNext}
+use Rattle.replica_histories.proofs.Fetching.{fetches_fit, due_fetches_fit}
+use Rattle.desk.specs.Waiting.{WaitingData}
+use Rattle.desk.specs.Fetching.{fetch_of}
+
+-- a number within the marks stands so
+pub record Within (m : LogData) (i : ℕ) : Type 0 where
+  pub low : m.low < i
+  pub high : i < m.low + m.span + 1
+
+pub within : (m : LogData) (i : ℕ) → is_in_marks m i ≡ true → Within m i
+within m i h =
+    let a = and_parts (nat_lt m.low i && nat_le i (m.low + m.span)) (nat_lt i (2 ^ 48)) h in
+    let b = and_parts (nat_lt m.low i) (nat_le i (m.low + m.span)) a.0 in
+    let l = ltb-true m.low i b.0 in let r = leb-true i (m.low + m.span) b.1 in record { low = l; high = omega (arith, r) }
+
+pub row_elsewhere : (m : LogData) (i j : ℕ) (row : Row) → is_in_marks m i ≡ true → is_in_marks m j ≡ true → i ≢ j → row_of (with_row m j row) i ≡ row_of m i
+row_elsewhere m i j row hi hj ne =
+    let a = within m i hi in let b = within m j hj in let al = a.low in let bl = b.low in
+    get_or-set_other m.rows (place m j) (place m i) row no_row (λ h. ne (omega (arith, h, al, bl)))
+
+pub row_here : (m : LogData) (j : ℕ) (row : Row) → IsLog m → is_in_marks m j ≡ true → row_of (with_row m j row) j ≡ row
+row_here m j row is hj =
+    let b = within m j hj in let bl = b.low in let bh = b.high in let size = is.size in
+    let l : place m j < length m.rows = omega (arith, bl, bh, size) in
+    get_or-set_same m.rows (place m j) row no_row l
+
+-- A word that depends on a row alone, and on none outside the marks, is the same elsewhere.
+elsewhere : {A : Type 0} (f : Bool → Row → A) → ((r s : Row) → f false r ≡ f false s) → (m : LogData) (i j : ℕ) (row : Row) → is_in_marks m j ≡ true → i ≢ j
+    → f (is_in_marks m i) (row_of (with_row m j row) i) ≡ f (is_in_marks m i) (row_of m i)
+elsewhere f out m i j row hj ne = go (is_in_marks m i) refl
+  where
+    go : (b : Bool) → is_in_marks m i ≡ b → f b (row_of (with_row m j row) i) ≡ f b (row_of m i)
+    go true e = ap (f true) (row_elsewhere m i j row e hj ne)
+    go false e = out _ _
+
+-- the prepare, or the commit, that is due by a row
+abbrev prepare_by : LogData → Bool → Row → Option (List ℕ)
+prepare_by m b r = cond (m.active && not (m.me == primary m m.view) && is_none (cond b (vote_of r.prepares m.me) None)) (cond b (digest_of r) None) None
+
+abbrev commit_by : LogData → Bool → Row → Option (List ℕ)
+commit_by m b r = cond (m.active && (b && is_row_prepared m.faults (replicas m) r) && is_none (cond b (vote_of r.commits m.me) None)) (cond b (digest_of r) None) None
+
+prepare_out : (m : LogData) (r s : Row) → prepare_by m false r ≡ prepare_by m false s
+prepare_out m r s = refl
+
+commit_out : (m : LogData) (r s : Row) → commit_by m false r ≡ commit_by m false s
+commit_out m r s = refl
+
+pub due_prepare_elsewhere : (m : LogData) (i j : ℕ) (row : Row) → is_in_marks m j ≡ true → i ≢ j → due_prepare (with_row m j row) i ≡ due_prepare m i
+due_prepare_elsewhere m i j row hj ne = elsewhere (prepare_by m) (prepare_out m) m i j row hj ne
+
+pub due_commit_elsewhere : (m : LogData) (i j : ℕ) (row : Row) → is_in_marks m j ≡ true → i ≢ j → due_commit (with_row m j row) i ≡ due_commit m i
+due_commit_elsewhere m i j row hj ne = elsewhere (commit_by m) (commit_out m) m i j row hj ne
+
+-- if a vote is due, the number is within the marks, and there is none yet
+pub due_prepare_within : (m : LogData) (i : ℕ) (d : List ℕ) → due_prepare m i ≡ Some d → is_in_marks m i ≡ true
+due_prepare_within m i d h =
+    let a = passed (m.active && not (m.me == primary m m.view) && is_none (prepare_of m i m.me)) (logged_digest m i) d h in
+    (passed (is_in_marks m i) (digest_of (row_of m i)) d a.1).0
+
+pub due_commit_within : (m : LogData) (i : ℕ) (d : List ℕ) → due_commit m i ≡ Some d → is_in_marks m i ≡ true
+due_commit_within m i d h =
+    let a = passed (m.active && logs.is_prepared m i && is_none (commit_of m i m.me)) (logged_digest m i) d h in
+    (passed (is_in_marks m i) (digest_of (row_of m i)) d a.1).0
+
+-- a counted vote is the sender's, if not the first
+counted : (o : Option (List ℕ)) (s i : ℕ) (vote : Vote) → vote.sender.0 ≡ s → is_none (cond (i == i) (or_else o (then_some (vote.sender.0 == s) vote.digest)) o) ≡ false
+counted o s i vote own = rw (eq-eqb i i refl, eq-eqb vote.sender.0 s own) (go o)
+  where
+    go : (o : Option (List ℕ)) → is_none (or_else o (Some vote.digest)) ≡ false
+    go None = refl
+    go (Some d) = refl
+
+stopped : (b : Bool) (o : Option (List ℕ)) (x : Bool) → x ≡ false → cond (b && x) o None ≡ None
+stopped true o x e = rw e refl
+stopped false o x e = refl
+
+pub prepare_said : PreparesCount → (m : LogData) (i : ℕ) (vote : Vote) → IsLog m → is_in_marks m i ≡ true → vote.sender.0 ≡ m.me → due_prepare (with_prepare m i vote) i ≡ None
+prepare_said counts m i vote is hi own =
+    let k : prepare_of (with_prepare m i vote) i m.me ≡ cond (i == i) (or_else (prepare_of m i m.me) (then_some (vote.sender.0 == m.me) vote.digest)) (prepare_of m i m.me) = (counts m i i m.me vote is hi).1 in
+    stopped (m.active && not (m.me == primary m m.view)) (logged_digest (with_prepare m i vote) i) (is_none (prepare_of (with_prepare m i vote) i m.me)) (ap is_none k ∙ counted (prepare_of m i m.me) m.me i vote own)
+
+pub commit_said : CommitsCount → (m : LogData) (i : ℕ) (vote : Vote) → IsLog m → is_in_marks m i ≡ true → vote.sender.0 ≡ m.me → due_commit (with_commit m i vote) i ≡ None
+commit_said counts m i vote is hi own =
+    let k : commit_of (with_commit m i vote) i m.me ≡ cond (i == i) (or_else (commit_of m i m.me) (then_some (vote.sender.0 == m.me) vote.digest)) (commit_of m i m.me) = (counts m i i m.me vote is hi).2 in
+    stopped (m.active && logs.is_prepared (with_commit m i vote) i) (logged_digest (with_commit m i vote) i) (is_none (commit_of (with_commit m i vote) i m.me)) (ap is_none k ∙ counted (commit_of m i m.me) m.me i vote own)
+
+-- a commit leaves the due prepare
+pub prepare_stays : (m : LogData) (i : ℕ) (vote : Vote) → IsLog m → is_in_marks m i ≡ true → due_prepare (with_commit m i vote) i ≡ due_prepare m i
+prepare_stays m i vote is hi = ap (prepare_by m (is_in_marks m i)) (row_here m i (record (row_of m i) { commits = with_vote vote (row_of m i).commits }) is hi)
+
+-- the sent message, as the laws over histories ask for it
+pub record SaidIn (c : Configuration) (o : OrdererData) (message : Message) (before after : List Output) : Type 0 where
+  pub bytes : List ℕ
+  pub posted : IsPosted c o.endpoint.me message (others c o.endpoint.me) bytes
+  pub is : GivesOne c o.endpoint.me before after (Sent o.endpoint.me bytes)
+
+pub said_in : (c : Configuration) (o : OrdererData) (message : Message) (before after : List Output) → members c ≡ o.endpoint.membership → Says o message before after
+    → SaidIn c o message before after
+said_in c o message before after known s = record {
+  bytes = s.posts.bytes;
+  posted = posted_for_others o.endpoint.membership o.endpoint.me message s.posts.bytes s.posts.posted c known;
+  is = gives_one c o.endpoint.me before after s.output (Sent o.endpoint.me s.posts.bytes) s.given_is s.posts.sends (s.posts.meant c known);
+}
+
+-- nothing is asked for, and nothing is sent
+pub silent : (number : ℕ) (o : OrdererData) (outs : List Output) → SaysVote number o outs o outs
+silent number o outs = record {
+  goes = λ c s desk w due known f. f;
+  same = same_orderer o;
+  low = refl;
+  used = refl;
+  others = λ i ne v. v;
+}
+
+pub no_commit : (number : ℕ) (o : OrdererData) (outs : List Output) → due_commit o.log number ≡ None → SaysCommit number o outs o outs
+no_commit number o outs h = record { says = silent number o outs; said = h; prepared = refl }
+
+-- ---- a prepare
+
+prepare_goes : (number : ℕ) (digest : List ℕ) (vote : Vote) (o : OrdererData) (before after : List Output) → o.log.me ≡ o.endpoint.me → due_prepare o.log number ≡ Some digest
+    → vote.sender.0 ≡ o.log.me → vote.digest ≡ digest → Says o (Prepare o.log.view number digest) before after
+    → GoesOn o before (record o { log = with_prepare o.log number vote }) after
+prepare_goes number digest vote o before after own due sender same says c s desk w d known f =
+    let k = said_in c o (Prepare o.log.view number digest) before after known says in
+    fits_on c o.endpoint.me s o (record o { log = with_prepare o.log number vote }) desk w d d before after (Sent o.endpoint.me k.bytes) k.is
+    (sent_beside c o.endpoint.me (Prepare o.log.view number digest) (others c o.endpoint.me) k.bytes (after_outputs s (given o.endpoint.me before)) tt k.posted)
+    (sent_keep c o.endpoint.me (after_outputs s (given o.endpoint.me before)) (Prepare o.log.view number digest) k.bytes k.posted.says tt (λ signed. absurd cc))
+    (same_rows o.log (with_prepare o.log number vote).rows) refl refl refl refl f
+    (prepares_fit c o.endpoint.me s desk o.log d (given o.endpoint.me before) number digest k.bytes vote due (sender ∙ own) same k.posted f.fits)
+
+pub says_prepare : (number : ℕ) (digest : List ℕ) (old new : OrdererData) (before after : List Output) → IsLog old.log → IsOrderer old → due_prepare old.log number ≡ Some digest
+    → Says old (Prepare old.log.view number digest) before after → AddsPrepare number digest old new → SaysPrepare number old before new after
+says_prepare number digest old new before after is own due says adds =
+    subst (λ (x : OrdererData). SaysPrepare number old before x after) (sym adds.new_is) (record {
+      says = record {
+        goes = prepare_goes number digest adds.vote old before after own.0 due adds.sender adds.digest_is says;
+        same = record {
+          endpoint = refl;
+          log = same_rows old.log (with_prepare old.log number adds.vote).rows;
+          target = refl;
+          choice = λ off. record { received = refl; spent = refl; logged = λ claim has. has };
+        };
+        low = refl;
+        used = refl;
+        others = λ i ne v. (due_prepare_elsewhere old.log i number _ inside ne ∙ v.0, due_commit_elsewhere old.log i number _ inside ne ∙ v.1);
+      };
+      said = prepare_said prepares_count old.log number adds.vote is inside adds.sender;
+    })
+  where
+    inside : is_in_marks old.log number ≡ true
+    inside = due_prepare_within old.log number digest due
+
+-- ---- a commit
+
+-- the logged digest is the batch's
+digest_logged : (m : LogData) (i : ℕ) → logged_digest m i ≡ option_map sha256 (logged_batch m i)
+digest_logged m i = go (is_in_marks m i)
+  where
+    go : (b : Bool) → cond b (digest_of (row_of m i)) None ≡ option_map sha256 (cond b (row_of m i).batch None)
+    go true = refl
+    go false = refl
+
+-- the batch whose commit is due is claimed
+pub record ClaimsDue (number : ℕ) (digest : List ℕ) (old new : OrdererData) : Type 0 where
+  pub text : List ℕ
+  pub digest_is : sha256 text ≡ digest
+  pub new_is : new ≡ claiming number text old
+
+abbrev ClaimsFound : ℕ → OrdererData → OrdererData → Option (List ℕ) → Type 0
+ClaimsFound number old new found = elim found [ Some text ↦ new ≡ claiming number text old | None ↦ new ≡ old ]
+
+pub claims_due : (number : ℕ) (digest : List ℕ) (old new : OrdererData) → due_commit old.log number ≡ Some digest → ClaimsLogged number old new → ClaimsDue number digest old new
+claims_due number digest old new due claims = go (logged_batch old.log number) has claims
+  where
+    has : option_map sha256 (logged_batch old.log number) ≡ Some digest
+    has = sym (digest_logged old.log number)
+        ∙ (passed (old.log.active && is_prepared old.log number && is_none (commit_of old.log number old.log.me)) (logged_digest old.log number) digest due).1
+
+    go : (o : Option (List ℕ)) → option_map sha256 o ≡ Some digest → ClaimsFound number old new o → ClaimsDue number digest old new
+    go None e is = absurd cc
+    go (Some text) e is = record { text = text; digest_is = some_injective (sha256 text) digest e; new_is = is }
+
+commit_goes : (number : ℕ) (digest text : List ℕ) (vote : Vote) (o : OrdererData) (before after : List Output) → o.log.me ≡ o.endpoint.me → due_commit o.log number ≡ Some digest
+    → sha256 text ≡ digest → vote.sender.0 ≡ o.log.me → vote.digest ≡ digest → Says (claiming number text o) (Commit o.log.view number digest) before after
+    → GoesOn o before (record (claiming number text o) { log = with_commit o.log number vote }) after
+commit_goes number digest text vote o before after own due hashed sender same says c s desk w d known f =
+    fits_with c me s o (record (claiming number text o) { log = log }) desk w d d before after e k.is
+    (sent_beside c me (Commit o.log.view number digest) (others c me) k.bytes past tt k.posted)
+    (same_rows o.log log.rows) refl refl
+    (subst (λ (x : List ℕ). FitsChanges c me log (record (changes_of o) {
+      claims = record o.claims { prepared = with_prepared (record { number = number; digest = x; view = o.log.view }) o.claims.prepared };
+    }) (e ∷ past)) (sym hashed)
+    (commits_are_claimed c me past o.log log (changes_of o) number digest k.bytes (outputs_pass c me s desk desk o.log log d d (given me before) e f.fits on)
+    (record { view = refl; active = refl }) refl due k.posted.says f.changes)) f on
+  where
+    me : ℕ
+    me = o.endpoint.me
+
+    past : List Entry
+    past = after_outputs s (given me before)
+
+    log : LogData
+    log = with_commit o.log number vote
+
+    k : SaidIn c (claiming number text o) (Commit o.log.view number digest) before after
+    k = said_in c (claiming number text o) (Commit o.log.view number digest) before after known says
+
+    e : Entry
+    e = Sent me k.bytes
+
+    on : events.Fits c me s desk log d (e ∷ given me before)
+    on = commits_fit c me s desk o.log d (given me before) number digest k.bytes vote due (sender ∙ own) same k.posted f.fits
+
+claimed_commit : (number : ℕ) (digest text : List ℕ) (old new : OrdererData) (before after : List Output) → IsLog old.log → IsOrderer old → due_commit old.log number ≡ Some digest → sha256 text ≡ digest
+    → Says (claiming number text old) (Commit old.log.view number digest) before after → AddsCommit number digest (claiming number text old) new → SaysCommit number old before new after
+claimed_commit number digest text old new before after is own due hashed says adds =
+    subst (λ (x : OrdererData). SaysCommit number old before x after) (sym adds.new_is) (record {
+      says = record {
+        goes = commit_goes number digest text adds.vote old before after own.0 due hashed adds.sender adds.digest_is says;
+        same = record {
+          endpoint = refl;
+          log = same_rows old.log (with_commit old.log number adds.vote).rows;
+          target = refl;
+          choice = λ off. record { received = refl; spent = refl; logged = λ claim has. has };
+        };
+        low = refl;
+        used = refl;
+        others = λ i ne v. (due_prepare_elsewhere old.log i number _ inside ne ∙ v.0, due_commit_elsewhere old.log i number _ inside ne ∙ v.1);
+      };
+      said = commit_said commits_count old.log number adds.vote is inside adds.sender;
+      prepared = prepare_stays old.log number adds.vote is inside;
+    })
+  where
+    inside : is_in_marks old.log number ≡ true
+    inside = due_commit_within old.log number digest due
+
+pub says_commit : (number : ℕ) (digest : List ℕ) (old mid new : OrdererData) (before after : List Output) → IsLog old.log → IsOrderer old → due_commit old.log number ≡ Some digest
+    → ClaimsLogged number old mid → Says mid (Commit mid.log.view number digest) before after → AddsCommit number digest mid new → SaysCommit number old before new after
+says_commit number digest old mid new before after is own due claims says adds =
+    let k = claims_due number digest old mid due claims in
+    claimed_commit number digest k.text old new before after is own due k.digest_is
+    (subst (λ (x : OrdererData). Says x (Commit x.log.view number digest) before after) k.new_is says)
+    (subst (λ (x : OrdererData). AddsCommit number digest x new) k.new_is adds)
+
+-- ---- both
+
+-- if both go on, the whole does
+pub goes_twice : (a b d : OrdererData) (x y z : List Output) → b.endpoint ≡ a.endpoint → GoesOn a x b y → GoesOn b y d z → GoesOn a x d z
+goes_twice a b d x y z same first second c s desk w due known f =
+    subst (λ e. FitsEvent c e.me s d desk w due z) same
+    (second c s desk w due (known ∙ ap (λ e. e.membership) (sym same)) (subst (λ e. FitsEvent c e.me s b desk w due y) (sym same) (first c s desk w due known f)))
+
+pub says_votes : (number : ℕ) (a b d : OrdererData) (x y z : List Output) → SaysPrepare number a x b y → SaysCommit number b y d z → SaysVotes number a x d z
+says_votes number a b d x y z p q = record {
+  says = record {
+    goes = goes_twice a b d x y z p.says.same.endpoint p.says.goes q.says.goes;
+    same = orderers_twice a b d p.says.same q.says.same;
+    low = q.says.low ∙ p.says.low;
+    used = q.says.used ∙ p.says.used;
+    others = λ i ne v. q.says.others i ne (p.says.others i ne v);
+  };
+  said = (q.prepared ∙ p.said, q.said);
+}
+
+module _ (c : Configuration) (s : Start) (o : OrdererData) (desk : Desk) (w : WaitingData) (before after : List Output) (t : TransferData) (known : members c ≡ o.endpoint.membership)
+    (says : Says o (fetch_of t) before after) where
+  abbrev pub me : ℕ
+  me = o.endpoint.me
+
+  abbrev pub past : List Entry
+  past = after_outputs s (given me before)
+
+  said : SaidIn c o (fetch_of t) before after
+  said = said_in c o (fetch_of t) before after known says
+
+  abbrev pub with_it : Desk
+  with_it = record desk { transfer = Some t }
+
+  -- the desk has the transfer after its fetch
+  behind_it : (due rest : List Message) → FitsEvent c me s o desk w due before → events.Fits c me s with_it o.log rest (Sent me said.bytes ∷ given me before)
+      → FitsEvent c me s o with_it w rest after
+  behind_it due rest f on =
+      fits_behind c me s o o desk with_it w w due rest before after (Sent me said.bytes) said.is refl f on
+      (numbers_beside c me w o desk past (Sent me said.bytes) f.fits.of_log.faults f.fits.of_log.own (sent_beside c me (fetch_of t) (others c me) said.bytes past tt said.posted) f.numbers)
+      (changes_still c me s o o desk with_it due rest (given me before) (Sent me said.bytes) f.fits on (sent_keep c me past (fetch_of t) said.bytes said.posted.says tt (λ signed. absurd cc)) (same_log o.log) refl refl f.changes)
+
+  pub asks : (due : List Message) → MayAsk c me t desk.state.number past → AsksNext c me t desk.state past → FitsEvent c me s o desk w due before → FitsEvent c me s o with_it w due after
+  asks due may next f = behind_it due due f (fetches_fit c me s desk o.log due (given me before) t said.bytes may next said.posted f.fits)
+
+  -- the fetch was due
+  pub asks_due : (rest : List Message) → MayAsk c me t desk.state.number past → AsksNext c me t desk.state past → FitsEvent c me s o desk w (fetch_of t ∷ rest) before → FitsEvent c me s o with_it w rest after
+  asks_due rest may next f = behind_it (fetch_of t ∷ rest) rest f (due_fetches_fit c me s desk o.log rest (given me before) t said.bytes may next said.posted f.fits)
+
+  -- the open transfer may ask again, if a fetch is due
+  pub asks_again : (rest : List Message) → desk.transfer ≡ Some t → MayAsk c me t desk.state.number past → AsksNext c me t desk.state past → FitsEvent c me s o desk w (fetch_of t ∷ rest) before → FitsEvent c me s o desk w rest after
+  asks_again rest there may next f =
+      subst (λ x. FitsEvent c me s o (record desk { transfer = x }) w rest after) (sym there)
+      (asks_due rest may next f)

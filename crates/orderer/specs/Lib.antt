@@ -1,0 +1,13 @@
+pub mod State
+pub mod OrdererView
+pub mod Flags
+pub mod Fitting
+pub mod Going
+pub mod Claiming
+pub mod Taking
+pub mod Saying
+pub mod Checkpoints
+pub mod Numbering
+pub mod Changing
+pub mod Receiving
+pub mod EnteringViews

@@ -1,0 +1,199 @@
+//! What the replica multicasts to the others, and what it multicasts again when a client asks again.
+
+ghost use Rattle.std.specs.Prelude.{◌≡◌, ◌+◌, ◌≤◌, ◌<◌, ◌^◌, true, false, length, OnOk};
+ghost use Rattle.wire_format.specs.Lists.{Each};
+ghost use Rattle.wire_format.specs.Messages.{fetch, pre_prepare};
+ghost use Rattle.wire_format.specs.Spelling.{IsBatch, IsCarried, IsMessage, is_ordered_request, is_signed, pieces_spelling};
+ghost use Rattle.ordering.specs.Log.{is_in_marks};
+ghost use Rattle.wire_format.specs.Views.{message_data, texts_of};
+ghost use Rattle.posting.specs.Endpoint.{FitsFrame};
+ghost use Rattle.state_transfer.specs.Places.{IsPlace};
+ghost use Rattle.orderer.specs.Saying.{PostsAll, PostsBatch, PostsCommit, PostsPrepare, PostsRow, Says, SaysAlso, SaysBatch, SaysLastAlso, row_place};
+
+use crate::orderer::Orderer;
+use authenticator::SealFault;
+use events::{Outputs, Stop, give};
+use ordering::HashedBatch;
+use posting::{fetch_message, pre_prepare_message};
+use state_transfer::Place;
+use std::alloc::Global;
+use std::sync::Arc;
+use terms::Number;
+use wire::{Batch, Message};
+
+impl Orderer {
+    /// Assigns a number to these request frames, 1 to 16, as the primary.
+    pub fn say_batch(
+        &mut self,
+        alloc: Global,
+        number: Number,
+        frames: &[Vec<u8>],
+        outputs: &mut Outputs,
+    ) -> Result<(), Stop>
+        requires some { 1 ≤ length frames.now }
+        requires few { length frames.now ≤ 16 }
+        requires each { Each (IsCarried is_ordered_request) (texts_of frames.now) }
+        requires within { is_in_marks self.old.log number.0 ≡ true }
+        ensures ok { OnOk result (SaysBatch number.0 (pieces_spelling (texts_of frames.now))
+            self.old outputs.old.items self.new outputs.new.items) }
+        ensures endpoint { self.new.endpoint ≡ self.old.endpoint }
+        ensures sizes { self.new.received.sizes ≡ self.old.received.sizes }
+    {
+        self.keeps();
+        let batch = Arc::new(alloc, HashedBatch::new(Batch::of(alloc, frames)?))?;
+        self.say_pre_prepare(alloc, number, batch.text(), outputs)?;
+        self.log_batch(number, batch)?;
+        self.used = number;
+        Ok(())
+    }
+
+    /// Multicasts again what the replica sent for the numbers above this one, each in its order, and last its latest
+    /// checkpoint.
+    pub fn say_again(
+        &mut self,
+        alloc: Global,
+        executed: Number,
+        outputs: &mut Outputs,
+    ) -> Result<(), Stop>
+        requires { executed.0 < 2 ^ 48 }
+        ensures ok { OnOk result (SaysLastAlso true 0 (PostsAll executed.0) self.old
+            outputs.old.items self.new outputs.new.items) }
+        ensures same { self.new ≡ self.old }
+    {
+        self.say_new_view_again(alloc, outputs)?;
+        let last = self.log.low().0 + self.log.span();
+        for number in executed.0 + 1..last + 1 {
+            self.say_row_again(alloc, Number(number), outputs)?;
+        }
+        self.say_checkpoint_again(alloc, outputs)
+    }
+
+    // Multicasts again what the replica sent for a number.
+    fn say_row_again(
+        &mut self,
+        alloc: Global,
+        number: Number,
+        outputs: &mut Outputs,
+    ) -> Result<(), Stop>
+        ensures ok { OnOk result (SaysAlso (row_place number.0) (row_place number.0 + 3) (PostsRow number.0)
+            self.old outputs.old.items self.new outputs.new.items) }
+        ensures same { self.new ≡ self.old }
+    {
+        self.say_batch_again(alloc, number, outputs)?;
+        self.say_prepare_again(alloc, number, outputs)?;
+        self.say_commit_again(alloc, number, outputs)
+    }
+
+    fn say_batch_again(
+        &mut self,
+        alloc: Global,
+        number: Number,
+        outputs: &mut Outputs,
+    ) -> Result<(), Stop>
+        ensures ok { OnOk result (SaysAlso (row_place number.0) (row_place number.0 + 1) (PostsBatch number.0)
+            self.old outputs.old.items self.new outputs.new.items) }
+        ensures same { self.new ≡ self.old }
+    {
+        self.keeps();
+        // Up to this number the new view has the batches.
+        if !self.is_primary() || number.0 <= self.begun.0 {
+            return Ok(());
+        }
+        let Some(batch) = self.log.logged_batch(number) else {
+            return Ok(());
+        };
+        let batch = Arc::try_clone(batch)?;
+        self.say_pre_prepare(alloc, number, batch.text(), outputs)
+    }
+
+    fn say_prepare_again(
+        &mut self,
+        alloc: Global,
+        number: Number,
+        outputs: &mut Outputs,
+    ) -> Result<(), Stop>
+        ensures ok { OnOk result (SaysAlso (row_place number.0 + 1) (row_place number.0 + 2) (PostsPrepare number.0)
+            self.old outputs.old.items self.new outputs.new.items) }
+        ensures same { self.new ≡ self.old }
+    {
+        self.keeps();
+        let me = self.log.me();
+        match self.log.prepare_of(number, me) {
+            Some(digest) => self.say_prepare(alloc, number, digest, outputs),
+            None => Ok(()),
+        }
+    }
+
+    fn say_commit_again(
+        &mut self,
+        alloc: Global,
+        number: Number,
+        outputs: &mut Outputs,
+    ) -> Result<(), Stop>
+        ensures ok { OnOk result (SaysAlso (row_place number.0 + 2) (row_place number.0 + 3) (PostsCommit number.0)
+            self.old outputs.old.items self.new outputs.new.items) }
+        ensures same { self.new ≡ self.old }
+    {
+        self.keeps();
+        let me = self.log.me();
+        match self.log.commit_of(number, me) {
+            Some(digest) => self.say_commit(alloc, number, digest, outputs),
+            None => Ok(()),
+        }
+    }
+
+    fn say_pre_prepare(
+        &mut self,
+        alloc: Global,
+        number: Number,
+        text: &[u8],
+        outputs: &mut Outputs,
+    ) -> Result<(), Stop>
+        requires { IsBatch 1 text.now }
+        ensures said { OnOk result (Says self.old (pre_prepare self.old.log.view number.0 text.now)
+            outputs.old.items outputs.new.items) }
+        ensures same { self.new ≡ self.old }
+    {
+        let text = Vec::from_slice(alloc, text)?;
+        let message = pre_prepare_message(self.log.view(), number, Batch { text });
+        self.say(alloc, message, outputs)
+    }
+
+    /// Asks all other replicas for a part of the state of this number.
+    pub fn say_fetch(
+        &mut self,
+        alloc: Global,
+        number: Number,
+        place: Place,
+        outputs: &mut Outputs,
+    ) -> Result<(), Stop>
+        requires { IsPlace place }
+        ensures said { OnOk result (Says self.old (fetch number.0 place.level place.index)
+            outputs.old.items outputs.new.items) }
+        ensures same { self.new ≡ self.old }
+    {
+        let message = fetch_message(number, place.level, place.index);
+        self.say(alloc, message, outputs)
+    }
+
+    /// Multicasts a message that fits a frame.
+    pub(crate) fn say(
+        &mut self,
+        alloc: Global,
+        message: Message,
+        outputs: &mut Outputs,
+    ) -> Result<(), Stop>
+        requires may { IsMessage (message_data message) }
+        requires unsigned { is_signed (message_data message) ≡ false }
+        requires fits { FitsFrame (message_data message) }
+        ensures said { OnOk result
+            (Says self.old (message_data message) outputs.old.items outputs.new.items) }
+        ensures same { self.new ≡ self.old }
+    {
+        match self.endpoint.post_to_others(alloc, message) {
+            Ok(output) => give(outputs, output),
+            Err(SealFault::NoMemory) => Err(Stop::NoMemory),
+            Err(SealFault::TooLarge) => unreachable!(),
+        }
+    }
+}

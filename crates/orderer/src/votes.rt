@@ -1,0 +1,142 @@
+//! The replica's own prepares and commits, for which its log asks.
+
+ghost use Rattle.std.specs.Prelude.{◌≡◌, ◌==◌, true, false, OnOk};
+ghost use Rattle.wire_format.specs.Messages.{commit, prepare};
+ghost use Rattle.ordering.specs.Keeping.{IsLog};
+ghost use Rattle.ordering.specs.Log.{is_in_marks, primary};
+ghost use Rattle.orderer.specs.Saying.{AddsCommit, AddsPrepare, Says, SaysCommit, SaysPrepare, SaysVotes};
+ghost use Rattle.orderer.specs.State.{IsOrderer};
+
+use crate::orderer::Orderer;
+use events::{Outputs, Stop};
+use ordering::Vote;
+use posting::{commit_message, prepare_message};
+use std::alloc::Global;
+use terms::{Digest, Number};
+
+impl Orderer {
+    /// Tells a proof the invariant of an orderer.
+    pub fn keeps(&self)
+        ensures log { IsLog self.now.log }
+        ensures own { IsOrderer self.now }
+    {
+        self.log.keeps();
+    }
+
+    /// Whether the replica is the primary of its view.
+    pub(crate) fn is_primary(&self) -> bool
+        ensures { result ≡ (self.now.log.me == primary self.now.log self.now.log.view) }
+    {
+        self.log.me().0 == self.log.primary(self.log.view()).0
+    }
+
+    /// Multicasts the votes that the log asks for, for one number: the prepare of a taken batch, and the commit of a
+    /// prepared one.
+    pub fn say_votes(
+        &mut self,
+        alloc: Global,
+        number: Number,
+        outputs: &mut Outputs,
+    ) -> Result<(), Stop>
+        ensures ok { OnOk result
+            (SaysVotes number.0 self.old outputs.old.items self.new outputs.new.items) }
+        ensures endpoint { self.new.endpoint ≡ self.old.endpoint }
+        ensures sizes { self.new.received.sizes ≡ self.old.received.sizes }
+    {
+        self.say_due_prepare(alloc, number, outputs)?;
+        self.say_due_commit(alloc, number, outputs)
+    }
+
+    fn say_due_prepare(
+        &mut self,
+        alloc: Global,
+        number: Number,
+        outputs: &mut Outputs,
+    ) -> Result<(), Stop>
+        ensures ok { OnOk result
+            (SaysPrepare number.0 self.old outputs.old.items self.new outputs.new.items) }
+        ensures endpoint { self.new.endpoint ≡ self.old.endpoint }
+        ensures sizes { self.new.received.sizes ≡ self.old.received.sizes }
+    {
+        self.keeps();
+        let Some(digest) = self.log.due_prepare(number) else {
+            return Ok(());
+        };
+        self.say_prepare(alloc, number, digest, outputs)?;
+        self.add_prepare(number, digest);
+        Ok(())
+    }
+
+    fn say_due_commit(
+        &mut self,
+        alloc: Global,
+        number: Number,
+        outputs: &mut Outputs,
+    ) -> Result<(), Stop>
+        ensures ok { OnOk result
+            (SaysCommit number.0 self.old outputs.old.items self.new outputs.new.items) }
+        ensures endpoint { self.new.endpoint ≡ self.old.endpoint }
+        ensures sizes { self.new.received.sizes ≡ self.old.received.sizes }
+    {
+        self.keeps();
+        let Some(digest) = self.log.due_commit(number) else {
+            return Ok(());
+        };
+        self.note_prepared(number)?;
+        self.say_commit(alloc, number, digest, outputs)?;
+        self.add_commit(number, digest);
+        Ok(())
+    }
+
+    // Counts the replica's own prepare.
+    fn add_prepare(&mut self, number: Number, digest: Digest)
+        requires { is_in_marks self.old.log number.0 ≡ true }
+        ensures { AddsPrepare number.0 digest self.old self.new }
+    {
+        let sender = self.log.me();
+        self.keeps();
+        self.log.add_prepare(number, Vote { sender, digest });
+    }
+
+    // Counts the replica's own commit.
+    fn add_commit(&mut self, number: Number, digest: Digest)
+        requires { is_in_marks self.old.log number.0 ≡ true }
+        ensures { AddsCommit number.0 digest self.old self.new }
+    {
+        let sender = self.log.me();
+        self.keeps();
+        self.log.add_commit(number, Vote { sender, digest });
+    }
+
+    /// Multicasts a prepare.
+    pub(crate) fn say_prepare(
+        &mut self,
+        alloc: Global,
+        number: Number,
+        digest: Digest,
+        outputs: &mut Outputs,
+    ) -> Result<(), Stop>
+        ensures said { OnOk result (Says self.old (prepare self.old.log.view number.0 digest)
+            outputs.old.items outputs.new.items) }
+        ensures same { self.new ≡ self.old }
+    {
+        let message = prepare_message(self.log.view(), number, digest);
+        self.say(alloc, message, outputs)
+    }
+
+    /// Multicasts a commit.
+    pub(crate) fn say_commit(
+        &mut self,
+        alloc: Global,
+        number: Number,
+        digest: Digest,
+        outputs: &mut Outputs,
+    ) -> Result<(), Stop>
+        ensures said { OnOk result (Says self.old (commit self.old.log.view number.0 digest)
+            outputs.old.items outputs.new.items) }
+        ensures same { self.new ≡ self.old }
+    {
+        let message = commit_message(self.log.view(), number, digest);
+        self.say(alloc, message, outputs)
+    }
+}

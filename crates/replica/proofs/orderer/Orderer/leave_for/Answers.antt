@@ -1,6 +1,0 @@
-use Rattle.replica.specs.OrdererView.{orderer_data}
-use Rattle.replica.proofs.Batches.{view_left}
-use Rattle.replica.proofs.orderer.Orderer.leave_for.Goals as goal
-
-pub invariant_of-self : goal.invariant_of-self
-invariant_of-self c = view_left (orderer_data c.self.inside) c.leave.new.self c.self.invariant c.leave.ensures

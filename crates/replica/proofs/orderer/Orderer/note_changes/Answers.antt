@@ -1,5 +1,0 @@
-use Rattle.replica.proofs.PartsLead.{are_changes}
-use Rattle.replica.proofs.orderer.Orderer.note_changes.Goals as goal
-
-pub returns : goal.returns
-returns c = rw (← c.self.view_is) (are_changes c.self.inside.received c.note_held.ensures)
